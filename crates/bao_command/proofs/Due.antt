@@ -2,8 +2,7 @@
 use Rattle.std.proofs.Common.{◌≡◌, IfErr, IsErrAnd, Result, Ok, Err, sym, subst}
 use Rattle.bao_command.specs.declared.fault.Fault.{Fault}
 use Rattle.bao_command.specs.declared.fault.Fault.TheVariants.{Word, Root, Key, KeyAndContext, KeyFile, KeyFileAndOthers, OutputRange, TooManyFiles, OutIsOutput, OutLeadsToOutput, LongAndOthers, ListIsOut, ListIsRead, ListLeadsToOther, File, Decode, Gather, Replay}
-use Rattle.bao_command.specs.Tasks.{IsDue, Reasons, mode_reasons_of, reasons_of, task_reasons_of}
-use Rattle.bao_files.specs.declared.fault.FileFault.{FileFault}
+use Rattle.bao_command.specs.Tasks.{IsDue, IsOfFile, Reasons, mode_reasons_of, reasons_of, task_reasons_of}
 use Rattle.bao_request.specs.declared.tasks.Request.{Request}
 
 -- each reason of the one is one of the other
@@ -46,7 +45,7 @@ due_within less more (Gather fault) within due = within.gathers due
 due_within less more (Replay fault) within due = within.replays due
 
 -- a fault of a file is due whatever is asked for
-pub file_due : (reasons : Reasons) (result : Result Unit Fault) → IfErr result (λ fault. (file : FileFault) × (fault ≡ File file)) → IfErr result (IsDue reasons)
+pub file_due : (reasons : Reasons) (result : Result Unit Fault) → IfErr result IsOfFile → IfErr result (IsDue reasons)
 file_due reasons (Ok done) is = tt
 file_due reasons (Err fault) is = subst (IsDue reasons) (sym is.1) tt
 

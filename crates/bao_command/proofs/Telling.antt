@@ -1,9 +1,15 @@
--- What was printed, as the program tells it.
-use Rattle.std.proofs.Common.{ℕ, List, Option, Result, Ok, Err}
+-- What was printed, as the program tells it, and what its faults leave.
+use Rattle.std.proofs.Common.{◌≡◌, ◌≢◌, ℕ, List, Option, Result, Ok, Err, IfErr, IsErrAnd, inl, inr, arith, sym, ap, subst, ◌∙◌}
+use Rattle.bao_files.specs.Disks.{FileState}
 use Rattle.bao_files.specs.Printed as file
 use Rattle.bao_files.specs.declared.fault.FileFault.{FileFault}
+use Rattle.bao_files.specs.declared.fault.FileFault.TheVariants as files
 use Rattle.bao_command.specs.declared.fault.Fault.{Fault}
+use Rattle.bao_command.specs.declared.fault.Fault.TheVariants.{File, Root}
 use Rattle.bao_command.specs.Printed.{CommandPrints, OnPrinted, told_of}
+use Rattle.bao_command.specs.Status.{file_status_of, status_of}
+use Rattle.bao_command.specs.Tasks.{IsOfFile}
+use Rattle.bao_command.specs.Works.{Leaves}
 
 -- a line that was printed, as a fault of the program
 pub told_prints : (line : List ℕ) (old new : Option (List ℕ)) (printed : Result Unit FileFault) → file.Prints line old new printed → CommandPrints line old new (told_of printed)
@@ -13,3 +19,36 @@ told_prints line old new (Err fault) prints = prints
 pub on_printed : {P : Type 0} (result : Result Unit Fault) → P → OnPrinted result P
 on_printed (Ok done) p = p
 on_printed (Err fault) p = λ _. p
+
+pub both_printed : (P Q : Type 0) (result : Result Unit Fault) → OnPrinted result P → OnPrinted result Q → OnPrinted result (P × Q)
+both_printed P Q (Ok done) p q = (p, q)
+both_printed P Q (Err fault) p q = λ is. (p is, q is)
+
+-- what was done before a line was printed
+pub leaves_after : (at after : List ℕ → FileState) (Did : List ℕ → Type 0) (result : Result Unit Fault) → IfErr result IsOfFile → (bytes : List ℕ) → Did bytes → IfErr result (Leaves at after Did)
+leaves_after at after Did (Ok done) of bytes did = tt
+leaves_after at after Did (Err fault) of bytes did = inr (of, (bytes, did))
+
+-- a fault of a file is no refusal
+pub file_refuses_none : (fault : FileFault) → file_status_of fault ≢ 1
+file_refuses_none (files.Read path) is = let bad : 3 ≡ 1 = is in omega arith
+file_refuses_none (files.Write path) is = let bad : 3 ≡ 1 = is in omega arith
+file_refuses_none files.Output is = let bad : 3 ≡ 1 = is in omega arith
+file_refuses_none files.Encoding is = let bad : 4 ≡ 1 = is in omega arith
+file_refuses_none files.Memory is = let bad : 4 ≡ 1 = is in omega arith
+
+-- nor is one of the arguments
+pub usage_refuses_none : status_of Root ≢ 1
+usage_refuses_none is = let bad : 2 ≡ 1 = is in omega arith
+
+pub of_file_refuses_none : (fault : Fault) → IsOfFile fault → status_of fault ≢ 1
+of_file_refuses_none fault of is = file_refuses_none of.0 (ap status_of (sym of.1) ∙ is)
+
+pub no_refusal : (P : Type 0) (result : Result Unit Fault) → IfErr result IsOfFile → IfErr result (λ fault. status_of fault ≡ 1 → P)
+no_refusal P (Ok done) of = tt
+no_refusal P (Err fault) of = λ is. absurd (of_file_refuses_none fault of is)
+
+-- nor is one with another status
+pub other_status : (P : Type 0) (result : Result Unit Fault) (fault : Fault) → IsErrAnd result (λ e. e ≡ fault) → status_of fault ≢ 1 → IfErr result (λ e. status_of e ≡ 1 → P)
+other_status P (Ok done) fault is none = tt
+other_status P (Err e) fault is none = λ one. absurd (none (ap status_of (sym is) ∙ one))

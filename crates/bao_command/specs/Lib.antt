@@ -1,7 +1,10 @@
-pub mod Status
+pub mod Effects
 pub mod ModeWords
-pub mod Printed
-pub mod Outcome
-pub mod Tasks
 pub mod Numbers
+pub mod Outcome
+pub mod Printed
+pub mod Refused
+pub mod Status
+pub mod Tasks
 pub mod Told
+pub mod Works

@@ -3,6 +3,7 @@ use Rattle.std.specs.Prelude.{◌≡◌, ◌⊎◌, ℕ, List, Option, Some, Non
 use Rattle.hex.specs.Hex.{decode_of}
 use Rattle.std.specs.Borrow.{Bor}
 use Rattle.std.specs.Option.{option_copied}
+use Rattle.bao_files.specs.Disks.{AreOf, FileState}
 use Rattle.bao_files.specs.Keys.{GivesKey}
 use Rattle.bao_files.specs.Printed.{IsDigits}
 use Rattle.bao_files.specs.declared.fault.FileFault.TheVariants as file
@@ -32,15 +33,19 @@ abbrev pub GivesFileMode : Bor (List ℕ) → List ℕ → Result Mode Fault →
 GivesFileMode path bytes answer =
     MatchResult answer (IsKeyedBy bytes) (λ fault. ((fault ≡ KeyFile) × GivesKey bytes None) ⊎ (fault ≡ File (file.Read path)))
 
--- the mode of a key's text, a path and a context's text, each there or not: what the file at the path has is some bytes
-abbrev pub AsksForMode : Option (List ℕ) → Option (List ℕ) → Option (List ℕ) → Mode → Type 0
-AsksForMode key None context mode = GivesMode key context (Ok mode)
-AsksForMode None (Some path) None mode = (bytes : List ℕ) × IsKeyedBy bytes mode
-AsksForMode key (Some path) context mode = ⊥
+-- the file's bytes, as far as they are known, give the key of this mode
+abbrev pub IsKeyedIn : FileState → Mode → Type 0
+IsKeyedIn state mode = (bytes : List ℕ) × AreOf state bytes × IsKeyedBy bytes mode
+
+-- the mode of a key's text, a path and a context's text, each there or not, where this is what is known of each path
+abbrev pub AsksForMode : (List ℕ → FileState) → Option (List ℕ) → Option (List ℕ) → Option (List ℕ) → Mode → Type 0
+AsksForMode at key None context mode = GivesMode key context (Ok mode)
+AsksForMode at None (Some path) None mode = IsKeyedIn (at path) mode
+AsksForMode at key (Some path) context mode = ⊥
 
 -- the mode that the request's key, the file with its key, or its context give
-abbrev pub HasMode : Request → Mode → Type 0
-HasMode request mode = AsksForMode (option_copied request.key) (option_copied request.key_file) (option_copied request.context) mode
+abbrev pub HasMode : (List ℕ → FileState) → Request → Mode → Type 0
+HasMode at request mode = AsksForMode at (option_copied request.key) (option_copied request.key_file) (option_copied request.context) mode
 
 -- a file with a key is named beside a key or a context
 abbrev pub MixesKeys : Request → Type 0
@@ -63,4 +68,4 @@ HasKeyAndContext request = IsSome request.key × IsSome request.context
 abbrev pub IsModeFault : Option (Bor (List ℕ)) → Fault → Type 0
 IsModeFault named fault =
     (fault ≡ Key) ⊎ (fault ≡ KeyAndContext) ⊎ (fault ≡ KeyFile) ⊎ (fault ≡ KeyFileAndOthers)
-    ⊎ ((path : Bor (List ℕ)) × ((named ≡ Some path) × (fault ≡ File (file.Read path))))
+    ⊎ (fault ≡ File file.Memory) ⊎ ((path : Bor (List ℕ)) × ((named ≡ Some path) × (fault ≡ File (file.Read path))))

@@ -1,4 +1,4 @@
--- what a task prints, and what it writes to its file OUT
+-- what a task prints, and what it does to the files
 use Rattle.std.specs.Prelude.{◌≡◌, ◌≢◌, ◌⊎◌, ◌<◌, ◌≤◌, ℕ, ◌+◌, ◌-◌, ◌^◌, true, List, length, Option, Some, None, Result, Ok, Err, IsSome, codes, HoldsAt}
 use Rattle.std.specs.Borrow.{Bor}
 use Rattle.std.specs.Io.KnownBytes.{Appends, Keeps}
@@ -12,14 +12,18 @@ use Rattle.bao_files.specs.declared.fault.FileFault.TheVariants as file
 use Rattle.bao_files.specs.declared.kinds.Part.{Part}
 use Rattle.bao_files.specs.declared.kinds.Part.TheVariants.{Slice}
 use Rattle.bao_files.specs.Printed.{AppendsBeginning, IsDigits, digits_line, ok_line}
-use Rattle.bao_decode.specs.Copies.{IsCopy}
+use Rattle.bao_files.specs.Disks.{AreOf, FileState, KeepsFiles}
+use Rattle.bao_decode.specs.Copies.{IsCopyBeside}
+use Rattle.bao_decode.specs.Cutting.{IsCutOf}
 use Rattle.bao_decode.specs.Ranges.{IsPartText, written_count}
-use Rattle.bao_tasks.specs.Gathered.{Fits, HasOutline}
-use Rattle.bao_tasks.specs.Replayed.{IsReplayOf}
+use Rattle.bao_decode.specs.Weaving.{IsCutBeside}
+use Rattle.bao_tasks.specs.Gathered.{Fits, HasOutlineIn}
+use Rattle.bao_tasks.specs.Replayed.{IsRun, OfFiles}
 use Rattle.bao_request.specs.declared.tasks.Request.{Request}
 use Rattle.bao_request.specs.declared.tasks.Task.{Task}
 use Rattle.bao_request.specs.declared.tasks.Task.TheVariants.{Hash, Encode, CutSlice, Decode, DecodeCopy, Gather, Replay}
 use Rattle.hex.specs.Hex.{decode_of}
+use Rattle.bao_command.specs.Effects.{KeepsButList, Writes, list_of}
 use Rattle.bao_command.specs.ModeWords.{HasBadKey, HasKeyAndContext, HasMode, MixesKeys}
 
 -- that of a part of a text
@@ -276,76 +280,101 @@ IsDue reasons (Unreplayed fault) = reasons.replays
 abbrev pub IsRightPart : Mode → List ℕ → Part → List ℕ → Type 0
 IsRightPart mode root part bytes = (key : List ℕ) × ((decode_of root ≡ Ok key) × IsPartText mode key part bytes)
 
--- the text is that of a schedule's run over so many files, under this root, in hexadecimal digits
-abbrev pub IsReplay : Mode → List ℕ → ℕ → ℕ → List ℕ → Type 0
-IsReplay mode digits capacity count text = (root : Root32) × ((decode_of digits ≡ Ok root.0) × IsReplayOf mode root capacity count text)
+-- the text is that of a run of the script in the one file over pieces of the others, under this root, in hexadecimal digits
+abbrev pub IsReplay : (List ℕ → FileState) → Mode → List ℕ → ℕ → List ℕ → List (Bor (List ℕ)) → List ℕ → Type 0
+IsReplay at mode digits capacity script files text =
+    (root : Root32) × ((decode_of digits ≡ Ok root.0) × OfFiles at script files (λ lines pieces. IsRun mode root capacity lines pieces text))
 
 -- these bytes have this root, in hexadecimal digits
 abbrev pub HasHash : Mode → List ℕ → List ℕ → Type 0
 HasHash mode root bytes = (key : List ℕ) × ((decode_of root ≡ Ok key) × (hash mode bytes ≡ key))
 
--- they are a plain copy, beside an outboard encoding that is accepted under it
-abbrev pub IsRightCopy : Mode → List ℕ → List ℕ → Type 0
-IsRightCopy mode root bytes = (key : List ℕ) × ((decode_of root ≡ Ok key) × IsCopy mode key bytes)
+-- they are the copy in the one file, beside the outboard encoding in the other, which is accepted under it
+abbrev pub IsRightCopy : (List ℕ → FileState) → Mode → List ℕ → List ℕ → List ℕ → List ℕ → Type 0
+IsRightCopy at mode root outboard copy bytes =
+    (key : List ℕ) × ((decode_of root ≡ Ok key) × ((outline : List ℕ) × AreOf (at outboard) outline × AreOf (at copy) bytes × IsCopyBeside mode key outline bytes))
 
--- where a file with an outboard encoding is named, one is accepted under this root
-abbrev pub IsBeside : Mode → List ℕ → Option (Bor (List ℕ)) → Type 0
-IsBeside mode root None = Unit {0}
-IsBeside mode root (Some outboard) = (key : List ℕ) × ((decode_of root ≡ Ok key) × HasOutline mode key)
+-- where a file with an outboard encoding is named, it is accepted under this root
+abbrev pub IsBeside : (List ℕ → FileState) → Mode → List ℕ → Option (Bor (List ℕ)) → Type 0
+IsBeside at mode root None = Unit {0}
+IsBeside at mode root (Some outboard) = (key : List ℕ) × ((decode_of root ≡ Ok key) × HasOutlineIn (at outboard.now) mode key)
 
--- what the bytes have to be: a text that is decoded is accepted under the root that the arguments give, as is a slice that was cut out of one, or a plain copy is beside an
--- outboard encoding that is; a blob that is gathered, from at most 64 files, has that root and, where it mayn't be of any length, no more chunks than the capacity,
--- and an outboard encoding that it is gathered beside was accepted under that root; and a schedule's replies are those of its run
-abbrev pub IsRight : Mode → Task → List ℕ → Type 0
-IsRight mode (Hash at length file) bytes = Unit {0}
-IsRight mode (Encode encoding file out) bytes = Unit {0}
-IsRight mode (CutSlice root start len outboard verbose file out) bytes = IsRightPart mode root.now (Slice start len) bytes
-IsRight mode (Decode root part verbose file out) bytes = IsRightPart mode root.now part bytes
-IsRight mode (DecodeCopy root outboard verbose copy out) bytes = IsRightCopy mode root.now bytes
-IsRight mode (Gather root workers capacity long outboard salvage encode verbose missing files out) bytes =
-    (length files.items ≤ 64) × ((HasHash mode root.now bytes × Fits long capacity (length bytes)) × IsBeside mode root.now outboard)
-IsRight mode (Replay root capacity script files) bytes = (length files.items ≤ 64) × IsReplay mode root.now capacity (length files.items) bytes
+-- the text is the slice as it is cut out of the file, or beside the outboard encoding in the one that is named
+abbrev pub IsCutFrom : (List ℕ → FileState) → ℕ → ℕ → Option (Bor (List ℕ)) → List ℕ → List ℕ → Type 0
+IsCutFrom at start len None file text = IsCutOf (at file) start len text
+IsCutFrom at start len (Some outboard) file text = IsCutBeside (at outboard.now) (at file) start len text
 
--- the line of the request on some bytes, in the request's mode, was printed, and nothing of its files OUT and LIST beside it
-abbrev pub PrintsLine : Request → Option (List ℕ) → Option (List ℕ) → Type 0
-PrintsLine request old new =
-    (mode : Mode) × (bytes : List ℕ) × HasMode request mode × GoesApart request × IsRight mode request.task bytes × Appends old new (line_of mode request.task bytes)
+-- What the bytes have to be that the line is of, as far as it is known what is at each path. They are those of the file that is hashed, encoded or
+-- decoded; and a text that is decoded is accepted under the root that the arguments give, as is a slice that was cut out of one, or a plain copy is
+-- beside an outboard encoding that is; a blob that is gathered, from at most 64 files, has that root and, where it mayn't be of any length, no more
+-- chunks than the capacity, and an outboard encoding that it is gathered beside is accepted under that root; and a schedule's replies are those of its run
+abbrev pub IsRight : (List ℕ → FileState) → Mode → Task → List ℕ → Type 0
+IsRight at mode (Hash from length file) bytes = AreOf (at file.now) bytes
+IsRight at mode (Encode encoding file out) bytes = AreOf (at file.now) bytes
+IsRight at mode (CutSlice root start len outboard verbose file out) bytes =
+    IsRightPart mode root.now (Slice start len) bytes × IsCutFrom at start len outboard file.now bytes
+IsRight at mode (Decode root part verbose file out) bytes = IsRightPart mode root.now part bytes × AreOf (at file.now) bytes
+IsRight at mode (DecodeCopy root outboard verbose copy out) bytes = IsRightCopy at mode root.now outboard.now copy.now bytes
+IsRight at mode (Gather root workers capacity long outboard salvage encode verbose missing files out) bytes =
+    (length files.items ≤ 64) × ((HasHash mode root.now bytes × Fits long capacity (length bytes)) × IsBeside at mode root.now outboard)
+IsRight at mode (Replay root capacity script files) bytes = (length files.items ≤ 64) × IsReplay at mode root.now capacity script.now files.items bytes
+
+-- the line of the request on some bytes, in the request's mode, was printed, and nothing of its files OUT and LIST beside it; and these were written
+abbrev pub PrintsLine : Request → (List ℕ → FileState) → (List ℕ → FileState) → Option (List ℕ) → Option (List ℕ) → Type 0
+PrintsLine request at after old new =
+    (mode : Mode) × (bytes : List ℕ) × HasMode at request mode × GoesApart request × IsRight at mode request.task bytes
+    × Writes at after mode request.task (list_of request.task) bytes × Appends old new (line_of mode request.task bytes)
 
 -- the same, but that a beginning of the line was printed, if anything
-abbrev pub PrintsBeginning : Request → Option (List ℕ) → Option (List ℕ) → Type 0
-PrintsBeginning request old new =
-    (mode : Mode) × (bytes : List ℕ) × HasMode request mode × GoesApart request × IsRight mode request.task bytes
-    × AppendsBeginning old new (line_of mode request.task bytes)
+abbrev pub PrintsBeginning : Request → (List ℕ → FileState) → (List ℕ → FileState) → Option (List ℕ) → Option (List ℕ) → Type 0
+PrintsBeginning request at after old new =
+    (mode : Mode) × (bytes : List ℕ) × HasMode at request mode × GoesApart request × IsRight at mode request.task bytes
+    × Writes at after mode request.task (list_of request.task) bytes × AppendsBeginning old new (line_of mode request.task bytes)
 
 -- what standard output holds after a fault of the request
-abbrev pub LeavesOfFile : Request → Option (List ℕ) → Option (List ℕ) → FileFault → Type 0
-LeavesOfFile request old new (file.Read path) = Keeps old new
-LeavesOfFile request old new (file.Write path) = Keeps old new
-LeavesOfFile request old new file.Output = PrintsBeginning request old new
-LeavesOfFile request old new file.Encoding = Keeps old new
-LeavesOfFile request old new file.Memory = Keeps old new
+abbrev pub LeavesOfFile : Request → (List ℕ → FileState) → (List ℕ → FileState) → Option (List ℕ) → Option (List ℕ) → FileFault → Type 0
+LeavesOfFile request at after old new (file.Read path) = Keeps old new
+LeavesOfFile request at after old new (file.Write path) = Keeps old new
+LeavesOfFile request at after old new file.Output = PrintsBeginning request at after old new
+LeavesOfFile request at after old new file.Encoding = Keeps old new
+LeavesOfFile request at after old new file.Memory = Keeps old new
 
-abbrev pub LeavesOf : Request → Option (List ℕ) → Option (List ℕ) → Fault → Type 0
-LeavesOf request old new Word = Keeps old new
-LeavesOf request old new Root = Keeps old new
-LeavesOf request old new Key = Keeps old new
-LeavesOf request old new KeyAndContext = Keeps old new
-LeavesOf request old new KeyFile = Keeps old new
-LeavesOf request old new KeyFileAndOthers = Keeps old new
-LeavesOf request old new OutputRange = Keeps old new
-LeavesOf request old new TooManyFiles = Keeps old new
-LeavesOf request old new OutIsOutput = Keeps old new
-LeavesOf request old new OutLeadsToOutput = Keeps old new
-LeavesOf request old new LongAndOthers = Keeps old new
-LeavesOf request old new ListIsOut = Keeps old new
-LeavesOf request old new ListIsRead = Keeps old new
-LeavesOf request old new ListLeadsToOther = Keeps old new
-LeavesOf request old new (File fault) = LeavesOfFile request old new fault
-LeavesOf request old new (Undecoded fault) = Keeps old new
-LeavesOf request old new (Ungathered fault) = Keeps old new
-LeavesOf request old new (Unreplayed fault) = Keeps old new
+abbrev pub LeavesOf : Request → (List ℕ → FileState) → (List ℕ → FileState) → Option (List ℕ) → Option (List ℕ) → Fault → Type 0
+LeavesOf request at after old new Word = Keeps old new
+LeavesOf request at after old new Root = Keeps old new
+LeavesOf request at after old new Key = Keeps old new
+LeavesOf request at after old new KeyAndContext = Keeps old new
+LeavesOf request at after old new KeyFile = Keeps old new
+LeavesOf request at after old new KeyFileAndOthers = Keeps old new
+LeavesOf request at after old new OutputRange = Keeps old new
+LeavesOf request at after old new TooManyFiles = Keeps old new
+LeavesOf request at after old new OutIsOutput = Keeps old new
+LeavesOf request at after old new OutLeadsToOutput = Keeps old new
+LeavesOf request at after old new LongAndOthers = Keeps old new
+LeavesOf request at after old new ListIsOut = Keeps old new
+LeavesOf request at after old new ListIsRead = Keeps old new
+LeavesOf request at after old new ListLeadsToOther = Keeps old new
+LeavesOf request at after old new (File fault) = LeavesOfFile request at after old new fault
+LeavesOf request at after old new (Undecoded fault) = Keeps old new
+LeavesOf request at after old new (Ungathered fault) = Keeps old new
+LeavesOf request at after old new (Unreplayed fault) = Keeps old new
 
 -- the answer to the request
-abbrev pub Answers : Request → Option (List ℕ) → Option (List ℕ) → Result Unit Fault → Type 0
-Answers request old new (Ok done) = PrintsLine request old new
-Answers request old new (Err fault) = LeavesOf request old new fault
+abbrev pub Answers : Request → (List ℕ → FileState) → (List ℕ → FileState) → Option (List ℕ) → Option (List ℕ) → Result Unit Fault → Type 0
+Answers request at after old new (Ok done) = PrintsLine request at after old new
+Answers request at after old new (Err fault) = LeavesOf request at after old new fault
+
+-- the fault is that of a file, of standard output, or of memory for what is printed
+abbrev pub IsOfFile : Fault → Type 0
+IsOfFile fault = (cause : FileFault) × (fault ≡ File cause)
+
+-- What a fault of a task leaves of the files: they are as they were, but for the list; or it came once OUT was written, of right bytes, and then the
+-- list or not.
+abbrev pub LeavesFiles : (List ℕ → FileState) → (List ℕ → FileState) → Mode → Task → Fault → Type 0
+LeavesFiles at after mode task fault =
+    KeepsButList at after (list_of task)
+    ⊎ (IsOfFile fault × ((bytes : List ℕ) × IsRight at mode task bytes × (Writes at after mode task (list_of task) bytes ⊎ Writes at after mode task None bytes)))
+
+-- the same of a request, in its mode
+abbrev pub LeavesFilesOf : (List ℕ → FileState) → (List ℕ → FileState) → Request → Fault → Type 0
+LeavesFilesOf at after request fault = KeepsFiles at after ⊎ ((mode : Mode) × HasMode at request mode × LeavesFiles at after mode request.task fault)

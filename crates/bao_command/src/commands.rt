@@ -1,86 +1,88 @@
-ghost use Rattle.std.specs.Prelude.{◌≡◌, ◌≢◌, ◌⊎◌, ⊤, true, false, if◌then◌else◌, ◌+◌, ◌-◌, ◌*◌, ◌^◌, ◌<◌, ◌≤◌, ℕ, List, length, map, string_bytes, take, IfErr, IfOk, IsErr, IsErrAnd, OnOk};
+ghost use Rattle.std.specs.Prelude.{◌≡◌, ◌≢◌, ◌⊎◌, ⊤, true, false, ◌+◌, ◌-◌, ◌^◌, ◌<◌, ◌≤◌, ℕ, List, Some, length, map, string_bytes, IfErr, IfOk, IsErr, IsErrAnd, OnErr, OnOk};
 ghost use Rattle.bao_command.specs.declared.fault.Fault.TheVariants as Fault;
-ghost use Rattle.gather.specs.declared.grain.Grain.TheVariants as Grain;
-ghost use Rattle.std.specs.Io.KnownBytes.{Appends, Keeps};
+ghost use Rattle.std.specs.Io.KnownBytes.{Keeps};
 ghost use Rattle.b3tree.specs.Hashing.{hash as hash_of, stream};
 ghost use Rattle.clap.specs.Words.{kind_of};
 ghost use Rattle.clap.specs.declared.error.kind.ErrorKind.TheVariants as ErrorKind;
 ghost use Rattle.hex.specs.Hex.{decode_of};
 ghost use Rattle.bao_request.specs.CommandLine.{IsHelp};
-ghost use Rattle.bao_files.specs.Printed.{IsDigits, IsQuiet, digits_line, ok_line};
+ghost use Rattle.bao_files.specs.Disks.{AreOf, KeepsFiles, Puts};
+ghost use Rattle.bao_files.specs.Encoded.{encoding_text};
+ghost use Rattle.bao_files.specs.Printed.{IsDigits, digits_line, ok_line};
 ghost use Rattle.bao_files.specs.declared.fault.FileFault.{FileFault};
 ghost use Rattle.bao_files.specs.declared.kinds.Part.TheVariants as Part;
-ghost use Rattle.bao_decode.specs.Ranges.{IsPartText, written_count};
-ghost use Rattle.bao_tasks.specs.Gathered.{Fits};
+ghost use Rattle.bao_decode.specs.Ranges.{IsPartText, part_bytes, written_count};
+ghost use Rattle.bao_decode.specs.declared.decode_fault.DecodeFault.{DecodeFault};
+ghost use Rattle.bao_command.specs.Effects.{Writes, list_of};
+ghost use Rattle.bao_command.specs.Works.{CopiesRight, CutsRight, DecodesRight, EncodesRight, Leaves};
 ghost use Rattle.bao_command.specs.ModeWords.{MixesKeys};
-ghost use Rattle.bao_command.specs.Outcome.{AreRefused, Begun, Done, IsRefusable, IsUsage};
+ghost use Rattle.bao_command.specs.Outcome.{AreRefused, Begun, Done, IsRefusable, IsUsage, LeavesAt};
 ghost use Rattle.bao_command.specs.Printed.{CommandPrints, OnPrinted, told_of};
-ghost use Rattle.bao_command.specs.Tasks.{Answers, HasHash, HasManyFiles, HasRoot, IsBeside, IsDue, IsMixed, IsNoOutput, IsPastOutput, IsReplay, IsRight, IsRightCopy, IsRightPart, ListClashes, ReadsList, WritesApart, line_of, no_reasons, part_line, reasons_of, task_reasons_of};
-ghost use Rattle.bao_command.specs.Told.{part_line as missing_line, parts_line, unlooked_line, worth_line};
+ghost use Rattle.bao_command.specs.Refused.{IsRefused, IsRefusedCopy, IsRefusedCut, IsRefusedFor, IsRefusedReplay, IsRefusedText, OfDigits};
+ghost use Rattle.bao_command.specs.Status.{decode_status_of, status_of};
+ghost use Rattle.bao_command.specs.Tasks.{Answers, HasManyFiles, HasRoot, IsCutFrom, IsDue, IsMixed, IsNoOutput, IsOfFile, IsPastOutput, IsReplay, IsRight, IsRightCopy, IsRightPart, LeavesFiles, LeavesFilesOf, ListClashes, ReadsList, WritesApart, line_of, no_reasons, part_line, reasons_of, task_reasons_of};
 
 use crate::fault::Fault;
+use crate::gathering::{MOST_FILES, Paths, gather, grain_of, parts_asked};
 use crate::help::{show, shown_status};
 use crate::lists::check_list;
 use crate::mode::asked_mode;
-use crate::places::{check_places, is_one_file};
+use crate::places::check_places;
 use crate::refused::{tell_beside, tell_cut, tell_encoding};
-use crate::unread::{tell_left_out, tell_why};
+use crate::unread::tell_why;
 use b3tree::{Hash, Mode, xof_fits};
-use bao_decode::{DecodeFault, decode_copy, decode_file, slice_beside, slice_file};
+use bao_decode::{DecodeFault, decode_copy_on, decode_on, slice_beside_on, slice_on};
 use bao_files::{
-    Encoding, FileFault, Once, Part, Progress, Shown, System, bytes_of_digits, encode_file,
-    open_file, print_count, print_digits, print_input, print_text, shared_len,
+    Disk, Encoding, FileFault, Once, Part, Progress, bytes_of_digits, encode_on, print_count,
+    print_digits, print_file, print_text,
 };
 use bao_request::{Request, Task, parse};
-use bao_tasks::{
-    Fate, Form, Gathering, Grain, Lack, MissingParts, Notes, Span, Worth, gather_beside,
-    gather_files, list_parts, replay_files,
-};
+use bao_tasks::{Gathering, replay_on};
 use clap::error::ErrorKind;
 use std::alloc::Global;
-use std::fs::File;
-use std::io;
 use std::io::Write;
-use std::rt::Files;
 use std::thread::Threads;
-
-// The most files that a task takes.
-const MOST_FILES: usize = 64;
-
-// The most parts of what is missing that are told one by one.
-const MOST_SHOWN: usize = 8;
 
 // The capacity of a blob that is gathered, in chunks, where none is given.
 const MOST_CHUNKS: u32 = 65_536;
 
-/// Runs the program on `words`, its name first, with `out` and `err` as its standard output and error,
+/// Runs the program on `words`, its name first, over the files on `disk`, with `out` and `err` as its standard output and error,
 /// and answers the exit status: 0 done, 1 a text or a blob that is refused, 2 wrong arguments, 3 a file fault, 4 out of
-/// memory. How far the file of `hash`, `encode`, `outboard` or `slice` has been read, where it is said to have at least 4 MiB,
-/// is told to `progress`, which is told that the work is over before anything is printed.
+/// memory. How far a file that is said to have at least 4 MiB has been read is told to `progress`, which is told that the work is over
+/// before anything is printed.
 ///
-/// At status 0 `out` has the line of the request that the arguments make, on the file's bytes or the gathered blob, or
-/// where they ask for it help or the version, or a beginning of that where its reader closed the pipe. At 3 it has a
-/// beginning at most, and after other faults nothing. Arguments that `clap` refuses give 2, or 4 out of memory. 2 comes only where there is a reason
-/// to refuse the arguments, and 1 only of a task that may refuse a text or a blob: `hash` and the encoders don't.
-pub fn command<
-    R: Files<File = File> + AllocGlobal + Threads + Sync,
-    O: Write,
-    E: Write,
-    P: Progress + Sync,
->(rt: &R, words: &[String], out: &mut O, err: &mut E, progress: &P) -> u8
+/// At status 0 `out` has the line of the request that the arguments make, on the bytes of its files as far as these are known, or on the gathered
+/// blob; and OUT has what is written of them, and nothing else has changed but LIST, which is empty then. Or `out` has,
+/// where they ask for it, help or the version, or a beginning of that where its reader closed the pipe. At 3 it has a
+/// beginning at most, and after other faults nothing. After each status but 0 all files are as they were, but LIST; or at 3 and 4 OUT is as at 0, where
+/// what came after it failed: LIST, or printing the line.
+///
+/// Arguments that `clap` refuses give 2, or 4 out of memory. 2 comes only where there is a reason
+/// to refuse the arguments, and 1 only of a task that may refuse a text or a blob: `hash` and the encoders don't. Where the files are known,
+/// 1 comes of decoding, of cutting a slice out, and of a schedule only where there is such a fault of these very bytes. On a disk without faults it comes of
+/// gathering only where no file is true, or two different inputs with one chaining value are exhibited.
+pub fn command<R: AllocGlobal + Threads + Sync, D: Disk, O: Write, E: Write, P: Progress + Sync>(
+    rt: &R,
+    disk: &mut D,
+    words: &[String],
+    out: &mut O,
+    err: &mut E,
+    progress: &P,
+) -> u8
     ensures status { result ≤ 4 }
-    ensures done { result ≡ 0 → Done (map string_bytes words.now) (O.contents out.old) (O.contents out.new) }
-    ensures file_fault { result ≡ 3 → Begun (map string_bytes words.now) (O.contents out.old) (O.contents out.new) }
+    ensures done { result ≡ 0 → Done (map string_bytes words.now) (D.at disk.old) (D.at disk.new) (O.contents out.old) (O.contents out.new) }
+    ensures file_fault { result ≡ 3 → Begun (map string_bytes words.now) (D.at disk.old) (D.at disk.new) (O.contents out.old) (O.contents out.new) }
     ensures fault { result ≢ 0 → result ≢ 3 → Keeps (O.contents out.old) (O.contents out.new) }
+    ensures files { result ≢ 0 → LeavesAt (map string_bytes words.now) (D.at disk.old) (D.at disk.new) result }
     ensures refused { AreRefused (map string_bytes words.now) → (result ≡ 2) ⊎ (result ≡ 4) }
     ensures usage { result ≡ 2 → IsUsage (map string_bytes words.now) }
-    ensures refusal { result ≡ 1 → IsRefusable (map string_bytes words.now) }
+    ensures refusal { result ≡ 1 → IsRefusable (map string_bytes words.now) (D.faultless disk.old) (D.at disk.old) }
 {
     match parse(rt.alloc(), words) {
-        Ok(request) => match serve(rt, &request, out, err, progress) {
+        Ok(request) => match serve(rt, disk, &request, out, err, progress) {
             Ok(()) => 0,
             Err(fault) => {
-                tell_why(rt, &request.task, fault, err);
+                tell_why(disk, &request.task, fault, err);
                 fault.report(err)
             }
         },
@@ -89,14 +91,17 @@ pub fn command<
 }
 
 // Does what the request asks for. What is told beside its line goes to `err`.
-fn serve<
-    'a,
-    R: Files<File = File> + AllocGlobal + Threads + Sync,
-    O: Write,
-    E: Write,
-    P: Progress + Sync,
->(rt: &R, request: &Request<'a>, out: &mut O, err: &mut E, progress: &P) -> Result<(), Fault<'a>>
-    ensures answer { Answers request.now (O.contents out.old) (O.contents out.new) result }
+fn serve<'a, R: AllocGlobal + Threads + Sync, D: Disk, O: Write, E: Write, P: Progress + Sync>(
+    rt: &R,
+    disk: &mut D,
+    request: &Request<'a>,
+    out: &mut O,
+    err: &mut E,
+    progress: &P,
+) -> Result<(), Fault<'a>>
+    ensures answer { Answers request.now (D.at disk.old) (D.at disk.new) (O.contents out.old) (O.contents out.new) result }
+    ensures files { IfErr result (LeavesFilesOf (D.at disk.old) (D.at disk.new) request.now) }
+    ensures refused { IfErr result (λ fault. status_of fault ≡ 1 → IsRefusedFor (D.faultless disk.old) (D.at disk.old) request.now) }
     ensures root { ¬ HasRoot request.now.task → IsErrAnd result (λ fault. fault ≡ Fault.Root) }
     ensures mixed { HasRoot request.now.task → IsMixed request.now.task → IsErrAnd result (λ fault. fault ≡ Fault.LongAndOthers) }
     ensures keys { HasRoot request.now.task → ¬ IsMixed request.now.task → MixesKeys request.now → IsErrAnd result (λ fault. fault ≡ Fault.KeyFileAndOthers) }
@@ -106,20 +111,20 @@ fn serve<
 {
     check_root(&request.task)?;
     check_long(&request.task)?;
-    let mode = asked_mode(rt, request)?;
+    let mode = asked_mode(disk, request)?;
     if writes_apart(&request.task) {
         check_list(request)?;
-        check_places(rt, request)?;
-        serve_task(rt, &mode, &request.task, out, err, progress)
+        check_places(disk, request)?;
+        serve_task(rt, disk, &mode, &request.task, out, err, progress)
     } else {
         Err(Fault::OutIsOutput)
     }
 }
 
 // The answer of printing, as a fault of the program.
-fn told<'a>(printed: Result<(), FileFault<'a>>) -> Result<(), Fault<'a>>
+pub(crate) fn told<'a>(printed: Result<(), FileFault<'a>>) -> Result<(), Fault<'a>>
     ensures prints { result ≡ told_of printed.entry }
-    ensures due { IfErr result (λ fault. (file : FileFault) × (fault ≡ Fault.File file)) }
+    ensures file { IfErr result IsOfFile }
 {
     match printed {
         Ok(()) => Ok(()),
@@ -128,7 +133,7 @@ fn told<'a>(printed: Result<(), FileFault<'a>>) -> Result<(), Fault<'a>>
 }
 
 // The root that the digits give.
-fn root_of<'a>(digits: &str) -> Result<Hash, Fault<'a>>
+pub(crate) fn root_of<'a>(digits: &str) -> Result<Hash, Fault<'a>>
     ensures ok { IfOk result (λ root. decode_of digits.now ≡ Ok root.0) }
     ensures err { IfErr result (λ fault. (fault ≡ Fault.Root) × ¬ IsDigits digits.now) }
 {
@@ -139,8 +144,9 @@ fn root_of<'a>(digits: &str) -> Result<Hash, Fault<'a>>
 }
 
 // Prints output of the file.
-fn hash<'a, R: Files<File = File> + AllocGlobal + Threads + Sync, O: Write, P: Progress + Sync>(
+fn hash<'a, R: AllocGlobal + Threads + Sync, D: Disk, O: Write, P: Progress + Sync>(
     rt: &R,
+    disk: &D,
     mode: &Mode,
     at: u64,
     len: u32,
@@ -148,24 +154,21 @@ fn hash<'a, R: Files<File = File> + AllocGlobal + Threads + Sync, O: Write, P: P
     out: &mut O,
     progress: &P,
 ) -> Result<(), Fault<'a>>
-    ensures prints { (bytes : List ℕ) × CommandPrints (digits_line (stream mode.now bytes at len)) (O.contents out.old) (O.contents out.new) result }
+    ensures prints { (bytes : List ℕ) × OnPrinted result (AreOf (D.at disk.now file.now) bytes)
+        × CommandPrints (digits_line (stream mode.now bytes at len)) (O.contents out.old) (O.contents out.new) result }
     ensures due { IfErr result (IsDue (record no_reasons { past = ¬ (at + len ≤ 2 ^ 64 - 1) })) }
+    ensures refused { IfErr result (λ fault. status_of fault ≢ 1) }
 {
     if !xof_fits(at, u64::from(len)) {
         return Err(Fault::OutputRange);
     }
-    let input = match open_file(rt, file) {
-        Ok(input) => input,
-        Err(fault) => return Err(Fault::File(fault)),
-    };
-    let hint = shared_len(&input);
-    let mut input = Shown::over(input, hint, progress);
-    told(print_input(rt, mode, &mut input, hint, file, at, len, out))
+    told(print_file(rt, disk, mode, file, at, len, out, progress))
 }
 
 // Encodes the file, and prints the hash.
-fn encode<'a, R: Files<File = File> + AllocGlobal + Threads + Sync, O: Write, P: Progress + Sync>(
+fn encode<'a, R: AllocGlobal + Threads + Sync, D: Disk, O: Write, P: Progress + Sync>(
     rt: &R,
+    disk: &mut D,
     mode: &Mode,
     encoding: Encoding,
     file: &'a str,
@@ -173,18 +176,21 @@ fn encode<'a, R: Files<File = File> + AllocGlobal + Threads + Sync, O: Write, P:
     out: &mut O,
     progress: &P,
 ) -> Result<(), Fault<'a>>
-    ensures prints { (bytes : List ℕ) × CommandPrints (digits_line (hash_of mode.now bytes)) (O.contents out.old) (O.contents out.new) result }
-    ensures due { IfErr result (IsDue no_reasons) }
+    ensures prints { (bytes : List ℕ) × OnPrinted result (EncodesRight (D.at disk.old) (D.at disk.new) mode.now encoding file.now path.now bytes)
+        × CommandPrints (digits_line (hash_of mode.now bytes)) (O.contents out.old) (O.contents out.new) result }
+    ensures files { IfErr result (Leaves (D.at disk.old) (D.at disk.new) (EncodesRight (D.at disk.old) (D.at disk.new) mode.now encoding file.now path.now)) }
+    ensures file { IfErr result IsOfFile }
 {
-    match encode_file(rt, mode, encoding, file, path, progress) {
+    match encode_on(rt, disk, mode, encoding, file, path, progress) {
         Ok(hash) => told(print_digits(rt.alloc(), &hash.0, out)),
         Err(fault) => Err(Fault::File(fault)),
     }
 }
 
 // Cuts the slice out of the file, a plain copy where an outboard encoding is named.
-fn slice_of<'a, R: Files<File = File> + AllocGlobal>(
-    rt: &R,
+fn slice_of<'a, D: Disk>(
+    alloc: Global,
+    disk: &mut D,
     mode: &Mode,
     root: &Hash,
     start: u64,
@@ -193,17 +199,23 @@ fn slice_of<'a, R: Files<File = File> + AllocGlobal>(
     file: &'a str,
     path: &'a str,
 ) -> Result<u64, DecodeFault<'a>>
-    ensures { IfOk result (λ count. (text : List ℕ) × IsPartText mode.now root.now.0 (Part.Slice start len) text × (count ≡ written_count (Part.Slice start len) text)) }
+    ensures done { IfOk result (λ count. (text : List ℕ) × IsCutFrom (D.at disk.old) start len outboard.entry file.now text × IsPartText mode.now root.now.0 (Part.Slice start len) text
+        × (count ≡ written_count (Part.Slice start len) text) × Puts (D.at disk.old) (D.at disk.new) path.now (Some text)) }
+    ensures kept { OnErr result (KeepsFiles (D.at disk.old) (D.at disk.new)) }
+    ensures refused { IfErr result (λ fault. decode_status_of fault ≡ 1 → IsRefusedCut (D.at disk.old) mode.now start len outboard.entry file.now path.now root.now.0) }
 {
     match outboard {
-        Some(outboard) => slice_beside(rt, mode, root, start, len, outboard, file, path),
-        None => slice_file(rt, mode, root, start, len, file, path),
+        Some(outboard) => {
+            slice_beside_on(alloc, disk, mode, root, start, len, outboard, file, path)
+        }
+        None => slice_on(alloc, disk, mode, root, start, len, file, path),
     }
 }
 
 // Cuts a slice out, and prints how many bytes of its range the blob has. It says where it is asked what is at fault where the slice is refused.
-fn cut_slice<'a, R: Files<File = File> + AllocGlobal, O: Write, E: Write>(
-    rt: &R,
+fn cut_slice<'a, D: Disk, O: Write, E: Write>(
+    alloc: Global,
+    disk: &mut D,
     mode: &Mode,
     digits: &str,
     start: u64,
@@ -215,17 +227,19 @@ fn cut_slice<'a, R: Files<File = File> + AllocGlobal, O: Write, E: Write>(
     out: &mut O,
     err: &mut E,
 ) -> Result<(), Fault<'a>>
-    ensures prints { (bytes : List ℕ) × OnPrinted result (IsRightPart mode.now digits.now (Part.Slice start len) bytes)
+    ensures prints { (bytes : List ℕ) × OnPrinted result (CutsRight (D.at disk.old) (D.at disk.new) mode.now digits.now start len outboard.entry file.now path.now bytes)
         × CommandPrints (part_line (Part.Slice start len) bytes) (O.contents out.old) (O.contents out.new) result }
+    ensures files { IfErr result (Leaves (D.at disk.old) (D.at disk.new) (CutsRight (D.at disk.old) (D.at disk.new) mode.now digits.now start len outboard.entry file.now path.now)) }
+    ensures refused { IfErr result (λ fault. status_of fault ≡ 1 → OfDigits digits.now (IsRefusedCut (D.at disk.old) mode.now start len outboard.entry file.now path.now)) }
     ensures due { IfErr result (IsDue (record no_reasons { root = ¬ IsDigits digits.now; decodes = ⊤ })) }
 {
     let root = root_of(digits)?;
-    match slice_of(rt, mode, &root, start, len, outboard, file, path) {
-        Ok(count) => told(print_count(rt.alloc(), count, out)),
+    match slice_of(alloc, disk, mode, &root, start, len, outboard, file, path) {
+        Ok(count) => told(print_count(alloc, count, out)),
         Err(fault) => {
             match fault {
                 DecodeFault::Check(fault) if verbose => {
-                    tell_cut(rt, start, len, outboard, file, fault, err);
+                    tell_cut(disk, start, len, outboard, file, fault, err);
                 }
                 _ => {}
             }
@@ -235,8 +249,9 @@ fn cut_slice<'a, R: Files<File = File> + AllocGlobal, O: Write, E: Write>(
 }
 
 // Decodes the file, and prints how many bytes were written. It says where it is asked at which place the file is refused.
-fn decode<'a, R: Files<File = File> + AllocGlobal, O: Write, E: Write, P: Progress>(
-    rt: &R,
+fn decode<'a, D: Disk, O: Write, E: Write, P: Progress>(
+    alloc: Global,
+    disk: &mut D,
     mode: &Mode,
     digits: &str,
     part: &Part,
@@ -247,16 +262,18 @@ fn decode<'a, R: Files<File = File> + AllocGlobal, O: Write, E: Write, P: Progre
     err: &mut E,
     progress: &P,
 ) -> Result<(), Fault<'a>>
-    ensures prints { (bytes : List ℕ) × OnPrinted result (IsRightPart mode.now digits.now part.now bytes)
+    ensures prints { (bytes : List ℕ) × OnPrinted result (DecodesRight (D.at disk.old) (D.at disk.new) mode.now digits.now part.now file.now path.now bytes)
         × CommandPrints (part_line part.now bytes) (O.contents out.old) (O.contents out.new) result }
+    ensures files { IfErr result (Leaves (D.at disk.old) (D.at disk.new) (DecodesRight (D.at disk.old) (D.at disk.new) mode.now digits.now part.now file.now path.now)) }
+    ensures refused { IfErr result (λ fault. status_of fault ≡ 1 → OfDigits digits.now (IsRefusedText (D.at disk.old) mode.now part.now file.now path.now)) }
     ensures due { IfErr result (IsDue (record no_reasons { root = ¬ IsDigits digits.now; decodes = ⊤ })) }
 {
     let root = root_of(digits)?;
-    match decode_file(rt, mode, &root, part, file, path, progress) {
-        Ok(count) => told(print_count(rt.alloc(), count, out)),
+    match decode_on(alloc, disk, mode, &root, part, file, path, progress) {
+        Ok(count) => told(print_count(alloc, count, out)),
         Err(fault) => {
             match fault {
-                DecodeFault::Check(fault) if verbose => tell_encoding(rt, part, file, fault, err),
+                DecodeFault::Check(fault) if verbose => tell_encoding(disk, part, file, fault, err),
                 _ => {}
             }
             Err(Fault::Decode(fault))
@@ -266,8 +283,9 @@ fn decode<'a, R: Files<File = File> + AllocGlobal, O: Write, E: Write, P: Progre
 
 // Verifies the plain copy beside the outboard encoding, and prints how many bytes were written. It says where it is asked which
 // of the two is refused, and at which place.
-fn decode_beside<'a, R: Files<File = File> + AllocGlobal, O: Write, E: Write, P: Progress>(
-    rt: &R,
+fn decode_beside<'a, D: Disk, O: Write, E: Write, P: Progress>(
+    alloc: Global,
+    disk: &mut D,
     mode: &Mode,
     digits: &str,
     outboard: &'a str,
@@ -278,17 +296,19 @@ fn decode_beside<'a, R: Files<File = File> + AllocGlobal, O: Write, E: Write, P:
     err: &mut E,
     progress: &P,
 ) -> Result<(), Fault<'a>>
-    ensures prints { (bytes : List ℕ) × OnPrinted result (IsRightCopy mode.now digits.now bytes)
+    ensures prints { (bytes : List ℕ) × OnPrinted result (CopiesRight (D.at disk.old) (D.at disk.new) mode.now digits.now outboard.now copy.now path.now bytes)
         × CommandPrints (ok_line (length bytes)) (O.contents out.old) (O.contents out.new) result }
+    ensures files { IfErr result (Leaves (D.at disk.old) (D.at disk.new) (CopiesRight (D.at disk.old) (D.at disk.new) mode.now digits.now outboard.now copy.now path.now)) }
+    ensures refused { IfErr result (λ fault. status_of fault ≡ 1 → OfDigits digits.now (IsRefusedCopy (D.at disk.old) mode.now outboard.now copy.now path.now)) }
     ensures due { IfErr result (IsDue (record no_reasons { root = ¬ IsDigits digits.now; decodes = ⊤ })) }
 {
     let root = root_of(digits)?;
-    match decode_copy(rt, mode, &root, outboard, copy, path, progress) {
-        Ok(count) => told(print_count(rt.alloc(), count, out)),
+    match decode_copy_on(alloc, disk, mode, &root, outboard, copy, path, progress) {
+        Ok(count) => told(print_count(alloc, count, out)),
         Err(fault) => {
             match fault {
                 DecodeFault::Check(fault) if verbose => {
-                    tell_beside(rt, mode, &root, outboard, copy, fault, err);
+                    tell_beside(alloc, disk, mode, &root, outboard, copy, fault, err);
                 }
                 _ => {}
             }
@@ -297,266 +317,10 @@ fn decode_beside<'a, R: Files<File = File> + AllocGlobal, O: Write, E: Write, P:
     }
 }
 
-// Says what a file is worth.
-fn tell_worth<W: Write>(file: &str, worth: Worth, out: &mut W) -> io::Result<()>
-    ensures { OnOk result (Appends (W.contents out.old) (W.contents out.new) (worth_line file.now worth)) }
-{
-    let Worth { groups, refused } = worth;
-    writeln!(
-        out,
-        "bao_gather: {file}: {refused} of {groups} groups of 64 KiB refused"
-    )
-}
-
-// Says why a file was left out, or what it is worth, or that there was no memory to count that.
-fn tell_fate<R: Files, E: Write>(rt: &R, file: &str, fate: Fate, err: &mut E) -> io::Result<()> {
-    match (fate.reason(), fate) {
-        (Some(reason), Fate::Unread) => tell_left_out(rt, file, reason, err),
-        (Some(reason), _) => writeln!(Once(err), "bao_gather: left out {file}: {reason}"),
-        (None, Fate::Taken(Some(worth))) => tell_worth(file, worth, &mut Once(err)),
-        (None, _) => writeln!(Once(err), "bao_gather: {file}: not counted: no memory"),
-    }
-}
-
-// The number of the last byte of a part.
-pub(crate) fn last_of(part: Span) -> u64
-    ensures { result ≡ part.end - 1 }
-{
-    part.end.saturating_sub(1)
-}
-
-// Says which bytes of the blob no file has.
-fn tell_part<W: Write>(part: Span, out: &mut W) -> io::Result<()>
-    ensures { OnOk result (Appends (W.contents out.old) (W.contents out.new) (missing_line part)) }
-{
-    let (first, last) = (part.at, last_of(part));
-    writeln!(out, "bao_gather: missing: bytes {first} to {last}")
-}
-
-// Says how many they are, of how many, and in how many parts.
-fn tell_parts<W: Write>(parts: &MissingParts, out: &mut W) -> io::Result<()>
-    ensures { OnOk result (Appends (W.contents out.old) (W.contents out.new) (parts_line parts.now)) }
-{
-    let (bytes, looked, count) = (parts.bytes, parts.looked, parts.count);
-    writeln!(
-        out,
-        "bao_gather: missing: {bytes} of {looked} bytes, parts: {count}"
-    )
-}
-
-// Says which bytes of the blob were not looked for.
-fn tell_unlooked<W: Write>(parts: &MissingParts, out: &mut W) -> io::Result<()>
-    ensures { OnOk result (Appends (W.contents out.old) (W.contents out.new) (unlooked_line parts.now)) }
-{
-    let (looked, total) = (parts.looked, parts.total);
-    writeln!(
-        out,
-        "bao_gather: missing: not looked for: bytes from {looked} on, of {total}"
-    )
-}
-
-// The parts that are told one by one.
-fn first_of(parts: &[Span]) -> &[Span]
-    ensures { result.now ≡ take 8 parts.now }
-{
-    &parts[..parts.len().min(MOST_SHOWN)]
-}
-
-// Whether there are files that were counted, and all groups of each of them are refused.
-fn fits_none(fates: &[Fate]) -> bool {
-    let mut some = false;
-    for fate in fates {
-        match fate {
-            Fate::Taken(Some(worth)) if worth.refused == worth.groups => some = true,
-            Fate::Taken(_) => return false,
-            Fate::Unread | Fate::Starved | Fate::Unopened => {}
-        }
-    }
-    some
-}
-
-// Says that no file has the end of the blob, and where none fits the root at all what that may come of.
-fn tell_no_end<E: Write>(fates: &[Fate], err: &mut E) -> io::Result<()> {
-    writeln!(
-        Once(err),
-        "bao_gather: missing: the end, so that the length isn't known"
-    )?;
-    if !fits_none(fates) {
-        return Ok(());
-    }
-    writeln!(
-        Once(err),
-        "bao_gather: nothing fits ROOT: look at ROOT, the key and --context; plain copies go with --outboard, encodings without"
-    )
-}
-
-// Says what no file has of a blob that stayed unfinished.
-fn tell_lack<E: Write>(notes: &Notes, err: &mut E) -> io::Result<()> {
-    match &notes.lack {
-        Lack::Unasked => Ok(()),
-        Lack::Starved => writeln!(Once(err), "bao_gather: missing: not looked for: no memory"),
-        Lack::End => tell_no_end(notes.fates.as_slice(), err),
-        Lack::Missing(parts) if parts.count == 0 && parts.looked == parts.total => {
-            writeln!(
-                Once(err),
-                "bao_gather: missing: nothing at a second look: a read failed before"
-            )
-        }
-        Lack::Missing(parts) => {
-            for part in first_of(parts.shown.as_slice()) {
-                tell_part(*part, &mut Once(err))?;
-            }
-            tell_parts(parts, &mut Once(err))?;
-            if parts.looked < parts.total {
-                tell_unlooked(parts, &mut Once(err))?;
-            }
-            Ok(())
-        }
-    }
-}
-
-// Says so of each file, and what none of them has, where that is asked. A write that fails is the last, and changes nothing.
-fn tell<R: Files, E: Write>(rt: &R, verbose: bool, files: &[&str], notes: &Notes, err: &mut E) {
-    if !verbose {
-        return;
-    }
-    for (file, fate) in files.iter().zip(notes.fates.as_slice()) {
-        if tell_fate(rt, file, *fate, err).is_err() {
-            return;
-        }
-    }
-    let _ = tell_lack(notes, err);
-}
-
-// The files that a gathering names beside those that it gathers from.
-#[derive(Clone, Copy)]
-struct Paths<'a> {
-    out: &'a str,
-    outboard: Option<&'a str>,
-    list: Option<&'a str>,
-}
-
-// The smallest part that the files are asked for.
-fn grain_of(salvage: bool) -> Grain
-    ensures { result ≡ (if salvage then Grain.Chunk else Grain.Group) }
-{
-    if salvage { Grain::Chunk } else { Grain::Group }
-}
-
-// How many parts of what is missing are asked for: all for the list, the first for what is told, or none.
-fn parts_asked(verbose: bool, list: Option<&str>) -> usize {
-    match (verbose, list) {
-        (_, Some(_)) => usize::MAX,
-        (true, None) => MOST_SHOWN,
-        (false, None) => 0,
-    }
-}
-
-// Makes the list empty, where there is one: nothing is missing. A link may have led it to OUT, which is there now: then it can't be written.
-fn list_nothing<'a, R: Files<File = File> + AllocGlobal>(
-    rt: &R,
-    paths: Paths<'a>,
-) -> Result<(), Fault<'a>>
-    ensures quiet { IfErr result (λ fault. (file : FileFault) × (fault ≡ Fault.File file) × IsQuiet file) }
-{
-    let Some(path) = paths.list else {
-        return Ok(());
-    };
-    if is_one_file(rt, path, paths.out) {
-        return Err(Fault::File(FileFault::Write(path)));
-    }
-    match list_parts(&mut System::new(rt), &[], path) {
-        Ok(()) => Ok(()),
-        Err(fault) => Err(Fault::File(fault)),
-    }
-}
-
-// Writes what no file has to the list, where there is one and that is known. It says why not, where it doesn't: what gathering met stands.
-fn list_lack<R: Files<File = File> + AllocGlobal, E: Write>(
-    rt: &R,
-    list: Option<&str>,
-    lack: &Lack,
-    err: &mut E,
-) {
-    let Some(path) = list else {
-        return;
-    };
-    let Lack::Missing(parts) = lack else {
-        let _ = writeln!(
-            Once(err),
-            "bao_gather: {path}: left as it is: what is missing isn't known"
-        );
-        return;
-    };
-    match list_parts(&mut System::new(rt), parts.shown.as_slice(), path) {
-        Ok(()) => {}
-        Err(fault) => {
-            let _ = writeln!(Once(err), "bao_gather: {path}: left as it is: {fault}");
-        }
-    }
-}
-
-// Gathers the blob out of the files, which are plain copies where an outboard encoding is named. It says where it is
-// asked what each of them is worth, lists where it is asked what none of them has, and prints how many bytes the blob has.
-fn gather<
-    'a,
-    R: Files<File = File> + AllocGlobal + Threads + Sync,
-    O: Write,
-    E: Write,
-    P: Progress + Sync,
->(
-    rt: &R,
-    mode: &Mode,
-    digits: &str,
-    how: Gathering,
-    paths: Paths<'a>,
-    files: &[&'a str],
-    out: &mut O,
-    err: &mut E,
-    progress: &P,
-) -> Result<(), Fault<'a>>
-    ensures beside { OnPrinted result (IsBeside mode.now digits.now paths.entry.outboard) }
-    ensures answer { (blob : List ℕ) × OnPrinted result (HasHash mode.now digits.now blob × Fits how.long how.capacity (length blob))
-        × CommandPrints (ok_line (length blob)) (O.contents out.old) (O.contents out.new) result }
-    ensures few { OnPrinted result (length files.now ≤ 64) }
-    ensures many { 64 < length files.now → IsErrAnd result (λ fault. fault ≡ Fault.TooManyFiles) }
-    ensures due { IfErr result (IsDue (record no_reasons { root = ¬ IsDigits digits.now; many = 64 < length files.now; gathers = ⊤ })) }
-{
-    if files.len() > MOST_FILES {
-        return Err(Fault::TooManyFiles);
-    }
-    let root = root_of(digits)?;
-    let Ok(mut notes) = Notes::new(rt.alloc(), files.len()) else {
-        return Err(Fault::File(FileFault::Memory));
-    };
-    let kept = &mut notes;
-    let gathered = match paths.outboard {
-        Some(outboard) => gather_beside(
-            rt, mode, &root, how, outboard, files, paths.out, kept, progress,
-        ),
-        None => {
-            let form = Form::Slices;
-            gather_files(
-                rt, mode, &root, &form, how, files, paths.out, kept, progress,
-            )
-        }
-    };
-    tell(rt, how.count, files, &notes, err);
-    match gathered {
-        Ok(count) => {
-            list_nothing(rt, paths)?;
-            told(print_count(rt.alloc(), count, out))
-        }
-        Err(fault) => {
-            list_lack(rt, paths.list, &notes.lack, err);
-            Err(Fault::Gather(fault))
-        }
-    }
-}
-
 // Runs the schedule over the files, and prints the replies.
-fn replay<'a, R: Files<File = File> + AllocGlobal, O: Write>(
-    rt: &R,
+fn replay<'a, D: Disk, O: Write>(
+    alloc: Global,
+    disk: &D,
     mode: &Mode,
     digits: &str,
     capacity: u32,
@@ -564,48 +328,47 @@ fn replay<'a, R: Files<File = File> + AllocGlobal, O: Write>(
     files: &[&'a str],
     out: &mut O,
 ) -> Result<(), Fault<'a>>
-    ensures answer { (text : List ℕ) × OnPrinted result (IsReplay mode.now digits.now capacity (length files.now) text)
+    ensures answer { (text : List ℕ) × OnPrinted result (IsReplay (D.at disk.now) mode.now digits.now capacity script.now files.now text)
         × CommandPrints text (O.contents out.old) (O.contents out.new) result }
     ensures few { OnPrinted result (length files.now ≤ 64) }
     ensures many { 64 < length files.now → IsErrAnd result (λ fault. fault ≡ Fault.TooManyFiles) }
+    ensures refused { IfErr result (λ fault. status_of fault ≡ 1 → IsRefusedReplay (D.at disk.now) mode.now digits.now capacity script.now files.now) }
     ensures due { IfErr result (IsDue (record no_reasons { root = ¬ IsDigits digits.now; many = 64 < length files.now; replays = ⊤ })) }
 {
     if files.len() > MOST_FILES {
         return Err(Fault::TooManyFiles);
     }
     let root = root_of(digits)?;
-    match replay_files(rt, mode, &root, capacity, script, files) {
+    match replay_on(alloc, disk, mode, &root, capacity, script, files) {
         Ok(text) => told(print_text(text.as_slice(), out)),
         Err(fault) => Err(Fault::Replay(fault)),
     }
 }
 
-// Does the task on the files' bytes, whatever these are.
-fn serve_task<
-    'a,
-    R: Files<File = File> + AllocGlobal + Threads + Sync,
-    O: Write,
-    E: Write,
-    P: Progress + Sync,
->(
+// Does the task on the files' bytes.
+fn serve_task<'a, R: AllocGlobal + Threads + Sync, D: Disk, O: Write, E: Write, P: Progress + Sync>(
     rt: &R,
+    disk: &mut D,
     mode: &Mode,
     task: &Task<'a>,
     out: &mut O,
     err: &mut E,
     progress: &P,
 ) -> Result<(), Fault<'a>>
-    ensures prints { (bytes : List ℕ) × OnPrinted result (IsRight mode.now task.now bytes)
+    ensures prints { (bytes : List ℕ) × OnPrinted result (IsRight (D.at disk.old) mode.now task.now bytes × Writes (D.at disk.old) (D.at disk.new) mode.now task.now (list_of task.now) bytes)
         × CommandPrints (line_of mode.now task.now bytes) (O.contents out.old) (O.contents out.new) result }
+    ensures files { IfErr result (LeavesFiles (D.at disk.old) (D.at disk.new) mode.now task.now) }
+    ensures refused { IfErr result (λ fault. status_of fault ≡ 1 → IsRefused (D.faultless disk.old) (D.at disk.old) mode.now task.now) }
     ensures due { IfErr result (IsDue (task_reasons_of task.now)) }
 {
+    let alloc = rt.alloc();
     match task {
-        Task::Hash { at, length, file } => hash(rt, mode, *at, *length, file, out, progress),
+        Task::Hash { at, length, file } => hash(rt, disk, mode, *at, *length, file, out, progress),
         Task::Encode {
             encoding,
             file,
             out: path,
-        } => encode(rt, mode, *encoding, file, path, out, progress),
+        } => encode(rt, disk, mode, *encoding, file, path, out, progress),
         Task::CutSlice {
             root,
             start,
@@ -615,7 +378,7 @@ fn serve_task<
             file,
             out: path,
         } => cut_slice(
-            rt, mode, root, *start, *len, *outboard, *verbose, file, path, out, err,
+            alloc, disk, mode, root, *start, *len, *outboard, *verbose, file, path, out, err,
         ),
         Task::Decode {
             root,
@@ -624,7 +387,7 @@ fn serve_task<
             file,
             out: path,
         } => decode(
-            rt, mode, root, part, *verbose, file, path, out, err, progress,
+            alloc, disk, mode, root, part, *verbose, file, path, out, err, progress,
         ),
         Task::DecodeCopy {
             root,
@@ -633,7 +396,7 @@ fn serve_task<
             copy,
             out: path,
         } => decode_beside(
-            rt, mode, root, outboard, *verbose, copy, path, out, err, progress,
+            alloc, disk, mode, root, outboard, *verbose, copy, path, out, err, progress,
         ),
         Task::Gather {
             root,
@@ -663,14 +426,17 @@ fn serve_task<
                 list: *missing,
             };
             let files = files.as_slice();
-            gather(rt, mode, root, how, paths, files, out, err, progress)
+            gather(rt, disk, mode, root, how, paths, files, out, err, progress)
         }
         Task::Replay {
             root,
             capacity,
             script,
             files,
-        } => replay(rt, mode, root, *capacity, script, files.as_slice(), out),
+        } => {
+            let files = files.as_slice();
+            replay(alloc, disk, mode, root, *capacity, script, files, out)
+        }
     }
 }
 

@@ -8,6 +8,7 @@ pub use words::own_words;
 
 mod commands;
 mod fault;
+mod gathering;
 mod help;
 mod lists;
 mod mode;

@@ -1,17 +1,16 @@
 ghost use Rattle.std.specs.Borrow.{Bor};
 ghost use Rattle.std.specs.Option.{option_copied};
 ghost use Rattle.std.specs.Prelude.{◌≡◌, ◌⊎◌, ℕ, List, IfErr, IfOk, IfSome, IsErrAnd};
-ghost use Rattle.bao_command.specs.ModeWords.{GivesFileMode, GivesMode, HasMode, IsKeyedBy, IsModeFault, MixesKeys};
+ghost use Rattle.bao_command.specs.ModeWords.{GivesFileMode, GivesMode, HasMode, IsKeyedBy, IsKeyedIn, IsModeFault, MixesKeys};
 ghost use Rattle.bao_command.specs.Tasks.{IsDue, mode_reasons_of};
 ghost use Rattle.bao_command.specs.declared.fault.Fault.TheVariants as Fault;
 ghost use Rattle.bao_files.specs.declared.fault.FileFault.TheVariants as FileFault;
 
 use crate::fault::Fault;
 use b3tree::Mode;
-use bao_files::{bytes_of_digits, open_file, read_key};
+use bao_files::{Disk, bytes_of_digits, read_key};
 use bao_request::Request;
 use std::io::Read;
-use std::rt::Files;
 
 /// The mode that `--key` and `--context` ask for: hash mode where neither is there.
 ///
@@ -48,29 +47,29 @@ pub fn mode_of_input<'a, I: Read>(input: &mut I, path: &'a str) -> Result<Mode, 
     }
 }
 
-// The same of the file at `path`, which can't be read where it can't be opened.
-fn mode_of_file<'a, R: Files>(rt: &R, path: &'a str) -> Result<Mode, Fault<'a>>
-    ensures some { IfOk result (λ mode. (bytes : List ℕ) × IsKeyedBy bytes mode) }
-    ensures fault { IfErr result (λ fault. (fault ≡ Fault.KeyFile) ⊎ (fault ≡ Fault.File (FileFault.Read path.entry))) }
+// The same of the file at `path` on the disk, which can't be read where it can't be opened.
+fn mode_of_file<'a, D: Disk>(disk: &D, path: &'a str) -> Result<Mode, Fault<'a>>
+    ensures some { IfOk result (IsKeyedIn (D.at disk.now path.now)) }
+    ensures fault { IfErr result (λ fault. (fault ≡ Fault.KeyFile) ⊎ (fault ≡ Fault.File FileFault.Memory) ⊎ (fault ≡ Fault.File (FileFault.Read path.entry))) }
 {
-    match open_file(rt, path) {
+    match disk.open(path) {
         Ok(mut input) => mode_of_input(&mut input, path),
         Err(fault) => Err(Fault::File(fault)),
     }
 }
 
-/// The mode that a request asks for, by `--key` and `--context` as [`mode_of`], or by the file of `--key-file` as
+/// The mode that a request asks for, by `--key` and `--context` as [`mode_of`], or by the file of `--key-file` on the disk as
 /// [`mode_of_input`]. That file beside one of the others is `KeyFileAndOthers`, whatever these are, and then it isn't
 /// opened.
-pub(crate) fn asked_mode<'a, R: Files>(rt: &R, request: &Request<'a>) -> Result<Mode, Fault<'a>>
-    ensures mode { IfOk result (HasMode request.now) }
+pub(crate) fn asked_mode<'a, D: Disk>(disk: &D, request: &Request<'a>) -> Result<Mode, Fault<'a>>
+    ensures mode { IfOk result (HasMode (D.at disk.now) request.now) }
     ensures mixed { MixesKeys request.now → IsErrAnd result (λ fault. fault ≡ Fault.KeyFileAndOthers) }
     ensures fault { IfErr result (IsModeFault request.now.key_file) }
     ensures due { IfErr result (IsDue (mode_reasons_of request.now)) }
 {
     match (request.key_file, request.key, request.context) {
         (None, key, context) => mode_of(key, context),
-        (Some(path), None, None) => mode_of_file(rt, path),
+        (Some(path), None, None) => mode_of_file(disk, path),
         (Some(_), Some(_), _) | (Some(_), _, Some(_)) => Err(Fault::KeyFileAndOthers),
     }
 }

@@ -3,14 +3,14 @@ ghost use Rattle.std.specs.Process.{exit_status};
 ghost use Rattle.bao_command.specs.Outcome.{Ends};
 
 use crate::commands::command;
-use bao_files::Meter;
+use bao_files::{Meter, System};
 use std::fs::File;
 use std::io::{IsTerminal, Write};
 use std::process::ExitCode;
 use std::rt::{Clock, Files};
 use std::thread::Threads;
 
-/// Runs the program on `words`, its name first, as [`command`] does, with `out` and `err` as its standard output and error, and
+/// Runs the program on `words`, its name first, as [`command`] does over the system's files, with `out` and `err` as its standard output and error, and
 /// answers the exit status. How far a long read has come is shown on `err` where that is a terminal.
 pub fn run<
     R: Files<File = File> + Clock + AllocGlobal + Threads + Sync,
@@ -25,5 +25,6 @@ pub fn run<
     } else {
         None
     };
-    ExitCode::from(command(rt, words, out, err, &meter))
+    let mut system = System::new(rt);
+    ExitCode::from(command(rt, &mut system, words, out, err, &meter))
 }

@@ -4,16 +4,15 @@ ghost use Rattle.std.specs.Prelude.{OnOk};
 ghost use Rattle.std.specs.Io.KnownBytes.{Appends};
 ghost use Rattle.bao_command.specs.Told.{chunk_line, damage_line, long_line, parent_line, short_line};
 
-use crate::commands::last_of;
+use crate::gathering::last_of;
 use b3tree::{CHUNK_LEN, Hash, Mode};
 use bao_check::{CheckFault, check_outboard};
-use bao_decode::read_outboard;
-use bao_files::{Once, Part, STANDARD_INPUT, open_file};
+use bao_decode::read_outboard_on;
+use bao_files::{Disk, Once, Part};
 use bao_tasks::{Span, Spot, spot_in_outboard, spot_in_slice};
-use std::fs::File;
+use std::alloc::Global;
+use std::io;
 use std::io::{Read, Write};
-use std::rt::Files;
-use std::{fs, io};
 
 // Says that a file ends too early.
 fn tell_short<W: Write>(file: &str, at: u64, out: &mut W) -> io::Result<()>
@@ -74,27 +73,27 @@ fn tell_spot<E: Write>(file: &str, at: u64, spot: Option<Spot>, err: &mut E) -> 
 }
 
 // The length that an encoding in a regular file claims, which is read again for it.
-fn claimed_again<R: Files>(rt: &R, path: &str) -> Option<u64> {
-    if !is_regular(rt, path) {
+fn claimed_again<D: Disk>(disk: &D, path: &str) -> Option<u64> {
+    if !is_regular(disk, path) {
         return None;
     }
-    let mut file = open_file(rt, path).ok()?;
+    let mut file = disk.open(path).ok()?;
     let mut head = [0; 8];
     file.read_exact(&mut head).ok()?;
     Some(u64::from_le_bytes(head))
 }
 
 // Whether a regular file is at the path, which can be read again.
-fn is_regular<R: Files>(rt: &R, path: &str) -> bool {
-    match fs::metadata(rt, path) {
-        Ok(metadata) => metadata.is_file() && path != STANDARD_INPUT,
-        Err(_) => false,
+fn is_regular<D: Disk>(disk: &D, path: &str) -> bool {
+    match disk.look(path) {
+        Some(extent) => extent.is_regular,
+        None => false,
     }
 }
 
 // What is at a place of the encoding of a part, in the file of this path.
-fn spot_of_part<R: Files>(rt: &R, part: &Part, path: &str, at: u64) -> Option<Spot> {
-    let total = claimed_again(rt, path)?;
+fn spot_of_part<D: Disk>(disk: &D, part: &Part, path: &str, at: u64) -> Option<Spot> {
+    let total = claimed_again(disk, path)?;
     match part {
         Part::Whole => spot_in_slice(total, 0, u64::MAX, at),
         Part::Slice { start, len } => spot_in_slice(total, *start, *len, at),
@@ -102,8 +101,8 @@ fn spot_of_part<R: Files>(rt: &R, part: &Part, path: &str, at: u64) -> Option<Sp
 }
 
 // What is at a place of an outboard encoding, in the file of this path.
-fn spot_of_outboard<R: Files>(rt: &R, path: &str, at: u64) -> Option<Spot> {
-    spot_in_outboard(claimed_again(rt, path)?, at)
+fn spot_of_outboard<D: Disk>(disk: &D, path: &str, at: u64) -> Option<Spot> {
+    spot_in_outboard(claimed_again(disk, path)?, at)
 }
 
 // The chunk that begins at a place of a plain copy of a blob of `total` bytes.
@@ -139,24 +138,24 @@ fn damaged_at(fault: CheckFault) -> Option<u64> {
 }
 
 // Says where the encoding of a part is at fault. A write that fails changes nothing.
-pub(crate) fn tell_encoding<R: Files, E: Write>(
-    rt: &R,
+pub(crate) fn tell_encoding<D: Disk, E: Write>(
+    disk: &D,
     part: &Part,
     file: &str,
     fault: CheckFault,
     err: &mut E,
 ) {
     let spot = match damaged_at(fault) {
-        Some(at) => spot_of_part(rt, part, file, at),
+        Some(at) => spot_of_part(disk, part, file, at),
         None => None,
     };
     let _ = tell_fault(file, fault, spot, err);
 }
 
 // Says where an outboard encoding is at fault.
-fn tell_outboard<R: Files, E: Write>(rt: &R, file: &str, fault: CheckFault, err: &mut E) {
+fn tell_outboard<D: Disk, E: Write>(disk: &D, file: &str, fault: CheckFault, err: &mut E) {
     let spot = match damaged_at(fault) {
-        Some(at) => spot_of_outboard(rt, file, at),
+        Some(at) => spot_of_outboard(disk, file, at),
         None => None,
     };
     let _ = tell_fault(file, fault, spot, err);
@@ -164,8 +163,9 @@ fn tell_outboard<R: Files, E: Write>(rt: &R, file: &str, fault: CheckFault, err:
 
 // Says which file is at fault of an outboard encoding and a copy, and where. The first is read again for it. A write that fails changes
 // nothing.
-pub(crate) fn tell_beside<R: Files<File = File> + AllocGlobal, E: Write>(
-    rt: &R,
+pub(crate) fn tell_beside<D: Disk, E: Write>(
+    alloc: Global,
+    disk: &D,
     mode: &Mode,
     root: &Hash,
     outboard: &str,
@@ -173,27 +173,27 @@ pub(crate) fn tell_beside<R: Files<File = File> + AllocGlobal, E: Write>(
     fault: CheckFault,
     err: &mut E,
 ) {
-    if !is_regular(rt, outboard) {
+    if !is_regular(disk, outboard) {
         return;
     }
-    let Ok(text) = read_outboard(rt, mode, root, outboard) else {
+    let Ok(text) = read_outboard_on(alloc, disk, mode, root, outboard) else {
         return;
     };
-    match check_outboard(rt.alloc(), mode, root, text.as_slice()) {
+    match check_outboard(alloc, mode, root, text.as_slice()) {
         Ok(outline) => {
             let total = outline.claimed();
             let spot = damaged_at(fault).map(|at| spot_of_copy(total, at));
             let _ = tell_fault(copy, fault, spot, err);
         }
         Err(CheckFault::Memory) => {}
-        Err(fault) => tell_outboard(rt, outboard, fault, err),
+        Err(fault) => tell_outboard(disk, outboard, fault, err),
     }
 }
 
 // Says what is at fault of that which a slice was cut out of, an encoding or an outboard encoding and a copy, and at which bytes of the blob. The
 // length is read again for it. A write that fails changes nothing.
-pub(crate) fn tell_cut<R: Files, E: Write>(
-    rt: &R,
+pub(crate) fn tell_cut<D: Disk, E: Write>(
+    disk: &D,
     start: u64,
     len: u64,
     outboard: Option<&str>,
@@ -205,7 +205,7 @@ pub(crate) fn tell_cut<R: Files, E: Write>(
         return;
     };
     let parents = outboard.unwrap_or(file);
-    let Some(total) = claimed_again(rt, parents) else {
+    let Some(total) = claimed_again(disk, parents) else {
         return;
     };
     let Some(spot) = spot_in_slice(total, start, len, at) else {

@@ -1,48 +1,31 @@
-// Why a file can't be read, as the system says it where it is asked once more.
+// Why a file can't be read, as the disk says it where it is asked once more.
 
 use crate::fault::Fault;
 use crate::lists::is_among;
 use bao_decode::DecodeFault;
-use bao_files::{FileFault, Once, STANDARD_INPUT};
+use bao_files::{Disk, FileFault, Once};
 use bao_request::Task;
 use bao_tasks::GatheredFault;
-use std::io::{Read, Write};
-use std::rt::Files;
-use std::{fs, io};
+use std::io;
+use std::io::Write;
 
-// Asks once more for what can't be read: for what is at the path, to open it, and for its first byte. What is neither a regular file nor a
-// folder isn't opened, which might wait for somebody who writes to it.
-fn ask_again<R: Files>(rt: &R, path: &str) -> io::Result<()> {
-    let path = if path == STANDARD_INPUT {
-        "/dev/stdin"
-    } else {
-        path
-    };
-    let metadata = fs::metadata(rt, path)?;
-    if metadata.is_file() || metadata.is_dir() {
-        let mut file = fs::open(rt, path)?;
-        file.read(&mut [0])?;
-    }
-    Ok(())
-}
-
-// Says why the file can't be read, if the system still says so. A write that fails changes nothing.
-fn tell_unread<R: Files, E: Write>(rt: &R, path: &str, err: &mut E) {
-    if let Err(error) = ask_again(rt, path) {
+// Says why the file can't be read, if that can be told. A write that fails changes nothing.
+fn tell_unread<D: Disk, E: Write>(disk: &D, path: &str, err: &mut E) {
+    if let Some(error) = disk.why(path) {
         let _ = writeln!(Once(err), "bao_gather: {path}: {error}");
     }
 }
 
-/// Says that the file was left out since it can't be read, and why, if the system still says so.
-pub(crate) fn tell_left_out<R: Files, E: Write>(
-    rt: &R,
+/// Says that the file was left out since it can't be read, and why, if that can be told.
+pub(crate) fn tell_left_out<D: Disk, E: Write>(
+    disk: &D,
     path: &str,
     reason: &str,
     err: &mut E,
 ) -> io::Result<()> {
-    match ask_again(rt, path) {
-        Ok(()) => writeln!(Once(err), "bao_gather: left out {path}: {reason}"),
-        Err(error) => writeln!(Once(err), "bao_gather: left out {path}: {reason}: {error}"),
+    match disk.why(path) {
+        None => writeln!(Once(err), "bao_gather: left out {path}: {reason}"),
+        Some(error) => writeln!(Once(err), "bao_gather: left out {path}: {reason}: {error}"),
     }
 }
 
@@ -67,9 +50,14 @@ fn says_why(task: &Task<'_>, path: &str) -> bool {
 }
 
 /// Says, where that is asked, why a file can't be read, where this is the fault.
-pub(crate) fn tell_why<R: Files, E: Write>(rt: &R, task: &Task<'_>, fault: Fault<'_>, err: &mut E) {
+pub(crate) fn tell_why<D: Disk, E: Write>(
+    disk: &D,
+    task: &Task<'_>,
+    fault: Fault<'_>,
+    err: &mut E,
+) {
     match unread_by(fault) {
-        Some(path) if says_why(task, path) => tell_unread(rt, path, err),
+        Some(path) if says_why(task, path) => tell_unread(disk, path, err),
         _ => {}
     }
 }

@@ -5,13 +5,12 @@ ghost use Rattle.bao_command.specs.Outcome.{AreRefused};
 ghost use Rattle.bao_command.specs.Tasks.{ReadsList};
 ghost use Rattle.bao_request.specs.declared.tasks.Request.{Request};
 ghost use Rattle.bao_request.specs.CommandLine.{AsksFor, AsksForHelp};
-ghost use Rattle.determined_command.specs.Commands.{BothKeep, SameStatus};
+ghost use Rattle.determined_command.specs.Commands.{BothKeep, IsKeyKnown, IsOfKnown, SamePrinted, SameStatus};
+ghost use Rattle.determined_files.specs.Agreeing.{SameWhereKnown};
 
 use bao_command::{Fault, command};
-use bao_files::Progress;
-use std::fs::File;
+use bao_files::{Disk, Progress};
 use std::io::Write;
-use std::rt::Files;
 use std::thread::Threads;
 
 pub fn fault_status_determined(fault: Fault<'_>) -> (u8, u8)
@@ -33,34 +32,73 @@ pub fn report_determined<E: Write>(fault: Fault<'_>, ours: &mut E, theirs: &mut 
     (fault.report(ours), fault.report(theirs))
 }
 
-// A command that reads files answers by what they hold, and no contract sees that: so these are the arguments that are
-// refused, and what the other faults leave.
+// The arguments that are refused are so whatever the files hold, and other faults than a file's leave the streams as they were.
 pub fn command_determined<
-    R: Files<File = File> + AllocGlobal + Threads + Sync,
+    R: AllocGlobal + Threads + Sync,
+    D: Disk,
     O: Write,
     E: Write,
     P: Progress + Sync,
->(rt: &R, words: &[String], ours: &mut O, theirs: &mut O, err: &mut E, progress: &P) -> (u8, u8)
+>(
+    rt: &R,
+    disk: &mut D,
+    words: &[String],
+    ours: &mut O,
+    theirs: &mut O,
+    err: &mut E,
+    progress: &P,
+) -> (u8, u8)
     requires { O.contents ours.old ≡ O.contents theirs.old }
     ensures refused { AreRefused (map string_bytes words.now) → SameStatus result.0 result.1 }
     ensures kept { result.0 ≢ 0 → result.0 ≢ 3 → result.1 ≢ 0 → result.1 ≢ 3 → BothKeep (O.contents ours.old) (O.contents ours.new) (O.contents theirs.new) }
 {
     (
-        command(rt, words, ours, err, progress),
-        command(rt, words, theirs, err, progress),
+        command(rt, disk, words, ours, err, progress),
+        command(rt, disk, words, theirs, err, progress),
+    )
+}
+
+// The files that are hashed, encoded, decoded or cut out of decide what is printed and written, where both runs are done.
+pub fn known_files_decide<
+    R: AllocGlobal + Threads + Sync,
+    D: Disk,
+    O: Write,
+    E: Write,
+    P: Progress + Sync,
+>(
+    rt: &R,
+    our_disk: &mut D,
+    their_disk: &mut D,
+    words: &[String],
+    ours: &mut O,
+    theirs: &mut O,
+    err: &mut E,
+    progress: &P,
+) -> (u8, u8)
+    requires files { D.at our_disk.old ≡ D.at their_disk.old }
+    requires streams { O.contents ours.old ≡ O.contents theirs.old }
+    requires known { (request : Request) → AsksFor (map string_bytes words.now) request → IsOfKnown (D.at our_disk.old) request.task × IsKeyKnown (D.at our_disk.old) request }
+    requires work { ¬ AsksForHelp (map string_bytes words.now) }
+    ensures { result.0 ≡ 0 → result.1 ≡ 0 → SamePrinted (O.contents ours.old) (O.contents ours.new) (O.contents theirs.new)
+        × SameWhereKnown (D.at our_disk.old) (D.at our_disk.new) (D.at their_disk.new) }
+{
+    (
+        command(rt, our_disk, words, ours, err, progress),
+        command(rt, their_disk, words, theirs, err, progress),
     )
 }
 
 // A list that would take the place of a file that is read, by its name, is never made: no such command is done.
 pub fn list_read_refused<
-    R: Files<File = File> + AllocGlobal + Threads + Sync,
+    R: AllocGlobal + Threads + Sync,
+    D: Disk,
     O: Write,
     E: Write,
     P: Progress + Sync,
->(rt: &R, words: &[String], out: &mut O, err: &mut E, progress: &P) -> u8
+>(rt: &R, disk: &mut D, words: &[String], out: &mut O, err: &mut E, progress: &P) -> u8
     requires asked { (request : Request) → AsksFor (map string_bytes words.now) request → ReadsList request }
     requires work { ¬ AsksForHelp (map string_bytes words.now) }
     ensures { result ≢ 0 }
 {
-    command(rt, words, out, err, progress)
+    command(rt, disk, words, out, err, progress)
 }

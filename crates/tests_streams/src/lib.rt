@@ -5,6 +5,8 @@
 #[cfg(test)]
 mod bytes;
 #[cfg(test)]
+mod commands;
+#[cfg(test)]
 mod encodings;
 #[cfg(test)]
 mod gathering;

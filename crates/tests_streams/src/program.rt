@@ -1,5 +1,6 @@
 use crate::bytes::{Broken, failing, taking};
 use bao_command::{command, own_words};
+use bao_files::System;
 use std::alloc::Global;
 use std::env::FillError;
 use std::fs::File;
@@ -40,7 +41,7 @@ impl Env for OddWords {
     }
 }
 
-fn words(alloc: Global, given: &[&str]) -> Result<Vec<String>, Fail> {
+pub(crate) fn words(alloc: Global, given: &[&str]) -> Result<Vec<String>, Fail> {
     let mut words = Vec::new(alloc);
     words.push(String::from_str(alloc, "bao_gather")?)?;
     for word in given {
@@ -57,7 +58,8 @@ fn ran<R: Files<File = File> + AllocGlobal + Threads + Sync>(
     err: &mut Broken,
 ) -> Result<u8, Fail> {
     let words = words(rt.alloc(), given)?;
-    Ok(command(rt, words.as_slice(), out, err, &()))
+    let mut system = System::new(rt);
+    Ok(command(rt, &mut system, words.as_slice(), out, err, &()))
 }
 
 // Runs the program, and asserts its status and what it prints on its two streams.

@@ -2,18 +2,48 @@ use Rattle.std.proofs.Common.{ℕ, List, length, subst, sym}
 use Rattle.bao_files.specs.Printed as file
 use Rattle.bao_files.specs.Printed.{ok_line}
 use Rattle.bao_command.specs.Printed.{CommandPrints}
-use Rattle.bao_command.specs.Tasks.{IsRightCopy}
-use Rattle.bao_command.proofs.Telling.{on_printed, told_prints}
+use Rattle.bao_command.specs.Works.{CopiesRight}
+use Rattle.bao_command.proofs.Due.{file_due}
+use Rattle.bao_command.proofs.Refusals.{copy_refused}
+use Rattle.bao_command.proofs.Telling.{leaves_after, no_refusal, on_printed, told_prints}
 use Rattle.bao_command.proofs.commands.decode_beside.Goals as goal
+
+pub returns-in-Ok-clause-due : goal.returns-in-Ok-clause-due
+returns-in-Ok-clause-due g c = file_due _ c.told.result c.told.ensures.file
+
+pub returns-in-Ok-clause-refused : goal.returns-in-Ok-clause-refused
+returns-in-Ok-clause-refused g c = no_refusal _ c.told.result c.told.ensures.file
 
 pub returns-in-Ok-clause-prints : goal.returns-in-Ok-clause-prints
 returns-in-Ok-clause-prints g c =
-    let mode = c.args.mode.now in
-    let made = c.in-Ok.ensures.ok in
-    let bytes : List ℕ = made.0 in
+    let made = c.in-Ok.ensures.done in
+    let bytes : List ℕ = made.1 in
+    let line : List ℕ = ok_line (length bytes) in
     let old = g.O.Write.contents c.args.out.now in
     let new = g.O.Write.contents c.print_count.new.out in
-    let right : IsRightCopy mode c.args.digits.now bytes = (c.in_ok-root.root.0, (c.in_ok-root.ensures.ok, made.1)) in
-    let printed = subst (λ (n : ℕ). file.Prints (file.ok_line n) old new c.print_count.result) made.2 c.print_count.ensures.prints in
-    let told = told_prints (ok_line (length bytes)) old new c.print_count.result printed in
-    (bytes, on_printed c.told.result right, subst (CommandPrints (ok_line (length bytes)) old new) (sym c.told.ensures.prints) told)
+    let at = g.D.Disk.at c.args.disk.now in
+    let after = g.D.Disk.at c.decode_copy_on.new.disk in
+    let right : CopiesRight at after c.args.mode.now c.args.digits.now c.args.outboard.now c.args.copy.now c.args.path.now bytes =
+    ((c.in_ok-root.root.0, (c.in_ok-root.ensures.ok, (made.0, made.2, made.3, made.4))), made.6) in
+    let printed = subst (λ (n : ℕ). file.Prints (file.ok_line n) old new c.print_count.result) made.5 c.print_count.ensures.prints in
+    let told = told_prints line old new c.print_count.result printed in
+    (bytes, on_printed c.told.result right, subst (CommandPrints line old new) (sym c.told.ensures.prints) told)
+
+pub returns-in-Ok-clause-files : goal.returns-in-Ok-clause-files
+returns-in-Ok-clause-files g c =
+    let made = c.in-Ok.ensures.done in
+    let at = g.D.Disk.at c.args.disk.now in
+    let after = g.D.Disk.at c.decode_copy_on.new.disk in
+    leaves_after at after (CopiesRight at after c.args.mode.now c.args.digits.now c.args.outboard.now c.args.copy.now c.args.path.now) c.told.result c.told.ensures.file
+    made.1 ((c.in_ok-root.root.0, (c.in_ok-root.ensures.ok, (made.0, made.2, made.3, made.4))), made.6)
+
+pub returns-after-fault-clause-refused : goal.returns-after-fault-clause-refused
+returns-after-fault-clause-refused g c = λ is. (
+  c.in_ok-root.root.0,
+  (
+    c.in_ok-root.ensures.ok,
+    λ known outline bytes there also.
+        copy_refused c.args.mode.now c.in_ok-root.root.0 (g.D.Disk.faultless c.args.disk.now) outline bytes c.args.outboard c.args.copy c.args.path c.in-Err.fault is
+        (c.in-Err.ensures.refused known outline bytes there also),
+  ),
+)

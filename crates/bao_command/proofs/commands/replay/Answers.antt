@@ -1,20 +1,38 @@
-use Rattle.std.proofs.Common.{ℕ, List, length, subst, sym}
-use Rattle.bao_tasks.specs.Replayed.{IsReplayOf}
+use Rattle.std.proofs.Common.{◌≡◌, ℕ, List, refl, subst, sym, ap}
+use Rattle.bao_tasks.specs.Replayed.{IsRun, OfFiles}
 use Rattle.bao_command.specs.Printed.{CommandPrints}
 use Rattle.bao_command.specs.Tasks.{IsReplay}
-use Rattle.bao_command.proofs.Telling.{on_printed, told_prints}
+use Rattle.bao_command.proofs.Refusals.{replay_refused}
+use Rattle.bao_command.proofs.Telling.{no_refusal, on_printed, told_prints}
+use Rattle.bao_command.proofs.Due.{file_due}
 use Rattle.bao_command.proofs.commands.replay.Goals as goal
 
 pub returns-in-Ok-clause-answer : goal.returns-in-Ok-clause-answer
 returns-in-Ok-clause-answer g c =
     let mode = c.args.mode.now in
     let root = c.in_ok-root.root in
-    let count : ℕ = length c.args.files.now in
+    let at = g.D.Disk.at c.args.disk.now in
     let text : List ℕ = c.as_slice.result.now in
     let old = g.O.Write.contents c.args.out.now in
     let new = g.O.Write.contents c.print_text.new.out in
-    let run : IsReplayOf mode root c.args.capacity count text =
-    subst (IsReplayOf mode root c.args.capacity count) (sym c.as_slice.ensures.value) c.in-Ok.ensures.answer in
-    let right : IsReplay mode c.args.digits.now c.args.capacity count text = (root, (c.in_ok-root.ensures.ok, run)) in
+    let run : OfFiles at c.args.script.now c.args.files.now (λ lines pieces. IsRun mode root c.args.capacity lines pieces text) =
+    subst (λ (t : List ℕ). OfFiles at c.args.script.now c.args.files.now (λ lines pieces. IsRun mode root c.args.capacity lines pieces t)) (sym c.as_slice.ensures.value) c.in-Ok.ensures.answer in
+    let right : IsReplay at mode c.args.digits.now c.args.capacity c.args.script.now c.args.files.now text = (root, (c.in_ok-root.ensures.ok, run)) in
     let told = told_prints text old new c.print_text.result c.print_text.ensures.prints in
     (text, on_printed c.told.result right, subst (CommandPrints text old new) (sym c.told.ensures.prints) told)
+
+pub returns-in-Ok-clause-refused : goal.returns-in-Ok-clause-refused
+returns-in-Ok-clause-refused g c = no_refusal _ c.told.result c.told.ensures.file
+
+pub returns-in-Ok-clause-due : goal.returns-in-Ok-clause-due
+returns-in-Ok-clause-due g c = file_due _ c.told.result c.told.ensures.file
+
+pub returns-in-Err-clause-refused : goal.returns-in-Err-clause-refused
+returns-in-Err-clause-refused g c = λ is. (
+  c.in_ok-root.root,
+  (
+    c.in_ok-root.ensures.ok,
+    replay_refused (g.D.Disk.at c.args.disk.now) c.args.mode.now c.in_ok-root.root c.args.capacity c.args.script.now c.args.files.now c.replay_on.result c.in-Err.fault c.in-Err.is is
+        (λ number at. c.replay_on.ensures.illegal number at) (λ number cause at. c.replay_on.ensures.refused number cause at),
+  ),
+)

@@ -1,51 +1,86 @@
-use Rattle.std.proofs.Common.{ℕ, List, Option, Result, Ok, Err, refl}
+use Rattle.std.proofs.Common.{◌≡◌, ℕ, List, Option, Result, Ok, Err, IfErr, IsErrAnd, inl, inr, refl}
 use Rattle.b3tree.specs.declared.mode.Mode.{Mode}
+use Rattle.bao_files.specs.Disks.{FileState, KeepsFiles}
 use Rattle.bao_command.specs.declared.fault.Fault.{Fault}
 use Rattle.bao_command.specs.declared.fault.Fault.TheVariants.{Word, Root, Key, KeyAndContext, KeyFile, KeyFileAndOthers, OutputRange, TooManyFiles, OutIsOutput, OutLeadsToOutput, LongAndOthers, ListIsOut, ListIsRead, ListLeadsToOther, File, Decode, Gather, Replay}
 use Rattle.bao_files.specs.declared.fault.FileFault.TheVariants as file
 use Rattle.bao_request.specs.declared.tasks.Request.{Request}
+use Rattle.bao_command.specs.Effects.{Writes, list_of}
 use Rattle.bao_command.specs.Printed.{CommandPrints, OnPrinted}
 use Rattle.bao_command.specs.ModeWords.{HasMode}
-use Rattle.bao_command.specs.Tasks.{Answers, GoesApart, IsRight, line_of}
+use Rattle.bao_command.specs.Refused.{IsRefused, IsRefusedFor}
+use Rattle.bao_command.specs.Status.{status_of}
+use Rattle.bao_command.specs.Tasks.{Answers, GoesApart, IsRight, LeavesFiles, LeavesFilesOf, line_of}
 use Rattle.bao_command.proofs.Due.{mode_due, task_due}
-use Rattle.bao_command.proofs.Modes.{mode_answer}
+use Rattle.bao_command.proofs.Modes.{mode_answer, mode_refuses_none}
+use Rattle.bao_command.proofs.Telling.{other_status, usage_refuses_none}
 use Rattle.bao_command.proofs.commands.serve.Goals as goal
 
--- what was printed of the line in the request's mode answers the request
-answers : (request : Request) (mode : Mode) (bytes : List ℕ) (old new : Option (List ℕ)) (result : Result Unit Fault) →
-    HasMode request mode → GoesApart request → OnPrinted result (IsRight mode request.task bytes) → CommandPrints (line_of mode request.task bytes) old new result → Answers request old new result
-answers request mode bytes old new (Ok done) has apart right prints = (mode, bytes, has, apart, right, prints)
-answers request mode bytes old new (Err Word) has apart right prints = prints
-answers request mode bytes old new (Err Root) has apart right prints = prints
-answers request mode bytes old new (Err Key) has apart right prints = prints
-answers request mode bytes old new (Err KeyAndContext) has apart right prints = prints
-answers request mode bytes old new (Err KeyFile) has apart right prints = prints
-answers request mode bytes old new (Err KeyFileAndOthers) has apart right prints = prints
-answers request mode bytes old new (Err OutputRange) has apart right prints = prints
-answers request mode bytes old new (Err TooManyFiles) has apart right prints = prints
-answers request mode bytes old new (Err OutIsOutput) has apart right prints = prints
-answers request mode bytes old new (Err OutLeadsToOutput) has apart right prints = prints
-answers request mode bytes old new (Err LongAndOthers) has apart right prints = prints
-answers request mode bytes old new (Err ListIsOut) has apart right prints = prints
-answers request mode bytes old new (Err ListIsRead) has apart right prints = prints
-answers request mode bytes old new (Err ListLeadsToOther) has apart right prints = prints
-answers request mode bytes old new (Err (File (file.Read path))) has apart right prints = prints
-answers request mode bytes old new (Err (File (file.Write path))) has apart right prints = prints
-answers request mode bytes old new (Err (File file.Output)) has apart right prints = (mode, bytes, has, apart, right refl, prints)
-answers request mode bytes old new (Err (File file.Encoding)) has apart right prints = prints
-answers request mode bytes old new (Err (File file.Memory)) has apart right prints = prints
-answers request mode bytes old new (Err (Decode fault)) has apart right prints = prints
-answers request mode bytes old new (Err (Gather fault)) has apart right prints = prints
-answers request mode bytes old new (Err (Replay fault)) has apart right prints = prints
+module _ (request : Request) (at after : List ℕ → FileState) (mode : Mode) (has : HasMode at request mode) where
+  -- what was printed of the line in the request's mode answers the request
+  answers : (bytes : List ℕ) (old new : Option (List ℕ)) (result : Result Unit Fault) → GoesApart request
+      → OnPrinted result (IsRight at mode request.task bytes × Writes at after mode request.task (list_of request.task) bytes)
+      → CommandPrints (line_of mode request.task bytes) old new result → Answers request at after old new result
+  answers bytes old new (Ok done) apart right prints = (mode, bytes, has, apart, right.0, right.1, prints)
+  answers bytes old new (Err Word) apart right prints = prints
+  answers bytes old new (Err Root) apart right prints = prints
+  answers bytes old new (Err Key) apart right prints = prints
+  answers bytes old new (Err KeyAndContext) apart right prints = prints
+  answers bytes old new (Err KeyFile) apart right prints = prints
+  answers bytes old new (Err KeyFileAndOthers) apart right prints = prints
+  answers bytes old new (Err OutputRange) apart right prints = prints
+  answers bytes old new (Err TooManyFiles) apart right prints = prints
+  answers bytes old new (Err OutIsOutput) apart right prints = prints
+  answers bytes old new (Err OutLeadsToOutput) apart right prints = prints
+  answers bytes old new (Err LongAndOthers) apart right prints = prints
+  answers bytes old new (Err ListIsOut) apart right prints = prints
+  answers bytes old new (Err ListIsRead) apart right prints = prints
+  answers bytes old new (Err ListLeadsToOther) apart right prints = prints
+  answers bytes old new (Err (File (file.Read path))) apart right prints = prints
+  answers bytes old new (Err (File (file.Write path))) apart right prints = prints
+  answers bytes old new (Err (File file.Output)) apart right prints = (mode, bytes, has, apart, (right refl).0, (right refl).1, prints)
+  answers bytes old new (Err (File file.Encoding)) apart right prints = prints
+  answers bytes old new (Err (File file.Memory)) apart right prints = prints
+  answers bytes old new (Err (Decode fault)) apart right prints = prints
+  answers bytes old new (Err (Gather fault)) apart right prints = prints
+  answers bytes old new (Err (Replay fault)) apart right prints = prints
+
+  -- what the task's fault leaves and refuses is the request's
+  leaves : (result : Result Unit Fault) → IfErr result (LeavesFiles at after mode request.task) → IfErr result (LeavesFilesOf at after request)
+  leaves (Ok done) left = tt
+  leaves (Err fault) left = inr (mode, has, left)
+
+  refuses : (sure : Type 0) (result : Result Unit Fault) → IfErr result (λ fault. status_of fault ≡ 1 → IsRefused sure at mode request.task)
+      → IfErr result (λ fault. status_of fault ≡ 1 → IsRefusedFor sure at request)
+  refuses sure (Ok done) refused = tt
+  refuses sure (Err fault) refused = λ is. (mode, has, refused is)
+
+-- before the task nothing has changed
+unchanged : (request : Request) (at : List ℕ → FileState) (result : Result Unit Fault) → IfErr result (LeavesFilesOf at at request)
+unchanged request at (Ok done) = tt
+unchanged request at (Err fault) = inl (λ path. refl)
 
 pub returns-in_ok-check_places-clause-answer : goal.returns-in_ok-check_places-clause-answer
 returns-in_ok-check_places-clause-answer g c =
-    let request = c.args.request.now in
-    answers request c.in_ok-mode.mode c.serve_task.ensures.prints.0 (g.O.Write.contents c.args.out.now) (g.O.Write.contents c.serve_task.new.out) c.serve_task.result c.in_ok-mode.ensures.mode (c.writes_apart.ensures.yes c.if-writes_apart.true, c.in_ok-check_list.ensures.clash, c.in_ok-check_list.ensures.read) c.serve_task.ensures.prints.1 c.serve_task.ensures.prints.2
+    let prints = c.serve_task.ensures.prints in
+    answers c.args.request.now (g.D.Disk.at c.args.disk.now) (g.D.Disk.at c.serve_task.new.disk) c.in_ok-mode.mode c.in_ok-mode.ensures.mode prints.0 (g.O.Write.contents c.args.out.now)
+    (g.O.Write.contents c.serve_task.new.out) c.serve_task.result (c.writes_apart.ensures.yes c.if-writes_apart.true, c.in_ok-check_list.ensures.clash, c.in_ok-check_list.ensures.read) prints.1 prints.2
+
+pub returns-in_ok-check_places-clause-files : goal.returns-in_ok-check_places-clause-files
+returns-in_ok-check_places-clause-files g c =
+    leaves c.args.request.now (g.D.Disk.at c.args.disk.now) (g.D.Disk.at c.serve_task.new.disk) c.in_ok-mode.mode c.in_ok-mode.ensures.mode c.serve_task.result c.serve_task.ensures.files
+
+pub returns-in_ok-check_places-clause-refused : goal.returns-in_ok-check_places-clause-refused
+returns-in_ok-check_places-clause-refused g c =
+    refuses c.args.request.now (g.D.Disk.at c.args.disk.now) (g.D.Disk.at c.serve_task.new.disk) c.in_ok-mode.mode c.in_ok-mode.ensures.mode (g.D.Disk.faultless c.args.disk.now) c.serve_task.result c.serve_task.ensures.refused
 
 pub returns-in_err-mode-clause-answer : goal.returns-in_err-mode-clause-answer
 returns-in_err-mode-clause-answer g c =
-    mode_answer c.args.request.now (g.O.Write.contents c.args.out.now) c.from_residual-in_err-mode.result _ c.from_residual-in_err-mode.ensures.1 c.in_err-mode.ensures.fault
+    mode_answer c.args.request.now (g.D.Disk.at c.args.disk.now) (g.O.Write.contents c.args.out.now) c.from_residual-in_err-mode.result _ c.from_residual-in_err-mode.ensures.1 c.in_err-mode.ensures.fault
+
+pub returns-in_err-mode-clause-refused : goal.returns-in_err-mode-clause-refused
+returns-in_err-mode-clause-refused g c =
+    other_status _ c.from_residual-in_err-mode.result _ c.from_residual-in_err-mode.ensures.1 (mode_refuses_none c.args.request.now.key_file _ c.in_err-mode.ensures.fault)
 
 pub returns-in_err-mode-clause-due : goal.returns-in_err-mode-clause-due
 returns-in_err-mode-clause-due g c = mode_due c.args.request.now c.from_residual-in_err-mode.result _ c.from_residual-in_err-mode.ensures.1 c.in_err-mode.ensures.due

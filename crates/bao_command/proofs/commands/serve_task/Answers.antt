@@ -1,57 +1,215 @@
-use Rattle.std.proofs.Common.{◌≤◌, ℕ, List, length, Result, Ok, Err, Bor, subst, sym}
-use Rattle.bao_command.specs.declared.fault.Fault.{Fault}
-use Rattle.bao_command.specs.Printed.{CommandPrints, OnPrinted}
-use Rattle.bao_command.specs.Tasks.{IsReplay, IsRight, line_of}
+use Rattle.std.proofs.Common.{◌≡◌, ◌≤◌, ℕ, List, Option, None, length, Result, Ok, Err, IfErr, Bor, inl, inr, refl, subst, sym}
+use Rattle.b3tree.specs.declared.mode.Mode.{Mode}
+use Rattle.bao_files.specs.Disks.{FileState, KeepsFiles}
 use Rattle.bao_request.specs.declared.tasks.Task.{Task}
+use Rattle.bao_request.specs.declared.tasks.Task.TheVariants.{CutSlice, Decode, DecodeCopy, Encode}
+use Rattle.bao_tasks.specs.declared.gathering.Gathering.{Gathering}
+use Rattle.bao_command.specs.declared.fault.Fault.{Fault}
+use Rattle.bao_command.specs.Effects.{Writes, list_of}
+use Rattle.bao_command.specs.Printed.{CommandPrints, OnPrinted}
+use Rattle.bao_command.specs.Refused.{IsRefused, IsRefusedGathering, IsRefusedReplay, OfRoot}
+use Rattle.bao_command.specs.Status.{status_of}
+use Rattle.bao_command.specs.Tasks.{IsOfFile, IsReplay, IsRight, LeavesFiles, line_of}
+use Rattle.bao_command.specs.Works.{CopiesRight, CutsRight, DecodesRight, EncodesRight, Leaves, LeavesGathered}
+use Rattle.bao_command.proofs.Due.{file_due}
+use Rattle.bao_command.proofs.Telling.{both_printed, no_refusal, on_printed}
 use Rattle.bao_command.proofs.commands.serve_task.Goals as goal
 
-both : (P Q : Type 0) (result : Result Unit Fault) → OnPrinted result P → OnPrinted result Q → OnPrinted result (P × Q)
-both P Q (Ok done) p q = (p, q)
-both P Q (Err fault) p q = λ is. (p is, q is)
+-- what a task's fault leaves, where it has no list
+left_by : (at after : List ℕ → FileState) (mode : Mode) (task : Task) (Did : List ℕ → Type 0) (result : Result Unit Fault)
+    → ((bytes : List ℕ) → Did bytes → IsRight at mode task bytes × Writes at after mode task None bytes) → IfErr result (Leaves at after Did) → IfErr result (LeavesFiles at after mode task)
+left_by at after mode task Did (Ok done) step leaves = tt
+left_by at after mode task Did (Err fault) step (inl kept) = inl (inl kept)
+left_by at after mode task Did (Err fault) step (inr did) = inr (did.0, (did.1.0, (step did.1.0 did.1.1).0, inr (step did.1.0 did.1.1).1))
 
-pub returns-in-Gather-clause-prints : goal.returns-in-Gather-clause-prints
-returns-in-Gather-clause-prints g c =
-    let result : Result Unit Fault = c.gather.result in
-    let mode = c.args.mode.now in
-    let old = g.O.Write.contents c.args.out.now in
-    let new = g.O.Write.contents c.gather.new.out in
-    let few : OnPrinted result (length c.in-Gather.files.items ≤ 64) =
-    subst (λ (files : List (Bor (List ℕ))). OnPrinted result (length files ≤ 64)) c.as_slice-files.ensures.value c.gather.ensures.few in
-    let answer = c.gather.ensures.answer in
-    let prints =
-    subst (λ (task : Task). (bytes : List ℕ) × OnPrinted result (IsRight mode task bytes) × CommandPrints (line_of mode task bytes) old new result) (sym c.in-Gather.is)
-    (answer.0, both _ _ result few (both _ _ result answer.1 c.gather.ensures.beside), answer.2) in
-    prints
+-- and where it does nothing to the files
+untouched : (at : List ℕ → FileState) (mode : Mode) (task : Task) (result : Result Unit Fault) → IfErr result (LeavesFiles at at mode task)
+untouched at mode task (Ok done) = tt
+untouched at mode task (Err fault) = inl (inl (λ path. refl))
 
-pub returns-in-Replay-clause-prints : goal.returns-in-Replay-clause-prints
-returns-in-Replay-clause-prints g c =
-    let result : Result Unit Fault = c.replay.result in
+regrouped : (P Q R : Type 0) (result : Result Unit Fault) → OnPrinted result P → OnPrinted result (Q × R) → OnPrinted result ((P × Q) × R)
+regrouped P Q R (Ok done) p q = ((p, q.0), q.1)
+regrouped P Q R (Err fault) p q = λ is. ((p is, (q is).0), (q is).1)
+
+pub returns-in-Hash-clause-prints : goal.returns-in-Hash-clause-prints
+returns-in-Hash-clause-prints g c =
+    let result : Result Unit Fault = c.hash.result in
     let mode = c.args.mode.now in
+    let at = g.D.Disk.at c.args.disk.now in
+    let after = at in
     let old = g.O.Write.contents c.args.out.now in
-    let new = g.O.Write.contents c.replay.new.out in
-    let answer = c.replay.ensures.answer in
-    let right : OnPrinted result ((length c.in-Replay.files.items ≤ 64) × IsReplay mode c.in-Replay.root.now c.in-Replay.capacity (length c.in-Replay.files.items) answer.0) =
+    let new = g.O.Write.contents c.hash.new.out in
+    let prints = c.hash.ensures.prints in
     subst
-    (λ (files : List (Bor (List ℕ))). OnPrinted result ((length files ≤ 64) × IsReplay mode c.in-Replay.root.now c.in-Replay.capacity (length files) answer.0))
-    c.as_slice.ensures.value
-    (both _ _ result c.replay.ensures.few answer.1) in
-    let prints =
-    subst (λ (task : Task). (bytes : List ℕ) × OnPrinted result (IsRight mode task bytes) × CommandPrints (line_of mode task bytes) old new result) (sym c.in-Replay.is)
-    (answer.0, right, answer.2) in
-    prints
+    (λ (task : Task). (bytes : List ℕ) × OnPrinted result (IsRight at mode task bytes × Writes at after mode task (list_of task) bytes) × CommandPrints (line_of mode task bytes) old new result)
+    (sym c.in-Hash.is) (prints.0, both_printed _ _ result prints.1 (on_printed result (λ path. refl)), prints.2)
 
-pub returns-in-Decode-clause-prints : goal.returns-in-Decode-clause-prints
-returns-in-Decode-clause-prints g c =
-    let result : Result Unit Fault = c.decode.result in
+pub returns-in-Encode-clause-prints : goal.returns-in-Encode-clause-prints
+returns-in-Encode-clause-prints g c =
+    let result : Result Unit Fault = c.encode.result in
     let mode = c.args.mode.now in
+    let at = g.D.Disk.at c.args.disk.now in
+    let after = g.D.Disk.at c.encode.new.disk in
     let old = g.O.Write.contents c.args.out.now in
-    let new = g.O.Write.contents c.decode.new.out in
-    subst (λ (task : Task). (bytes : List ℕ) × OnPrinted result (IsRight mode task bytes) × CommandPrints (line_of mode task bytes) old new result) (sym c.in-Decode.is) c.decode.ensures.prints
+    let new = g.O.Write.contents c.encode.new.out in
+    let prints = c.encode.ensures.prints in
+    subst
+    (λ (task : Task). (bytes : List ℕ) × OnPrinted result (IsRight at mode task bytes × Writes at after mode task (list_of task) bytes) × CommandPrints (line_of mode task bytes) old new result)
+    (sym c.in-Encode.is) prints
 
 pub returns-in-CutSlice-clause-prints : goal.returns-in-CutSlice-clause-prints
 returns-in-CutSlice-clause-prints g c =
     let result : Result Unit Fault = c.cut_slice.result in
     let mode = c.args.mode.now in
+    let at = g.D.Disk.at c.args.disk.now in
+    let after = g.D.Disk.at c.cut_slice.new.disk in
     let old = g.O.Write.contents c.args.out.now in
     let new = g.O.Write.contents c.cut_slice.new.out in
-    subst (λ (task : Task). (bytes : List ℕ) × OnPrinted result (IsRight mode task bytes) × CommandPrints (line_of mode task bytes) old new result) (sym c.in-CutSlice.is) c.cut_slice.ensures.prints
+    let prints = c.cut_slice.ensures.prints in
+    subst
+    (λ (task : Task). (bytes : List ℕ) × OnPrinted result (IsRight at mode task bytes × Writes at after mode task (list_of task) bytes) × CommandPrints (line_of mode task bytes) old new result)
+    (sym c.in-CutSlice.is) prints
+
+pub returns-in-Decode-clause-prints : goal.returns-in-Decode-clause-prints
+returns-in-Decode-clause-prints g c =
+    let result : Result Unit Fault = c.decode.result in
+    let mode = c.args.mode.now in
+    let at = g.D.Disk.at c.args.disk.now in
+    let after = g.D.Disk.at c.decode.new.disk in
+    let old = g.O.Write.contents c.args.out.now in
+    let new = g.O.Write.contents c.decode.new.out in
+    let prints = c.decode.ensures.prints in
+    subst
+    (λ (task : Task). (bytes : List ℕ) × OnPrinted result (IsRight at mode task bytes × Writes at after mode task (list_of task) bytes) × CommandPrints (line_of mode task bytes) old new result)
+    (sym c.in-Decode.is) prints
+
+pub returns-in-DecodeCopy-clause-prints : goal.returns-in-DecodeCopy-clause-prints
+returns-in-DecodeCopy-clause-prints g c =
+    let result : Result Unit Fault = c.decode_beside.result in
+    let mode = c.args.mode.now in
+    let at = g.D.Disk.at c.args.disk.now in
+    let after = g.D.Disk.at c.decode_beside.new.disk in
+    let old = g.O.Write.contents c.args.out.now in
+    let new = g.O.Write.contents c.decode_beside.new.out in
+    let prints = c.decode_beside.ensures.prints in
+    subst
+    (λ (task : Task). (bytes : List ℕ) × OnPrinted result (IsRight at mode task bytes × Writes at after mode task (list_of task) bytes) × CommandPrints (line_of mode task bytes) old new result)
+    (sym c.in-DecodeCopy.is) prints
+
+pub returns-in-Gather-clause-prints : goal.returns-in-Gather-clause-prints
+returns-in-Gather-clause-prints g c =
+    let result : Result Unit Fault = c.gather.result in
+    let mode = c.args.mode.now in
+    let at = g.D.Disk.at c.args.disk.now in
+    let after = g.D.Disk.at c.gather.new.disk in
+    let old = g.O.Write.contents c.args.out.now in
+    let new = g.O.Write.contents c.gather.new.out in
+    let prints = c.gather.ensures.answer in
+    subst
+    (λ (task : Task). (bytes : List ℕ) × OnPrinted result (IsRight at mode task bytes × Writes at after mode task (list_of task) bytes) × CommandPrints (line_of mode task bytes) old new result)
+    (sym c.in-Gather.is) (
+      prints.0,
+      regrouped _ _ _ result
+          (subst (λ (files : List (Bor (List ℕ))). OnPrinted result (length files ≤ 64)) c.as_slice-files.ensures.value c.gather.ensures.few) prints.1,
+      prints.2,
+    )
+
+pub returns-in-Replay-clause-prints : goal.returns-in-Replay-clause-prints
+returns-in-Replay-clause-prints g c =
+    let result : Result Unit Fault = c.replay.result in
+    let mode = c.args.mode.now in
+    let at = g.D.Disk.at c.args.disk.now in
+    let after = at in
+    let old = g.O.Write.contents c.args.out.now in
+    let new = g.O.Write.contents c.replay.new.out in
+    let prints = c.replay.ensures.answer in
+    subst
+    (λ (task : Task). (bytes : List ℕ) × OnPrinted result (IsRight at mode task bytes × Writes at after mode task (list_of task) bytes) × CommandPrints (line_of mode task bytes) old new result)
+    (sym c.in-Replay.is) (
+      prints.0,
+      both_printed _ _ result
+          (subst (λ (files : List (Bor (List ℕ))). OnPrinted result ((length files ≤ 64) × IsReplay at mode c.in-Replay.root.now c.in-Replay.capacity c.in-Replay.script.now files prints.0)) c.as_slice-files-in-Replay.ensures.value
+          (both_printed _ _ result c.replay.ensures.few prints.1)) (on_printed result (λ path. refl)),
+      prints.2,
+    )
+
+pub returns-in-Hash-clause-files : goal.returns-in-Hash-clause-files
+returns-in-Hash-clause-files g c = untouched (g.D.Disk.at c.args.disk.now) c.args.mode.now c.args.task.now c.hash.result
+
+pub returns-in-Replay-clause-files : goal.returns-in-Replay-clause-files
+returns-in-Replay-clause-files g c = untouched (g.D.Disk.at c.args.disk.now) c.args.mode.now c.args.task.now c.replay.result
+
+pub returns-in-Encode-clause-files : goal.returns-in-Encode-clause-files
+returns-in-Encode-clause-files g c =
+    let at = g.D.Disk.at c.args.disk.now in
+    let after = g.D.Disk.at c.encode.new.disk in
+    subst (λ (task : Task). IfErr c.encode.result (LeavesFiles at after c.args.mode.now task)) (sym c.in-Encode.is)
+    (left_by at after c.args.mode.now (Encode c.in-Encode.encoding c.in-Encode.file c.in-Encode.path) (EncodesRight at after c.args.mode.now c.in-Encode.encoding c.in-Encode.file.now c.in-Encode.path.now) c.encode.result (λ bytes did. did) c.encode.ensures.files)
+
+pub returns-in-CutSlice-clause-files : goal.returns-in-CutSlice-clause-files
+returns-in-CutSlice-clause-files g c =
+    let at = g.D.Disk.at c.args.disk.now in
+    let after = g.D.Disk.at c.cut_slice.new.disk in
+    subst (λ (task : Task). IfErr c.cut_slice.result (LeavesFiles at after c.args.mode.now task)) (sym c.in-CutSlice.is)
+    (left_by at after c.args.mode.now (CutSlice c.in-CutSlice.root c.in-CutSlice.start c.in-CutSlice.len c.in-CutSlice.outboard c.in-CutSlice.verbose c.in-CutSlice.file c.in-CutSlice.path) (CutsRight at after c.args.mode.now c.in-CutSlice.root.now c.in-CutSlice.start c.in-CutSlice.len c.in-CutSlice.outboard c.in-CutSlice.file.now c.in-CutSlice.path.now) c.cut_slice.result (λ bytes did. did) c.cut_slice.ensures.files)
+
+pub returns-in-Decode-clause-files : goal.returns-in-Decode-clause-files
+returns-in-Decode-clause-files g c =
+    let at = g.D.Disk.at c.args.disk.now in
+    let after = g.D.Disk.at c.decode.new.disk in
+    subst (λ (task : Task). IfErr c.decode.result (LeavesFiles at after c.args.mode.now task)) (sym c.in-Decode.is)
+    (left_by at after c.args.mode.now (Decode c.in-Decode.root c.in-Decode.part c.in-Decode.verbose c.in-Decode.file c.in-Decode.path) (DecodesRight at after c.args.mode.now c.in-Decode.root.now c.in-Decode.part c.in-Decode.file.now c.in-Decode.path.now) c.decode.result (λ bytes did. did) c.decode.ensures.files)
+
+pub returns-in-DecodeCopy-clause-files : goal.returns-in-DecodeCopy-clause-files
+returns-in-DecodeCopy-clause-files g c =
+    let at = g.D.Disk.at c.args.disk.now in
+    let after = g.D.Disk.at c.decode_beside.new.disk in
+    subst (λ (task : Task). IfErr c.decode_beside.result (LeavesFiles at after c.args.mode.now task)) (sym c.in-DecodeCopy.is)
+    (left_by at after c.args.mode.now (DecodeCopy c.in-DecodeCopy.root c.in-DecodeCopy.outboard c.in-DecodeCopy.verbose c.in-DecodeCopy.copy c.in-DecodeCopy.path) (CopiesRight at after c.args.mode.now c.in-DecodeCopy.root.now c.in-DecodeCopy.outboard.now c.in-DecodeCopy.copy.now c.in-DecodeCopy.path.now) c.decode_beside.result (λ bytes did. did) c.decode_beside.ensures.files)
+
+pub returns-in-Gather-clause-files : goal.returns-in-Gather-clause-files
+returns-in-Gather-clause-files g c =
+    let result : Result Unit Fault = c.gather.result in
+    let at = g.D.Disk.at c.args.disk.now in
+    let how : Gathering = record { workers = c.in-Gather.workers; capacity = c.in-Gather.capacity; long = c.in-Gather.long; encode = c.in-Gather.encode; count = c.in-Gather.verbose; parts = c.parts_asked.result; grain = c.grain_of.result } in
+    let after = g.D.Disk.at c.gather.new.disk in
+    subst (λ (task : Task). IfErr result (LeavesFiles at after c.args.mode.now task)) (sym c.in-Gather.is)
+    (subst (λ (files : List (Bor (List ℕ))). IfErr result (LeavesGathered at after c.args.mode.now c.in-Gather.root.now how c.in-Gather.outboard c.in-Gather.path.now c.in-Gather.missing (length files)))
+    c.as_slice-files.ensures.value c.gather.ensures.files)
+
+pub returns-in-Hash-clause-refused : goal.returns-in-Hash-clause-refused
+returns-in-Hash-clause-refused g c =
+    subst (λ (task : Task). IfErr c.hash.result (λ fault. status_of fault ≡ 1 → IsRefused (g.D.Disk.faultless c.args.disk.now) (g.D.Disk.at c.args.disk.now) c.args.mode.now task)) (sym c.in-Hash.is) c.hash.ensures.refused
+
+pub returns-in-CutSlice-clause-refused : goal.returns-in-CutSlice-clause-refused
+returns-in-CutSlice-clause-refused g c =
+    subst (λ (task : Task). IfErr c.cut_slice.result (λ fault. status_of fault ≡ 1 → IsRefused (g.D.Disk.faultless c.args.disk.now) (g.D.Disk.at c.args.disk.now) c.args.mode.now task)) (sym c.in-CutSlice.is) c.cut_slice.ensures.refused
+
+pub returns-in-Decode-clause-refused : goal.returns-in-Decode-clause-refused
+returns-in-Decode-clause-refused g c =
+    subst (λ (task : Task). IfErr c.decode.result (λ fault. status_of fault ≡ 1 → IsRefused (g.D.Disk.faultless c.args.disk.now) (g.D.Disk.at c.args.disk.now) c.args.mode.now task)) (sym c.in-Decode.is) c.decode.ensures.refused
+
+pub returns-in-DecodeCopy-clause-refused : goal.returns-in-DecodeCopy-clause-refused
+returns-in-DecodeCopy-clause-refused g c =
+    subst (λ (task : Task). IfErr c.decode_beside.result (λ fault. status_of fault ≡ 1 → IsRefused (g.D.Disk.faultless c.args.disk.now) (g.D.Disk.at c.args.disk.now) c.args.mode.now task)) (sym c.in-DecodeCopy.is) c.decode_beside.ensures.refused
+
+pub returns-in-Encode-clause-refused : goal.returns-in-Encode-clause-refused
+returns-in-Encode-clause-refused g c = no_refusal _ c.encode.result c.encode.ensures.file
+
+pub returns-in-Encode-clause-due : goal.returns-in-Encode-clause-due
+returns-in-Encode-clause-due g c = file_due _ c.encode.result c.encode.ensures.file
+
+pub returns-in-Gather-clause-refused : goal.returns-in-Gather-clause-refused
+returns-in-Gather-clause-refused g c =
+    let sure : Type 0 = g.D.Disk.faultless c.args.disk.now in
+    let at = g.D.Disk.at c.args.disk.now in
+    subst (λ (task : Task). IfErr c.gather.result (λ fault. status_of fault ≡ 1 → IsRefused sure at c.args.mode.now task)) (sym c.in-Gather.is)
+    (subst (λ (files : List (Bor (List ℕ))). IfErr c.gather.result (λ fault. status_of fault ≡ 1
+    → OfRoot c.in-Gather.root.now (IsRefusedGathering sure at c.args.mode.now c.in-Gather.encode c.in-Gather.long c.in-Gather.capacity c.in-Gather.outboard files c.in-Gather.path.now)))
+    c.as_slice-files.ensures.value c.gather.ensures.refused)
+
+pub returns-in-Replay-clause-refused : goal.returns-in-Replay-clause-refused
+returns-in-Replay-clause-refused g c =
+    subst (λ (task : Task). IfErr c.replay.result (λ fault. status_of fault ≡ 1 → IsRefused (g.D.Disk.faultless c.args.disk.now) (g.D.Disk.at c.args.disk.now) c.args.mode.now task)) (sym c.in-Replay.is)
+    (subst (λ (files : List (Bor (List ℕ))). IfErr c.replay.result (λ fault. status_of fault ≡ 1
+    → IsRefusedReplay (g.D.Disk.at c.args.disk.now) c.args.mode.now c.in-Replay.root.now c.in-Replay.capacity c.in-Replay.script.now files)) c.as_slice-files-in-Replay.ensures.value c.replay.ensures.refused)

@@ -1,10 +1,26 @@
-use Rattle.std.proofs.Common.{ℕ, ◌≡◌, ◌⊎◌, ◌∙◌, sym, inl, inr}
+use Rattle.std.proofs.Common.{ℕ, List, ◌≡◌, ◌⊎◌, ◌∙◌, sym, inl, inr}
 use Rattle.std.specs.Process.{exit_status}
+use Rattle.b3tree.specs.declared.mode.Mode.{Mode}
+use Rattle.bao_files.specs.Disks.{FileState, Unknown}
+use Rattle.bao_request.specs.declared.tasks.Task.{Task}
+use Rattle.bao_request.specs.declared.tasks.Task.TheVariants.{Hash, Encode, CutSlice, Decode, DecodeCopy, Gather, Replay}
+use Rattle.bao_command.specs.Refused.{IsRefused}
+use Rattle.bao_command.specs.Tasks.{Decodes, Gathers, Replays}
 use Rattle.bao_command.proofs.program.run.Goals as goal
 
 either_as : {m n a b : ℕ} → n ≡ m → (m ≡ a) ⊎ (m ≡ b) → (n ≡ a) ⊎ (n ≡ b)
 either_as is (inl one) = inl (is ∙ one)
 either_as is (inr other) = inr (is ∙ other)
+
+-- a task that has something to refuse is one of these
+may_refuse : (sure : Type 0) (at : List ℕ → FileState) (mode : Mode) (task : Task) → IsRefused sure at mode task → Decodes task ⊎ Gathers task ⊎ Replays task
+may_refuse sure at mode (Hash from count file) refused = absurd refused
+may_refuse sure at mode (Encode encoding file out) refused = absurd refused
+may_refuse sure at mode (CutSlice root start len outboard verbose file out) refused = inl tt
+may_refuse sure at mode (Decode root part verbose file out) refused = inl tt
+may_refuse sure at mode (DecodeCopy root outboard verbose copy out) refused = inl tt
+may_refuse sure at mode (Gather root workers capacity long outboard salvage encode verbose missing files out) refused = inr (inl tt)
+may_refuse sure at mode (Replay root capacity script files) refused = inr (inr tt)
 
 pub returns-clause-outcome : goal.returns-clause-outcome
 returns-clause-outcome g c =
@@ -15,5 +31,5 @@ returns-clause-outcome g c =
       fault = λ some other. c.command.ensures.fault (λ is. some (status ∙ is)) (λ is. other (status ∙ is));
       refused = λ refused. either_as status (c.command.ensures.refused refused);
       usage = λ is. c.command.ensures.usage (sym status ∙ is);
-      refusal = λ is. c.command.ensures.refusal (sym status ∙ is);
+      refusal = λ is. let refused = c.command.ensures.refusal (sym status ∙ is) in (refused.0, refused.1, may_refuse ⊥ (λ _. Unknown) refused.2.0 refused.0.task refused.2.2);
     }

@@ -1,0 +1,216 @@
+use Rattle.std.proofs.Common.{◌≡◌, ◌≢◌, ◌≤◌, ◌⊎◌, ℕ, List, [], Option, None, Some, length, Result, Ok, Err, Bor, IfErr, IfOk, IsErrAnd, OnErr, OnOk, inl, inr, arith, refl, subst, sym, ap, ◌∙◌}
+use Rattle.b3tree.specs.declared.mode.Mode.{Mode}
+use Rattle.gather.specs.declared.fault.GatherFault.TheVariants as gather
+use Rattle.bao_text.specs.Texts.{combined_text}
+use Rattle.bao_files.specs.Disks.{FileState, IsKnown, KeepsFiles, Puts}
+use Rattle.bao_files.specs.Printed as file
+use Rattle.bao_files.specs.Printed.{ok_line}
+use Rattle.bao_tasks.specs.FromFiles.{IsExcusedGathering, IsPutAt}
+use Rattle.bao_tasks.specs.Gathered.{HasOutlineIn, HasRootAndFits, gathered_text}
+use Rattle.bao_tasks.specs.declared.gathered_fault.GatheredFault.{GatheredFault}
+use Rattle.bao_tasks.specs.declared.gathered_fault.GatheredFault.TheVariants.{File, Gather, Outboard}
+use Rattle.bao_tasks.specs.declared.gathering.Gathering.{Gathering}
+use Rattle.bao_command.specs.declared.fault.Fault.{Fault}
+use Rattle.bao_tasks.specs.Listed.{lines_of_parts}
+use Rattle.bao_command.specs.Effects.{KeepsButList, Lists}
+use Rattle.bao_command.specs.Printed.{CommandPrints}
+use Rattle.bao_command.specs.Refused.{IsRefusedGathering}
+use Rattle.bao_command.specs.Status.{gathered_status_of}
+use Rattle.bao_command.specs.Tasks.{IsBeside, IsOfFile}
+use Rattle.bao_command.specs.Works.{IsRightBlob, LeavesGathered}
+use Rattle.bao_command.proofs.Telling.{file_refuses_none, no_refusal, on_printed, told_prints}
+use Rattle.bao_command.proofs.gathering.gather.Goals as goal
+use Rattle.bao_command.proofs.gathering.gather.Goals.{in-None, in-Some}
+
+-- a fault that isn't one of the files has another status than 1
+excused_status : (fault : GatheredFault) → IsExcusedGathering fault → gathered_status_of fault ≢ 1
+excused_status (File cause) excused is = file_refuses_none cause is
+excused_status (Outboard cause) excused is = absurd excused
+excused_status (Gather gather.Store) excused is = let bad : 4 ≡ 1 = is in omega arith
+excused_status (Gather gather.Capacity) excused is = let bad : 2 ≡ 1 = is in omega arith
+excused_status (Gather gather.TooLarge) excused is = absurd excused
+excused_status (Gather gather.Seat) excused is = let bad : 4 ≡ 1 = is in omega arith
+excused_status (Gather gather.Unfinished) excused is = absurd excused
+excused_status (Gather gather.NotTheRoot) excused is = absurd excused
+excused_status (Gather gather.Memory) excused is = let bad : 4 ≡ 1 = is in omega arith
+excused_status (Gather gather.Starved) excused is = let bad : 4 ≡ 1 = is in omega arith
+
+-- what is left where the list, or printing, failed after the blob was put
+list_left : (at after : List ℕ → FileState) (mode : Mode) (digits : List ℕ) (how : Gathering) (outboard : Option (Bor (List ℕ))) (out : List ℕ) (list : Option (Bor (List ℕ))) (count : ℕ)
+    (between : List ℕ → FileState) (blob : List ℕ) (result : Result Unit Fault) → IfErr result IsOfFile → count ≤ 64 → IsRightBlob at mode digits how outboard blob
+    → Puts at between out (Some (gathered_text how.encode mode blob)) → KeepsFiles between after → IfErr result (LeavesGathered at after mode digits how outboard out list count)
+list_left at after mode digits how outboard out list count between blob (Ok done) of few right put kept = tt
+list_left at after mode digits how outboard out list count between blob (Err fault) of few right put kept = inr (of, (blob, (few, right), inr (between, put, kept)))
+
+print_left : (at after : List ℕ → FileState) (mode : Mode) (digits : List ℕ) (how : Gathering) (outboard : Option (Bor (List ℕ))) (out : List ℕ) (list : Option (Bor (List ℕ))) (count : ℕ)
+    (between : List ℕ → FileState) (blob : List ℕ) (result : Result Unit Fault) → IfErr result IsOfFile → count ≤ 64 → IsRightBlob at mode digits how outboard blob
+    → Puts at between out (Some (gathered_text how.encode mode blob)) → Lists between after list [] → IfErr result (LeavesGathered at after mode digits how outboard out list count)
+print_left at after mode digits how outboard out list count between blob (Ok done) of few right put listed = tt
+print_left at after mode digits how outboard out list count between blob (Err fault) of few right put listed = inr (of, (blob, (few, right), inl (between, put, listed)))
+
+-- before the blob is put nothing has changed
+before_put : (at between after : List ℕ → FileState) → KeepsFiles at between → KeepsFiles between after → KeepsFiles at after
+before_put at between after one other path = other path ∙ one path
+
+lists_after : (at between after : List ℕ → FileState) (list : Option (Bor (List ℕ))) (lines : List ℕ) → KeepsFiles at between → Lists between after list lines → Lists at after list lines
+lists_after at between after None lines kept listed = before_put at between after kept listed
+lists_after at between after (Some list) lines kept listed = record {
+  put = λ known. listed.put (subst IsKnown (sym (kept list.now)) known);
+  kept = λ other apart. listed.kept other apart ∙ kept other;
+}
+
+but_list : (at between after : List ℕ → FileState) (list : Option (Bor (List ℕ))) → KeepsFiles at between → KeepsButList between after list → KeepsButList at after list
+but_list at between after list kept (inl also) = inl (before_put at between after kept also)
+but_list at between after list kept (inr parts) = inr (parts.0, lists_after at between after list (lines_of_parts parts.0) kept parts.1)
+
+of_residual : (result : Result Unit Fault) (fault : Fault) → IsErrAnd result (λ e. e ≡ fault) → IsOfFile fault → IfErr result IsOfFile
+of_residual (Ok done) fault is of = tt
+of_residual (Err e) fault is of = (of.0, is ∙ of.1)
+
+-- where this blob isn't put for a fault with status 1, the other is so
+other_is : {C : Type 0} (old new : List ℕ → FileState) (path : List ℕ) (how : Gathering) (mode : Mode) (blob : List ℕ) (result : Result ℕ GatheredFault) (fault : GatheredFault)
+    → result ≡ Err fault → gathered_status_of fault ≡ 1 → IsPutAt old new path how mode blob result ⊎ C → C
+other_is old new path how mode blob result fault is one (inl put) = absurd (excused_status fault (subst (IsPutAt old new path how mode blob) is put) one)
+other_is old new path how mode blob result fault is one (inr c) = c
+
+pub returns-in-Ok-gathered-clause-answer : goal.returns-in-Ok-gathered-clause-answer
+returns-in-Ok-gathered-clause-answer g c =
+    let mode = c.args.mode.now in
+    let digits : List ℕ = c.args.digits.now in
+    let key : List ℕ = c.in_ok-root.root.0 in
+    let how = c.args.how in
+    let at = g.D.Disk.at c.args.disk.now in
+    let between = g.D.Disk.at c.match-paths.disk in
+    let out : List ℕ = c.args.paths.out.now in
+    let Made : (List ℕ → FileState) → ℕ → Type 0 =
+    λ after count. (blob : List ℕ) × HasRootAndFits how mode key blob × (count ≡ length blob) × Puts at after out (Some (gathered_text how.encode mode blob)) in
+    let gathered : IfOk c.match-paths.gathered (Made between) = elim c.match-paths.branch [
+      | in-None w ↦
+          subst (λ (r : Result ℕ GatheredFault). IfOk r (Made between)) (sym w.gathered-is)
+          (subst (λ d. IfOk w.gather_on-gathered.result (Made (g.D.Disk.at d))) (sym w.disk-is) w.gather_on-gathered.ensures.done)
+      | in-Some w ↦
+          subst (λ (r : Result ℕ GatheredFault). IfOk r (Made between)) (sym w.gathered-is)
+          (subst (λ d. IfOk w.gather_beside_on-gathered.result (Made (g.D.Disk.at d))) (sym w.disk-is) w.gather_beside_on-gathered.ensures.done)
+    ] in
+    let made : Made between c.in-Ok-gathered.count = subst (λ (r : Result ℕ GatheredFault). IfOk r (Made between)) c.in-Ok-gathered.is gathered in
+    let beside : IsBeside at mode digits c.args.paths.outboard = elim c.match-paths.branch [
+      | in-None w ↦ rw w.in-None.is tt
+      | in-Some w ↦
+          let outline : HasOutlineIn (at w.in-Some.outboard.now) mode key =
+          subst (λ (r : Result ℕ GatheredFault). OnOk r (HasOutlineIn (at w.in-Some.outboard.now) mode key)) (sym w.gathered-is ∙ c.in-Ok-gathered.is) w.gather_beside_on-gathered.ensures.outline in
+          rw w.in-Some.is (key, (c.in_ok-root.ensures.ok, outline))
+    ] in
+    let right : IsRightBlob at mode digits how c.args.paths.outboard made.0 = (((key, (c.in_ok-root.ensures.ok, made.1.0)), made.1.1), beside) in
+    let line : List ℕ = ok_line (length made.0) in
+    let old = g.O.Write.contents c.args.out.now in
+    let new = g.O.Write.contents c.print_count.new.out in
+    let printed = subst (λ (n : ℕ). file.Prints (file.ok_line n) old new c.print_count.result) made.2 c.print_count.ensures.prints in
+    let told = told_prints line old new c.print_count.result printed in
+    (made.0, on_printed c.told.result (right, (between, made.3, c.in_ok-list_nothing-in-Ok-gathered.ensures.lists)), subst (CommandPrints line old new) (sym c.told.ensures.prints) told)
+
+pub returns-in-Ok-gathered-clause-files : goal.returns-in-Ok-gathered-clause-files
+returns-in-Ok-gathered-clause-files g c =
+    let mode = c.args.mode.now in
+    let digits : List ℕ = c.args.digits.now in
+    let key : List ℕ = c.in_ok-root.root.0 in
+    let how = c.args.how in
+    let at = g.D.Disk.at c.args.disk.now in
+    let between = g.D.Disk.at c.match-paths.disk in
+    let out : List ℕ = c.args.paths.out.now in
+    let Made : (List ℕ → FileState) → ℕ → Type 0 =
+    λ after count. (blob : List ℕ) × HasRootAndFits how mode key blob × (count ≡ length blob) × Puts at after out (Some (gathered_text how.encode mode blob)) in
+    let gathered : IfOk c.match-paths.gathered (Made between) = elim c.match-paths.branch [
+      | in-None w ↦
+          subst (λ (r : Result ℕ GatheredFault). IfOk r (Made between)) (sym w.gathered-is)
+          (subst (λ d. IfOk w.gather_on-gathered.result (Made (g.D.Disk.at d))) (sym w.disk-is) w.gather_on-gathered.ensures.done)
+      | in-Some w ↦
+          subst (λ (r : Result ℕ GatheredFault). IfOk r (Made between)) (sym w.gathered-is)
+          (subst (λ d. IfOk w.gather_beside_on-gathered.result (Made (g.D.Disk.at d))) (sym w.disk-is) w.gather_beside_on-gathered.ensures.done)
+    ] in
+    let made : Made between c.in-Ok-gathered.count = subst (λ (r : Result ℕ GatheredFault). IfOk r (Made between)) c.in-Ok-gathered.is gathered in
+    let beside : IsBeside at mode digits c.args.paths.outboard = elim c.match-paths.branch [
+      | in-None w ↦ rw w.in-None.is tt
+      | in-Some w ↦
+          let outline : HasOutlineIn (at w.in-Some.outboard.now) mode key =
+          subst (λ (r : Result ℕ GatheredFault). OnOk r (HasOutlineIn (at w.in-Some.outboard.now) mode key)) (sym w.gathered-is ∙ c.in-Ok-gathered.is) w.gather_beside_on-gathered.ensures.outline in
+          rw w.in-Some.is (key, (c.in_ok-root.ensures.ok, outline))
+    ] in
+    let right : IsRightBlob at mode digits how c.args.paths.outboard made.0 = (((key, (c.in_ok-root.ensures.ok, made.1.0)), made.1.1), beside) in
+    let few : length c.args.files.now ≤ 64 = omega (arith, c.if-files-gt-MOST_FILES.false) in
+    print_left at (g.D.Disk.at c.list_nothing.new.disk) mode digits how c.args.paths.outboard out c.args.paths.list (length c.args.files.now) between made.0 c.told.result c.told.ensures.file few right made.3
+    c.in_ok-list_nothing-in-Ok-gathered.ensures.lists
+
+pub returns-in_err-list_nothing-in-Ok-gathered-clause-files : goal.returns-in_err-list_nothing-in-Ok-gathered-clause-files
+returns-in_err-list_nothing-in-Ok-gathered-clause-files g c =
+    let mode = c.args.mode.now in
+    let digits : List ℕ = c.args.digits.now in
+    let key : List ℕ = c.in_ok-root.root.0 in
+    let how = c.args.how in
+    let at = g.D.Disk.at c.args.disk.now in
+    let between = g.D.Disk.at c.match-paths.disk in
+    let out : List ℕ = c.args.paths.out.now in
+    let Made : (List ℕ → FileState) → ℕ → Type 0 =
+    λ after count. (blob : List ℕ) × HasRootAndFits how mode key blob × (count ≡ length blob) × Puts at after out (Some (gathered_text how.encode mode blob)) in
+    let gathered : IfOk c.match-paths.gathered (Made between) = elim c.match-paths.branch [
+      | in-None w ↦
+          subst (λ (r : Result ℕ GatheredFault). IfOk r (Made between)) (sym w.gathered-is)
+          (subst (λ d. IfOk w.gather_on-gathered.result (Made (g.D.Disk.at d))) (sym w.disk-is) w.gather_on-gathered.ensures.done)
+      | in-Some w ↦
+          subst (λ (r : Result ℕ GatheredFault). IfOk r (Made between)) (sym w.gathered-is)
+          (subst (λ d. IfOk w.gather_beside_on-gathered.result (Made (g.D.Disk.at d))) (sym w.disk-is) w.gather_beside_on-gathered.ensures.done)
+    ] in
+    let made : Made between c.in-Ok-gathered.count = subst (λ (r : Result ℕ GatheredFault). IfOk r (Made between)) c.in-Ok-gathered.is gathered in
+    let beside : IsBeside at mode digits c.args.paths.outboard = elim c.match-paths.branch [
+      | in-None w ↦ rw w.in-None.is tt
+      | in-Some w ↦
+          let outline : HasOutlineIn (at w.in-Some.outboard.now) mode key =
+          subst (λ (r : Result ℕ GatheredFault). OnOk r (HasOutlineIn (at w.in-Some.outboard.now) mode key)) (sym w.gathered-is ∙ c.in-Ok-gathered.is) w.gather_beside_on-gathered.ensures.outline in
+          rw w.in-Some.is (key, (c.in_ok-root.ensures.ok, outline))
+    ] in
+    let right : IsRightBlob at mode digits how c.args.paths.outboard made.0 = (((key, (c.in_ok-root.ensures.ok, made.1.0)), made.1.1), beside) in
+    let few : length c.args.files.now ≤ 64 = omega (arith, c.if-files-gt-MOST_FILES.false) in
+    let quiet = c.in_err-list_nothing-in-Ok-gathered.ensures.quiet in
+    let result : Result Unit Fault = c.from_residual-in_err-list_nothing-in-Ok-gathered.result in
+    list_left at (g.D.Disk.at c.list_nothing.new.disk) mode digits how c.args.paths.outboard out c.args.paths.list (length c.args.files.now) between made.0 result
+    (of_residual result _ c.from_residual-in_err-list_nothing-in-Ok-gathered.ensures.1 (quiet.0, quiet.1)) few right made.3 c.in_err-list_nothing-in-Ok-gathered.ensures.kept
+
+pub returns-in_err-list_nothing-in-Ok-gathered-clause-refused : goal.returns-in_err-list_nothing-in-Ok-gathered-clause-refused
+returns-in_err-list_nothing-in-Ok-gathered-clause-refused g c =
+    let quiet = c.in_err-list_nothing-in-Ok-gathered.ensures.quiet in
+    let result : Result Unit Fault = c.from_residual-in_err-list_nothing-in-Ok-gathered.result in
+    no_refusal _ result (of_residual result _ c.from_residual-in_err-list_nothing-in-Ok-gathered.ensures.1 (quiet.0, quiet.1))
+
+pub returns-in-Ok-gathered-clause-refused : goal.returns-in-Ok-gathered-clause-refused
+returns-in-Ok-gathered-clause-refused g c = no_refusal _ c.told.result c.told.ensures.file
+
+pub returns-clause-files : goal.returns-clause-files
+returns-clause-files g c =
+    let at = g.D.Disk.at c.args.disk.now in
+    let between = g.D.Disk.at c.match-paths.disk in
+    let kept : KeepsFiles at between = elim c.match-paths.branch [
+      | in-None w ↦
+          subst (λ d. KeepsFiles at (g.D.Disk.at d)) (sym w.disk-is)
+          (subst (λ (r : Result ℕ GatheredFault). OnErr r (KeepsFiles at (g.D.Disk.at w.gather_on-gathered.new.disk))) (sym w.gathered-is ∙ c.in-Err.is) w.gather_on-gathered.ensures.kept)
+      | in-Some w ↦
+          subst (λ d. KeepsFiles at (g.D.Disk.at d)) (sym w.disk-is)
+          (subst (λ (r : Result ℕ GatheredFault). OnErr r (KeepsFiles at (g.D.Disk.at w.gather_beside_on-gathered.new.disk))) (sym w.gathered-is ∙ c.in-Err.is)
+          w.gather_beside_on-gathered.ensures.kept)
+    ] in
+    inl (but_list at between (g.D.Disk.at c.list_lack.new.disk) c.args.paths.list kept c.list_lack.ensures)
+
+pub returns-clause-refused : goal.returns-clause-refused
+returns-clause-refused g c = λ one.
+    let at = g.D.Disk.at c.args.disk.now in
+    let mode = c.args.mode.now in
+    let how = c.args.how in
+    let out : List ℕ = c.args.paths.out.now in
+    let root = c.in_ok-root.root in
+    let refused : IsRefusedGathering (g.D.Disk.faultless c.args.disk.now) at mode how.encode how.long how.capacity c.args.paths.outboard c.args.files.now out root = elim c.match-paths.branch [
+      | in-None w ↦ rw w.in-None.is (λ sure known blob is_blob place small true.
+          other_is at (g.D.Disk.at w.gather_on-gathered.new.disk) out how mode blob w.gather_on-gathered.result c.in-Err.fault (sym w.gathered-is ∙ c.in-Err.is) one
+          (w.gather_on-gathered.ensures.available sure known blob (combined_text mode blob) true.0 true.1 (record { root = is_blob; room = place; text_is = refl; few = small }) true.2 true.3 true.4))
+      | in-Some w ↦ rw w.in-Some.is (λ sure known blob is_blob place some small beside true.
+          other_is at (g.D.Disk.at w.gather_beside_on-gathered.new.disk) out how mode blob w.gather_beside_on-gathered.result c.in-Err.fault (sym w.gathered-is ∙ c.in-Err.is) one
+          (w.gather_beside_on-gathered.ensures.available sure known blob true.0 true.1 is_blob place some small beside true.2 true.3 true.4))
+    ] in
+    (root, (c.in_ok-root.ensures.ok, refused))

@@ -1,0 +1,292 @@
+// Gathering, as the program does it: what it tells beside its line, and the list of what is missing.
+
+ghost use Rattle.std.specs.Prelude.{◌≡◌, ⊤, if◌then◌else◌, ◌-◌, ◌<◌, ◌≤◌, ℕ, List, [], length, take, IfErr, IsErrAnd, OnErr, OnOk};
+ghost use Rattle.bao_command.specs.declared.fault.Fault.TheVariants as Fault;
+ghost use Rattle.gather.specs.declared.grain.Grain.TheVariants as Grain;
+ghost use Rattle.std.specs.Io.KnownBytes.{Appends};
+ghost use Rattle.bao_files.specs.Disks.{KeepsFiles};
+ghost use Rattle.bao_files.specs.Printed.{IsDigits, IsQuiet, ok_line};
+ghost use Rattle.bao_files.specs.declared.fault.FileFault.{FileFault};
+ghost use Rattle.bao_command.specs.Effects.{KeepsButList, Lists};
+ghost use Rattle.bao_command.specs.Printed.{CommandPrints, OnPrinted};
+ghost use Rattle.bao_command.specs.Refused.{IsRefusedGathering, OfRoot};
+ghost use Rattle.bao_command.specs.Status.{status_of};
+ghost use Rattle.bao_command.specs.Tasks.{IsBeside, IsDue, no_reasons};
+ghost use Rattle.bao_command.specs.Told.{part_line as missing_line, parts_line, unlooked_line, worth_line};
+ghost use Rattle.bao_command.specs.Works.{GathersRight, LeavesGathered};
+
+use crate::commands::{root_of, told};
+use crate::fault::Fault;
+use crate::unread::tell_left_out;
+use b3tree::Mode;
+use bao_files::{Disk, FileFault, Once, Progress, print_count};
+use bao_tasks::{
+    Fate, Form, Gathering, Grain, Lack, MissingParts, Notes, Span, Worth, gather_beside_on,
+    gather_on, list_parts,
+};
+use std::io;
+use std::io::Write;
+use std::thread::Threads;
+
+// The most files that a task takes.
+pub(crate) const MOST_FILES: usize = 64;
+
+// The most parts of what is missing that are told one by one.
+const MOST_SHOWN: usize = 8;
+
+// Says what a file is worth.
+fn tell_worth<W: Write>(file: &str, worth: Worth, out: &mut W) -> io::Result<()>
+    ensures { OnOk result (Appends (W.contents out.old) (W.contents out.new) (worth_line file.now worth)) }
+{
+    let Worth { groups, refused } = worth;
+    writeln!(
+        out,
+        "bao_gather: {file}: {refused} of {groups} groups of 64 KiB refused"
+    )
+}
+
+// Says why a file was left out, or what it is worth, or that there was no memory to count that.
+fn tell_fate<D: Disk, E: Write>(disk: &D, file: &str, fate: Fate, err: &mut E) -> io::Result<()> {
+    match (fate.reason(), fate) {
+        (Some(reason), Fate::Unread) => tell_left_out(disk, file, reason, err),
+        (Some(reason), _) => writeln!(Once(err), "bao_gather: left out {file}: {reason}"),
+        (None, Fate::Taken(Some(worth))) => tell_worth(file, worth, &mut Once(err)),
+        (None, _) => writeln!(Once(err), "bao_gather: {file}: not counted: no memory"),
+    }
+}
+
+// The number of the last byte of a part.
+pub(crate) fn last_of(part: Span) -> u64
+    ensures { result ≡ part.end - 1 }
+{
+    part.end.saturating_sub(1)
+}
+
+// Says which bytes of the blob no file has.
+fn tell_part<W: Write>(part: Span, out: &mut W) -> io::Result<()>
+    ensures { OnOk result (Appends (W.contents out.old) (W.contents out.new) (missing_line part)) }
+{
+    let (first, last) = (part.at, last_of(part));
+    writeln!(out, "bao_gather: missing: bytes {first} to {last}")
+}
+
+// Says how many they are, of how many, and in how many parts.
+fn tell_parts<W: Write>(parts: &MissingParts, out: &mut W) -> io::Result<()>
+    ensures { OnOk result (Appends (W.contents out.old) (W.contents out.new) (parts_line parts.now)) }
+{
+    let (bytes, looked, count) = (parts.bytes, parts.looked, parts.count);
+    writeln!(
+        out,
+        "bao_gather: missing: {bytes} of {looked} bytes, parts: {count}"
+    )
+}
+
+// Says which bytes of the blob were not looked for.
+fn tell_unlooked<W: Write>(parts: &MissingParts, out: &mut W) -> io::Result<()>
+    ensures { OnOk result (Appends (W.contents out.old) (W.contents out.new) (unlooked_line parts.now)) }
+{
+    let (looked, total) = (parts.looked, parts.total);
+    writeln!(
+        out,
+        "bao_gather: missing: not looked for: bytes from {looked} on, of {total}"
+    )
+}
+
+// The parts that are told one by one.
+fn first_of(parts: &[Span]) -> &[Span]
+    ensures { result.now ≡ take 8 parts.now }
+{
+    &parts[..parts.len().min(MOST_SHOWN)]
+}
+
+// Whether there are files that were counted, and all groups of each of them are refused.
+fn fits_none(fates: &[Fate]) -> bool {
+    let mut some = false;
+    for fate in fates {
+        match fate {
+            Fate::Taken(Some(worth)) if worth.refused == worth.groups => some = true,
+            Fate::Taken(_) => return false,
+            Fate::Unread | Fate::Starved | Fate::Unopened => {}
+        }
+    }
+    some
+}
+
+// Says that no file has the end of the blob, and where none fits the root at all what that may come of.
+fn tell_no_end<E: Write>(fates: &[Fate], err: &mut E) -> io::Result<()> {
+    writeln!(
+        Once(err),
+        "bao_gather: missing: the end, so that the length isn't known"
+    )?;
+    if !fits_none(fates) {
+        return Ok(());
+    }
+    writeln!(
+        Once(err),
+        "bao_gather: nothing fits ROOT: look at ROOT, the key and --context; plain copies go with --outboard, encodings without"
+    )
+}
+
+// Says what no file has of a blob that stayed unfinished.
+fn tell_lack<E: Write>(notes: &Notes, err: &mut E) -> io::Result<()> {
+    match &notes.lack {
+        Lack::Unasked => Ok(()),
+        Lack::Starved => writeln!(Once(err), "bao_gather: missing: not looked for: no memory"),
+        Lack::End => tell_no_end(notes.fates.as_slice(), err),
+        Lack::Missing(parts) if parts.count == 0 && parts.looked == parts.total => {
+            writeln!(
+                Once(err),
+                "bao_gather: missing: nothing at a second look: a read failed before"
+            )
+        }
+        Lack::Missing(parts) => {
+            for part in first_of(parts.shown.as_slice()) {
+                tell_part(*part, &mut Once(err))?;
+            }
+            tell_parts(parts, &mut Once(err))?;
+            if parts.looked < parts.total {
+                tell_unlooked(parts, &mut Once(err))?;
+            }
+            Ok(())
+        }
+    }
+}
+
+// Says so of each file, and what none of them has, where that is asked. A write that fails is the last, and changes nothing.
+fn tell<D: Disk, E: Write>(disk: &D, verbose: bool, files: &[&str], notes: &Notes, err: &mut E) {
+    if !verbose {
+        return;
+    }
+    for (file, fate) in files.iter().zip(notes.fates.as_slice()) {
+        if tell_fate(disk, file, *fate, err).is_err() {
+            return;
+        }
+    }
+    let _ = tell_lack(notes, err);
+}
+
+// The files that a gathering names beside those that it gathers from.
+#[derive(Clone, Copy)]
+pub(crate) struct Paths<'a> {
+    pub(crate) out: &'a str,
+    pub(crate) outboard: Option<&'a str>,
+    pub(crate) list: Option<&'a str>,
+}
+
+// The smallest part that the files are asked for.
+pub(crate) fn grain_of(salvage: bool) -> Grain
+    ensures { result ≡ (if salvage then Grain.Chunk else Grain.Group) }
+{
+    if salvage { Grain::Chunk } else { Grain::Group }
+}
+
+// How many parts of what is missing are asked for: all for the list, the first for what is told, or none.
+pub(crate) fn parts_asked(verbose: bool, list: Option<&str>) -> usize {
+    match (verbose, list) {
+        (_, Some(_)) => usize::MAX,
+        (true, None) => MOST_SHOWN,
+        (false, None) => 0,
+    }
+}
+
+// Makes the list empty, where there is one: nothing is missing. A link may have led it to OUT, which is there now: then it can't be written.
+fn list_nothing<'a, D: Disk>(disk: &mut D, paths: Paths<'a>) -> Result<(), Fault<'a>>
+    ensures lists { OnOk result (Lists (D.at disk.old) (D.at disk.new) paths.entry.list []) }
+    ensures kept { OnErr result (KeepsFiles (D.at disk.old) (D.at disk.new)) }
+    ensures quiet { IfErr result (λ fault. (file : FileFault) × (fault ≡ Fault.File file) × IsQuiet file) }
+{
+    let Some(path) = paths.list else {
+        return Ok(());
+    };
+    if disk.is_one(path, paths.out) {
+        return Err(Fault::File(FileFault::Write(path)));
+    }
+    match list_parts(disk, &[], path) {
+        Ok(()) => Ok(()),
+        Err(fault) => Err(Fault::File(fault)),
+    }
+}
+
+// Writes what no file has to the list, where there is one and that is known. It says why not, where it doesn't: what gathering met stands.
+fn list_lack<D: Disk, E: Write>(disk: &mut D, list: Option<&str>, lack: &Lack, err: &mut E)
+    ensures { KeepsButList (D.at disk.old) (D.at disk.new) list.entry }
+{
+    let Some(path) = list else {
+        return;
+    };
+    let Lack::Missing(parts) = lack else {
+        let _ = writeln!(
+            Once(err),
+            "bao_gather: {path}: left as it is: what is missing isn't known"
+        );
+        return;
+    };
+    match list_parts(disk, parts.shown.as_slice(), path) {
+        Ok(()) => {}
+        Err(fault) => {
+            let _ = writeln!(Once(err), "bao_gather: {path}: left as it is: {fault}");
+        }
+    }
+}
+
+// Gathers the blob out of the files, which are plain copies where an outboard encoding is named. It says where it is
+// asked what each of them is worth, lists where it is asked what none of them has, and prints how many bytes the blob has.
+pub(crate) fn gather<
+    'a,
+    R: AllocGlobal + Threads + Sync,
+    D: Disk,
+    O: Write,
+    E: Write,
+    P: Progress + Sync,
+>(
+    rt: &R,
+    disk: &mut D,
+    mode: &Mode,
+    digits: &str,
+    how: Gathering,
+    paths: Paths<'a>,
+    files: &[&'a str],
+    out: &mut O,
+    err: &mut E,
+    progress: &P,
+) -> Result<(), Fault<'a>>
+    ensures answer { (blob : List ℕ) × OnPrinted result (GathersRight (D.at disk.old) (D.at disk.new) mode.now digits.now how paths.entry.outboard paths.entry.out.now paths.entry.list blob)
+        × CommandPrints (ok_line (length blob)) (O.contents out.old) (O.contents out.new) result }
+    ensures files { IfErr result (LeavesGathered (D.at disk.old) (D.at disk.new) mode.now digits.now how paths.entry.outboard paths.entry.out.now paths.entry.list (length files.now)) }
+    ensures refused { IfErr result (λ fault. status_of fault ≡ 1
+        → OfRoot digits.now (IsRefusedGathering (D.faultless disk.old) (D.at disk.old) mode.now how.encode how.long how.capacity paths.entry.outboard files.now paths.entry.out.now)) }
+    ensures few { OnPrinted result (length files.now ≤ 64) }
+    ensures many { 64 < length files.now → IsErrAnd result (λ fault. fault ≡ Fault.TooManyFiles) }
+    ensures due { IfErr result (IsDue (record no_reasons { root = ¬ IsDigits digits.now; many = 64 < length files.now; gathers = ⊤ })) }
+{
+    if files.len() > MOST_FILES {
+        return Err(Fault::TooManyFiles);
+    }
+    let root = root_of(digits)?;
+    let Ok(mut notes) = Notes::new(rt.alloc(), files.len()) else {
+        return Err(Fault::File(FileFault::Memory));
+    };
+    let kept = &mut notes;
+    let gathered = match paths.outboard {
+        Some(outboard) => gather_beside_on(
+            rt, disk, mode, &root, how, outboard, files, paths.out, kept, progress,
+        ),
+        None => {
+            let form = Form::Slices;
+            gather_on(
+                rt, disk, mode, &root, &form, how, files, paths.out, kept, progress,
+            )
+        }
+    };
+    tell(disk, how.count, files, &notes, err);
+    match gathered {
+        Ok(count) => {
+            list_nothing(disk, paths)?;
+            told(print_count(rt.alloc(), count, out))
+        }
+        Err(fault) => {
+            list_lack(disk, paths.list, &notes.lack, err);
+            Err(Fault::Gather(fault))
+        }
+    }
+}
