@@ -1,8 +1,8 @@
 -- What the words of a held parent say of its bytes.
-use Rattle.std.proofs.Common.{◌≡◌, ℕ, suc, ◌+◌, ◌*◌, ◌/◌, ◌%◌, ◌<◌, ◌≤◌, Bool, true, if◌then◌else◌, List, ◌++◌, length, take, drop, slice_get, slice_index, Option, None, Some, IfSome, option_and_then, refl, sym, ap, subst, ◌∙◌, arith, inl, inr, get_or, ext_get_or, get_or-take, is_some, length-take-le, length-drop}
+use Rattle.std.proofs.Common.{◌≡◌, ℕ, suc, ◌+◌, ◌*◌, ◌/◌, ◌%◌, ◌<◌, ◌≤◌, true, List, ◌++◌, length, take, drop, slice_get, slice_index, Option, None, Some, IfSome, option_and_then, refl, sym, ap, subst, ◌∙◌, arith, inl, inr, get_or, ext_get_or, get_or-take, is_some, length-take-le, length-drop}
 use Rattle.std.specs.Int.{w64, to_le_bytes}
 use Rattle.std.specs.Option.{option_map}
-use Rattle.std.proofs.lemmas.Bool.{cases_lt, lt-ltb}
+use Rattle.std.proofs.lemmas.Bool.{cases_lt}
 use Rattle.std.proofs.lemmas.Option.{slice_get-get_or, slice_get_past}
 use Rattle.b3tree.specs.Valid.{AreBytes}
 use Rattle.b3tree.proofs.BlockWords.{AreBytes-drop, AreBytes-take}
@@ -14,16 +14,13 @@ use Rattle.bao_text.specs.Nodes.{TreeNode}
 use Rattle.store_core.specs.declared.fixed.Fixed.{Fixed}
 use Rattle.store_core.specs.declared.history.Event.{Event}
 use Rattle.store_core.specs.declared.history.Piece.{Piece}
-use Rattle.store_core.specs.Cells.{cell_byte, cell_bytes, cell_word}
 use Rattle.store_core.specs.Histories.{IsLegal, state_after}
 use Rattle.store_core.specs.Laws.{IsStored}
 use Rattle.store_core.specs.Pieces.{IsAcceptedPiece, parent_bytes, places_in}
 use Rattle.store_core.specs.States.{State, byte_at, is_held}
-use Rattle.store_core.proofs.CellWords.{cell_get, cell_is}
 use Rattle.store_core.proofs.ParentOrigins.{parent_is_stored}
-use Rattle.store_calls.specs.Filled.{IsBufferFilled, StopsFilling}
-use Rattle.store_calls.proofs.Filling.{filled_then, put_filled}
-use Rattle.store_calls.proofs.Holding.{held_valid, some_there}
+use Rattle.store_calls.specs.Filled.{IsBufferFilled, StopsFilling, held_size}
+use Rattle.store_calls.proofs.Holding.{AreSmall, held_valid, size_of, some_there, words_more}
 use Rattle.store_steps.specs.Layout.{parent_word}
 
 -- a parent of a piece is 64 bytes
@@ -57,45 +54,20 @@ parent_valid fixed history m bytes legal has =
 abbrev pub beside : State → ℕ → State
 beside s m = record s { held = λ c. s.parents m }
 
--- a byte of a parent is that of its word
-word_at : (bytes : List ℕ) (i word : ℕ) → AreBytes bytes → length bytes ≡ 64 → i < 64 → word ≡ parent_word bytes (i / 8)
-    → slice_get bytes i ≡ Some (slice_index (to_le_bytes w64 word) (i % 8))
-word_at bytes i word valid size below is =
-    let cell : ℕ → ℕ = λ w. cell_word bytes w in
-    let whole : cell_bytes cell ≡ bytes = cell_is cell bytes valid (omega (arith, size)) (λ w h. refl) in
-    let inside : i < length bytes = omega (arith, below, size) in
-    let number : suc (i / 8) ≡ i / 8 + 1 = omega arith in
-    let same : word ≡ cell_word bytes (i / 8 + 1) = is ∙ ap (λ (w : ℕ). cell_word bytes w) number in
-    ap (λ (xs : List ℕ). slice_get xs i) (sym whole)
-    ∙ cell_get cell i (omega (arith, below))
-    ∙ ap (λ (b : Bool). if b then Some (cell_byte cell i) else None) (lt-ltb i (length bytes) inside)
-    ∙ ap (λ (n : ℕ). Some (slice_index (to_le_bytes w64 n) (i % 8))) (sym same)
+beside_small : (fixed : Fixed) (history : List Event) (m : ℕ) → IsLegal fixed history → AreSmall (beside (state_after history) m)
+beside_small fixed history m legal c bytes has = let valid = parent_valid fixed history m bytes legal has in (valid.0, omega (arith, valid.1))
 
 -- one word more
 pub parent_more : (fixed : Fixed) (history : List Event) (m w word : ℕ) (first old new part : List ℕ) → IsLegal fixed history → is_some ((state_after history).parents m) ≡ true
     → w < 8 → ((bytes : List ℕ) → (state_after history).parents m ≡ Some bytes → word ≡ parent_word bytes w) → part ≡ to_le_bytes w64 word → length first ≡ 64
-    → IsBufferFilled (beside (state_after history) m) 0 0 (8 * w) first old → new ≡ take (8 * w) old ++ (part ++ drop (8 * w + length part) old)
-    → IsBufferFilled (beside (state_after history) m) 0 0 (8 * (w + 1)) first new
+    → IsBufferFilled (beside (state_after history) m) 0 0 (0 + 8 * w) first old → new ≡ take (0 + 8 * w) old ++ (part ++ drop (0 + 8 * w + length part) old)
+    → IsBufferFilled (beside (state_after history) m) 0 0 (0 + 8 * (w + 1)) first new
 parent_more fixed history m w word first old new part legal held less found part_is size filled put =
     let s : State = beside (state_after history) m in
     let there = some_there ((state_after history).parents m) held in
-    let bytes : List ℕ = there.0 in
-    let valid = parent_valid fixed history m bytes legal there.1 in
-    let eight : length part ≡ 8 = ap (λ (xs : List ℕ). length xs) part_is in
-    let next : 8 * w + length part ≡ 8 * (w + 1) = omega (arith, eight) in
-    filled_then s 0 0 (8 * w) (8 * (w + 1)) first old new filled
-    (subst (λ (n : ℕ). IsBufferFilled s 0 (8 * w) n old new) next
-    (put_filled s 0 (8 * w) old new part (omega (arith, eight, less, size, filled.size)) put
-    (λ k h.
-    let below : 8 * w + k < 64 = omega (arith, less, h, eight) in
-    let place : (0 + 8 * w + k) % 1024 ≡ 8 * w + k = omega (arith, below) in
-    let word_place : (8 * w + k) / 8 ≡ w = omega (arith, h, eight) in
-    let byte_place : (8 * w + k) % 8 ≡ k = omega (arith, h, eight) in
-    ap (λ (o : Option (List ℕ)). option_and_then (λ bs. slice_get bs ((0 + 8 * w + k) % 1024)) o) there.1
-    ∙ ap (λ (i : ℕ). slice_get bytes i) place
-    ∙ word_at bytes (8 * w + k) word valid.0 valid.1 below (found bytes there.1 ∙ ap (λ (v : ℕ). parent_word bytes v) (sym word_place))
-    ∙ ap (λ (i : ℕ). Some (slice_index (to_le_bytes w64 word) i)) byte_place
-    ∙ ap (λ (xs : List ℕ). Some (slice_index xs k)) (sym part_is))))
+    let all : held_size s 0 ≡ 64 = size_of s 0 there.0 there.1 ∙ (parent_valid fixed history m there.0 legal there.1).1 in
+    words_more s 0 0 w 8 0 (suc w) word first old new part (beside_small fixed history m legal) (omega (arith, all)) (λ some. refl) less refl (omega arith) found part_is
+    (omega (arith, size)) filled put
 
 -- a buffer that begins with all bytes of a list
 all_taken : (bytes out : List ℕ) (done : ℕ) → done ≤ length out → length bytes ≤ done → ((i : ℕ) → i < done → slice_get bytes i ≡ Some (slice_index out i)) → bytes ≡ take done out
@@ -134,7 +106,7 @@ chunk_whole fixed history c done old out legal held size filled stops =
     let s : State = state_after history in
     let there = some_there (s.held c) held in
     let bytes : List ℕ = there.0 in
-    let fits : length bytes ≤ 1024 = (held_valid fixed history c bytes legal there.1).1 in
+    let fits : length bytes ≤ 1024 = (held_valid fixed history legal c bytes there.1).1 in
     let byte : (i : ℕ) → i < 1024 → slice_get bytes i ≡ byte_at s (1024 * c + i) = λ i h.
     let number : (1024 * c + i) / 1024 ≡ c = omega (arith, h) in
     let place : (1024 * c + i) % 1024 ≡ i = omega (arith, h) in

@@ -28,14 +28,16 @@ pub some_there : (o : Option (List ℕ)) → is_some o ≡ true → (bytes : Lis
 some_there None h = cc
 some_there (Some bytes) h = (bytes, refl)
 
--- a held chunk is of bytes, at most 1,024
-pub held_valid : (fixed : Fixed) (history : List Event) (c : ℕ) (bytes : List ℕ) → IsLegal fixed history → (state_after history).held c ≡ Some bytes
-    → AreBytes bytes × (length bytes ≤ 1024)
-held_valid fixed history c bytes legal has =
+-- each held chunk is of bytes, at most 1,024
+abbrev pub AreSmall : State → Type 0
+AreSmall s = (c : ℕ) (bytes : List ℕ) → s.held c ≡ Some bytes → AreBytes bytes × (length bytes ≤ 1024)
+
+pub held_valid : (fixed : Fixed) (history : List Event) → IsLegal fixed history → AreSmall (state_after history)
+held_valid fixed history legal c bytes has =
     let k : IsCommitted fixed history c bytes = held_is_committed fixed history c bytes legal has in
     (chunk_valid k.piece.text (places_in k.piece) (k.piece.base + c) bytes k.accepted.bytes k.has, chunk_fits fixed k.piece c bytes k.accepted k.has)
 
-size_of : (s : State) (c : ℕ) (bytes : List ℕ) → s.held c ≡ Some bytes → held_size s c ≡ length bytes
+pub size_of : (s : State) (c : ℕ) (bytes : List ℕ) → s.held c ≡ Some bytes → held_size s c ≡ length bytes
 size_of s c bytes has = ap (λ (o : Option (List ℕ)). length (unwrap_or o [])) has
 
 -- a chunk that is held lies below the capacity
@@ -48,15 +50,14 @@ sized_below fixed history c legal some =
     held_below fixed history c legal (ap (λ (o : Option (List ℕ)). is_some o) there.1)
 
 -- and has at most 1,024 bytes
-pub size_fits : (fixed : Fixed) (history : List Event) (c : ℕ) → IsLegal fixed history → held_size (state_after history) c ≤ 1024
-size_fits fixed history c legal = elim (cases_lt 0 (held_size (state_after history) c)) [
-  | inl some ↦
-      let there = some_size ((state_after history).held c) some in
-      let size : held_size (state_after history) c ≡ length there.0 = size_of (state_after history) c there.0 there.1 in
-      let fits : length there.0 ≤ 1024 = (held_valid fixed history c there.0 legal there.1).1 in
-      omega (arith, size, fits)
+size_small : (s : State) → AreSmall s → (c : ℕ) → held_size s c ≤ 1024
+size_small s small c = elim (cases_lt 0 (held_size s c)) [
+  | inl some ↦ let there = some_size (s.held c) some in omega (arith, size_of s c there.0 there.1, (small c there.0 there.1).1)
   | inr none ↦ omega (arith, none)
 ]
+
+pub size_fits : (fixed : Fixed) (history : List Event) (c : ℕ) → IsLegal fixed history → held_size (state_after history) c ≤ 1024
+size_fits fixed history c legal = size_small (state_after history) (held_valid fixed history legal) c
 
 -- the first word of a held chunk's cell is its size
 pub size_is : (s : State) (c word : ℕ) → is_held s c ≡ true → ((bytes : List ℕ) → s.held c ≡ Some bytes → word ≡ cell_word bytes 0) → word ≡ held_size s c
@@ -72,15 +73,14 @@ pub unheld_past : (s : State) (q : ℕ) → held_size s (q / 1024) ≤ q % 1024 
 unheld_past s q h = none_past (s.held (q / 1024)) (q % 1024) h
 
 -- the byte at a position is that of its word
-pub byte_is : (fixed : Fixed) (history : List Event) (q word : ℕ) → IsLegal fixed history → q % 1024 < held_size (state_after history) (q / 1024)
-    → ((bytes : List ℕ) → (state_after history).held (q / 1024) ≡ Some bytes → word ≡ cell_word bytes (q % 1024 / 8 + 1))
-    → byte_at (state_after history) q ≡ Some (slice_index (to_le_bytes w64 word) (q % 8))
-byte_is fixed history q word legal below found =
-    let s : State = state_after history in
+pub byte_is : (s : State) (q word : ℕ) → AreSmall s → q % 1024 < held_size s (q / 1024)
+    → ((bytes : List ℕ) → s.held (q / 1024) ≡ Some bytes → word ≡ cell_word bytes (q % 1024 / 8 + 1))
+    → byte_at s q ≡ Some (slice_index (to_le_bytes w64 word) (q % 8))
+byte_is s q word small below found =
     let there = some_size (s.held (q / 1024)) (omega (arith, below)) in
     let bytes : List ℕ = there.0 in
     let has : s.held (q / 1024) ≡ Some bytes = there.1 in
-    let valid = held_valid fixed history (q / 1024) bytes legal has in
+    let valid = small (q / 1024) bytes has in
     let cell : ℕ → ℕ = λ w. cell_word bytes w in
     let whole : cell_bytes cell ≡ bytes = cell_is cell bytes valid.0 valid.1 (λ w h. refl) in
     let inside : q % 1024 < length bytes = omega (arith, below, size_of s (q / 1024) bytes has) in
@@ -93,26 +93,26 @@ byte_is fixed history q word legal below found =
     ∙ ap (λ (k : ℕ). Some (slice_index (to_le_bytes w64 word) k)) place
 
 -- a part of a word that is written into the buffer
-pub part_filled : (fixed : Fixed) (history : List Event) (at from count skip chunk number word : ℕ) (old new part : List ℕ) → IsLegal fixed history
-    → (at + from) % 1024 + count ≤ held_size (state_after history) ((at + from) / 1024)
+pub part_filled : (s : State) (at from count skip chunk number word : ℕ) (old new part : List ℕ) → AreSmall s
+    → (at + from) % 1024 + count ≤ held_size s ((at + from) / 1024)
     → (at + from) % 8 + count ≤ 8 → skip ≡ (at + from) % 8 → chunk ≡ (at + from) / 1024 → number ≡ (at + from) % 1024 / 8 + 1
-    → ((bytes : List ℕ) → (state_after history).held chunk ≡ Some bytes → word ≡ cell_word bytes number)
+    → ((bytes : List ℕ) → s.held chunk ≡ Some bytes → word ≡ cell_word bytes number)
     → length part ≡ count → ((k : ℕ) → k < count → slice_index part k ≡ slice_index (to_le_bytes w64 word) (skip + k))
     → from + count ≤ length old → new ≡ take from old ++ (part ++ drop (from + length part) old)
-    → IsBufferFilled (state_after history) at from (from + count) old new
-part_filled fixed history at from count skip chunk number word old new part legal held inside skips chunk_is number_is found size bytes room is =
-    let fits : held_size (state_after history) ((at + from) / 1024) ≤ 1024 = size_fits fixed history ((at + from) / 1024) legal in
-    subst (λ (n : ℕ). IsBufferFilled (state_after history) at from (from + n) old new) size
-    (put_filled (state_after history) at from old new part (omega (arith, size, room)) is (λ k h.
+    → IsBufferFilled s at from (from + count) old new
+part_filled s at from count skip chunk number word old new part small held inside skips chunk_is number_is found size bytes room is =
+    let fits : held_size s ((at + from) / 1024) ≤ 1024 = size_small s small ((at + from) / 1024) in
+    subst (λ (n : ℕ). IsBufferFilled s at from (from + n) old new) size
+    (put_filled s at from old new part (omega (arith, size, room)) is (λ k h.
     let below : k < count = omega (arith, h, size) in
     let same : (at + from) / 1024 ≡ (at + from + k) / 1024 = omega (arith, held, fits, below) in
     let at_chunk : chunk ≡ (at + from + k) / 1024 = chunk_is ∙ same in
     let at_word : number ≡ (at + from + k) % 1024 / 8 + 1 = omega (arith, number_is, held, fits, inside, below) in
     let at_byte : (at + from + k) % 8 ≡ skip + k = omega (arith, skips, inside, below) in
-    let within : (at + from + k) % 1024 < held_size (state_after history) ((at + from + k) / 1024) =
-    subst (λ (c : ℕ). (at + from + k) % 1024 < held_size (state_after history) c) same (omega (arith, held, fits, below)) in
-    byte_is fixed history (at + from + k) word legal within
-    (λ bs has. found bs (ap (λ (c : ℕ). (state_after history).held c) at_chunk ∙ has) ∙ ap (λ (w : ℕ). cell_word bs w) at_word)
+    let within : (at + from + k) % 1024 < held_size s ((at + from + k) / 1024) =
+    subst (λ (c : ℕ). (at + from + k) % 1024 < held_size s c) same (omega (arith, held, fits, below)) in
+    byte_is s (at + from + k) word small within
+    (λ bs has. found bs (ap (λ (c : ℕ). s.held c) at_chunk ∙ has) ∙ ap (λ (w : ℕ). cell_word bs w) at_word)
     ∙ ap (λ (j : ℕ). Some (slice_index (to_le_bytes w64 word) j)) at_byte
     ∙ ap (λ (x : ℕ). Some x) (sym (bytes k below))))
 
@@ -157,16 +157,15 @@ part_byte bytes word skip count k is below =
     get_or-take count (drop skip bytes) k 0 below ∙ get_or-drop skip bytes k 0 ∙ ap (λ (xs : List ℕ). get_or xs (skip + k) 0) is
 
 -- one whole word more
-pub words_more : (fixed : Fixed) (history : List Event) (at from i count chunk number word : ℕ) (first old new bytes : List ℕ) → IsLegal fixed history
-    → (at + from) % 1024 + 8 * count ≤ held_size (state_after history) ((at + from) / 1024) → (0 < count → (at + from) % 8 ≡ 0) → i < count
+pub words_more : (s : State) (at from i count chunk number word : ℕ) (first old new bytes : List ℕ) → AreSmall s
+    → (at + from) % 1024 + 8 * count ≤ held_size s ((at + from) / 1024) → (0 < count → (at + from) % 8 ≡ 0) → i < count
     → chunk ≡ (at + from) / 1024 → number ≡ (at + from) % 1024 / 8 + 1 + i
-    → ((bs : List ℕ) → (state_after history).held chunk ≡ Some bs → word ≡ cell_word bs number)
-    → bytes ≡ to_le_bytes w64 word → from + 8 * count ≤ length first → IsBufferFilled (state_after history) at from (from + 8 * i) first old
+    → ((bs : List ℕ) → s.held chunk ≡ Some bs → word ≡ cell_word bs number)
+    → bytes ≡ to_le_bytes w64 word → from + 8 * count ≤ length first → IsBufferFilled s at from (from + 8 * i) first old
     → new ≡ take (from + 8 * i) old ++ (bytes ++ drop (from + 8 * i + length bytes) old)
-    → IsBufferFilled (state_after history) at from (from + 8 * (i + 1)) first new
-words_more fixed history at from i count chunk number word first old new bytes legal held aligned less chunk_is number_is found is room filled put =
-    let s : State = state_after history in
-    let fits : held_size s ((at + from) / 1024) ≤ 1024 = size_fits fixed history ((at + from) / 1024) legal in
+    → IsBufferFilled s at from (from + 8 * (i + 1)) first new
+words_more s at from i count chunk number word first old new bytes small held aligned less chunk_is number_is found is room filled put =
+    let fits : held_size s ((at + from) / 1024) ≤ 1024 = size_small s small ((at + from) / 1024) in
     let begins : (at + from) % 8 ≡ 0 = aligned (omega (arith, less)) in
     let same : (at + from) / 1024 ≡ (at + (from + 8 * i)) / 1024 = omega (arith, held, fits, less) in
     let within : (at + (from + 8 * i)) % 1024 + 8 ≤ held_size s ((at + (from + 8 * i)) / 1024) =
@@ -177,7 +176,7 @@ words_more fixed history at from i count chunk number word first old new bytes l
     let size : length bytes ≡ 8 = ap (λ (xs : List ℕ). length xs) is in
     filled_then s at from (from + 8 * i) (from + 8 * (i + 1)) first old new filled
     (subst (λ (n : ℕ). IsBufferFilled s at (from + 8 * i) n old new) next
-    (part_filled fixed history at (from + 8 * i) 8 0 chunk number word old new bytes legal within (omega (arith, starts)) starts (chunk_is ∙ same) at_word found size
+    (part_filled s at (from + 8 * i) 8 0 chunk number word old new bytes small within (omega (arith, starts)) starts (chunk_is ∙ same) at_word found size
     (λ k below. let place : k ≡ 0 + k = omega arith in ap (λ (xs : List ℕ). get_or xs k 0) is ∙ ap (λ (j : ℕ). get_or (to_le_bytes w64 word) j 0) place)
     (omega (arith, room, less, filled.size)) put))
 

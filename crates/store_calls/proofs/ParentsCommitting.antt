@@ -24,7 +24,8 @@ use Rattle.store_core.specs.Knowledge.{Called, EndsStoring, Looked, Sees, event_
 use Rattle.store_steps.specs.Words.{IsGripOf, fixed_of}
 use Rattle.store_steps.specs.declared.words.Words.{Words}
 use Rattle.store_core.proofs.Going.{called_then, sees_none, sees_then, stored_then}
-use Rattle.store_calls.specs.Parents.{AreParentsOf, HaveParentWords, SeatParentsBind}
+use Rattle.store_calls.specs.Parents.{AreParentsOf, SeatParentsBind}
+use Rattle.store_calls.specs.StoredCells.{HaveWords, parent_kind}
 
 -- what the seat has seen held is the blob's
 pub parents_bind : (words : Words) (grip : Gripped) → IsKeyed (fixed_of words).mode → IsGripOf words grip → SeatParentsBind grip.view
@@ -41,7 +42,7 @@ other_is None l b is differs = refl
 other_is (Some known) l b is differs = from_not (known == l) (sym is ∙ differs)
 
 -- A seat claims boundaries, and stores the words of their parents.
-module _ (group mask : ℕ) (piece : Piece) (view claimed words : SeatView) (storing : IsStoringNow group mask view claimed) (has : HaveParentWords group mask piece 64 claimed words) where
+module _ (group mask : ℕ) (piece : Piece) (view claimed words : SeatView) (storing : IsStoringNow group mask view claimed) (has : HaveWords parent_kind group mask piece 64 claimed words) where
   words_are : words ≡ record view { storing = record { group = group; mask = mask } ∷ []; parent_words = words.parent_words }
   words_are = has.rest ∙ ap (λ (v : SeatView). record v { parent_words = words.parent_words }) storing
 
@@ -98,7 +99,7 @@ module _ (group : ℕ) (piece : Piece) (old new : SeatView) (legal : IsLegal old
 
   -- parents are stored, of the boundaries that were claimed
   pub parents_stored : (mask : ℕ) (claimed words last : SeatView) → (state_after new.seen).recorded ≡ Some (length_of piece)
-      → nat_lt group (groups old.fixed) ≡ true → old.storing ≡ [] → IsStoringNow group mask new claimed → HaveParentWords group mask piece 64 claimed words
+      → nat_lt group (groups old.fixed) ≡ true → old.storing ≡ [] → IsStoringNow group mask new claimed → HaveWords parent_kind group mask piece 64 claimed words
       → EndsStoring (Parents group piece (Stored mask)) words last → Called (Parents group piece (Stored mask)) old last
   parents_stored mask claimed words last is within none storing has ends =
       let call : Call = Parents group piece (Stored mask) in

@@ -96,10 +96,6 @@ pub below_next : (capacity : ℕ) (next : Option Node) (old rest : List Node) �
 below_next capacity None old rest steps all = tt
 below_next capacity (Some node) old rest steps all = subst (λ (nodes : List Node). AllByRecursion (λ node. node_number node < capacity) nodes) steps all
 
-pub fewer_left : (node : Node) (next : Option Node) (old rest : List Node) → Steps next old rest → left_count next rest < left_count (Some node) old
-fewer_left node None old rest steps = omega arith
-fewer_left node (Some x) old rest steps = omega (arith, ap (λ (nodes : List Node). length nodes) steps)
-
 -- none is left where there is no other
 pub none_told : (b : Bool) (next : Option Node) → is_some next ≡ not b → b ≡ is_none next
 none_told true None h = refl

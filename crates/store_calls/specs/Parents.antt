@@ -1,6 +1,5 @@
--- Parents on the way: which words a seat stored since a view, where nothing else of what it knows changed. And what those
--- are that it has seen held.
-use Rattle.std.specs.Prelude.{◌≡◌, ◌≢◌, ◌⊎◌, ℕ, ◌+◌, ◌*◌, ◌/◌, ◌%◌, ◌<◌, true, not, ◌&&◌, List, Some, is_some}
+-- Parents on the way, and what those are that a seat has seen held.
+use Rattle.std.specs.Prelude.{◌≡◌, ◌⊎◌, ℕ, ◌<◌, true, not, ◌&&◌, List, Some, is_some}
 use Rattle.bao_text.specs.declared.walk.Node.TheVariants.{Parent}
 use Rattle.bao_check.specs.Parents.{parent_of}
 use Rattle.store_core.specs.declared.fixed.Fixed.{Fixed}
@@ -11,26 +10,12 @@ use Rattle.store_core.specs.declared.view.SeatView.{SeatView}
 use Rattle.store_core.specs.Histories.{state_after}
 use Rattle.store_core.specs.Laws.{IsBlob, CollisionOf}
 use Rattle.store_core.specs.Masks.{IsMaskOf, in_mask}
-use Rattle.store_core.specs.Pieces.{holds_parent, parent_bytes}
-use Rattle.store_core.specs.Views.{stored}
-use Rattle.store_steps.specs.Layout.{parent_word}
+use Rattle.store_core.specs.Pieces.{holds_parent}
 
 -- the boundaries of the mask are below the capacity, and the piece holds their parents
 pub record AreParentsOf (fixed : Fixed) (group mask : ℕ) (piece : Piece) : Type 0 where
   pub below : (m : ℕ) → in_mask group mask m ≡ true → m < fixed.capacity
   pub held : (m : ℕ) → in_mask group mask m ≡ true → holds_parent piece m ≡ true
-
--- the parent's words below `end` are stored with these bytes, and the words of other boundaries are as they were
-pub record HasParentWords (boundary : ℕ) (bytes : List ℕ) (end : ℕ) (old new : SeatView) : Type 0 where
-  pub rest : new ≡ record old { parent_words = new.parent_words }
-  pub words : (w : ℕ) → w < end → stored new.parent_words (8 * boundary + w) ≡ Some (parent_word bytes w)
-  pub others : (number : ℕ) → number / 8 ≢ boundary → stored new.parent_words number ≡ stored old.parent_words number
-
--- of each of the mask's boundaries whose bit is below `end` all 8 words are stored with the bytes of the piece's parent
-pub record HaveParentWords (group mask : ℕ) (piece : Piece) (end : ℕ) (old new : SeatView) : Type 0 where
-  pub rest : new ≡ record old { parent_words = new.parent_words }
-  pub words : (m w : ℕ) (bytes : List ℕ) → in_mask group mask m ≡ true → m % 64 < end → parent_bytes piece m ≡ Some bytes → w < 8
-      → stored new.parent_words (8 * m + w) ≡ Some (parent_word bytes w)
 
 -- Where a seat with all names that there are stores parents, they are all that the piece holds at boundaries of the group
 -- and that the seat has not seen held.

@@ -2,7 +2,7 @@ ghost use Rattle.std.specs.Prelude.{◌≡◌, ◌+◌, ◌<◌, ◌≤◌, leng
 ghost use Rattle.std.specs.Int.{w64, from_le_bytes};
 ghost use Rattle.store_core.specs.Cells.{cell_word};
 ghost use Rattle.store_core.specs.Views.{seat_claims};
-ghost use Rattle.store_calls.specs.StoredCells.{HasCell};
+ghost use Rattle.store_calls.specs.StoredCells.{HasWords, chunk_kind};
 ghost use Rattle.store_steps.specs.Words.{IsGripOf};
 
 use store_core::CELL_WORDS;
@@ -59,7 +59,7 @@ pub(crate) fn store_cell(words: &Words, grip: &mut Grip, chunk: u32, bytes: &[u8
     requires of { IsGripOf words.now grip.old }
     requires claimed { seat_claims grip.old.view chunk ≡ true }
     ensures of { IsGripOf words.now grip.new }
-    ensures stored { HasCell chunk bytes.now 129 grip.old.view grip.new.view }
+    ensures stored { HasWords chunk_kind chunk bytes.now 129 grip.old.view grip.new.view }
 {
     for word in 0..CELL_WORDS {
         words.store(grip, chunk, word, cell_word(bytes, word));

@@ -3,7 +3,7 @@ ghost use Rattle.store_core.specs.Masks.{IsMaskOf};
 ghost use Rattle.store_core.specs.Pieces.{holds_chunk, piece_of};
 ghost use Rattle.store_core.specs.Stores.{ChunksBind, IsOf};
 ghost use Rattle.store_core.specs.Views.{seat_claims};
-ghost use Rattle.store_calls.specs.StoredCells.{HasCells};
+ghost use Rattle.store_calls.specs.StoredCells.{HaveWords, chunk_kind};
 ghost use Rattle.store_steps.specs.Asks.{AreHeldClaims};
 ghost use Rattle.store_core.specs.Knowledge.{Called};
 ghost use Rattle.store_steps.specs.Words.{CoversGroup, IsGripOf, fixed_of};
@@ -30,7 +30,7 @@ fn store_cells(words: &Words, grip: &mut Grip, group: u32, piece: &Checked<'_>, 
     requires group { CoversGroup words.now group }
     requires mask { AreHeldClaims grip.old.view group (piece_of (fixed_of words.now).base piece.now) mask }
     ensures of { IsGripOf words.now grip.new }
-    ensures stored { HasCells group mask (piece_of (fixed_of words.now).base piece.now) 64 grip.old.view grip.new.view }
+    ensures stored { HaveWords chunk_kind group mask (piece_of (fixed_of words.now).base piece.now) 64 grip.old.view grip.new.view }
 {
     let base = words.base();
     let start = GROUP_LEN as u64 * u64::from(group);

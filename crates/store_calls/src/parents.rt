@@ -5,7 +5,8 @@ ghost use Rattle.store_core.specs.Masks.{IsMaskOf};
 ghost use Rattle.store_core.specs.Pieces.{holds_parent, piece_of};
 ghost use Rattle.store_core.specs.Stores.{IsOf};
 ghost use Rattle.store_core.specs.Views.{is_storing};
-ghost use Rattle.store_calls.specs.Parents.{AreAllParents, AreParentsOf, HasParentWords, HaveParentWords, SeatParentsBind};
+ghost use Rattle.store_calls.specs.Parents.{AreAllParents, AreParentsOf, SeatParentsBind};
+ghost use Rattle.store_calls.specs.StoredCells.{HasWords, HaveWords, parent_kind};
 ghost use Rattle.store_core.specs.Knowledge.{AreAllNames, Called};
 ghost use Rattle.store_steps.specs.Words.{CoversGroup, IsGripOf, fixed_of};
 
@@ -28,7 +29,7 @@ fn store_parent(words: &Words, grip: &mut Grip, boundary: u32, bytes: &[u8])
     requires boundary { boundary < (fixed_of words.now).capacity }
     requires bytes { length bytes.now ≡ 64 }
     ensures of { IsGripOf words.now grip.new }
-    ensures stored { HasParentWords boundary bytes.now 8 grip.old.view grip.new.view }
+    ensures stored { HasWords parent_kind boundary bytes.now 8 grip.old.view grip.new.view }
 {
     for word in 0..PARENT_WORDS {
         let value = whole_word(bytes, WORD_LEN * usize::from(word));
@@ -43,7 +44,7 @@ fn store_parents(words: &Words, grip: &mut Grip, group: u32, piece: &Checked<'_>
     requires storing { grip.old.view.storing ≡ record { group = group; mask = mask } ∷ [] }
     requires mask { AreParentsOf (fixed_of words.now) group mask (piece_of (fixed_of words.now).base piece.now) }
     ensures of { IsGripOf words.now grip.new }
-    ensures stored { HaveParentWords group mask (piece_of (fixed_of words.now).base piece.now) 64 grip.old.view grip.new.view }
+    ensures stored { HaveWords parent_kind group mask (piece_of (fixed_of words.now).base piece.now) 64 grip.old.view grip.new.view }
 {
     let start = GROUP_LEN as u64 * u64::from(group);
     for j in 0..GROUP_LEN {

@@ -38,12 +38,6 @@ up_to_more group m n j test up small same others = record {
 pub up_to_same : (group m j : ℕ) (test : ℕ → Bool) → IsMaskUpTo group m j test → test (64 * group + j) ≡ false → IsMaskUpTo group m (j + 1) test
 up_to_same group m j test up fails = up_to_more group m m j test up up.small (up.above j (omega arith) ∙ sym fails) (λ k other. refl)
 
-pub up_to_all : (group mask : ℕ) (test : ℕ → Bool) → IsMaskUpTo group mask 64 test → IsMaskOf group mask test
-up_to_all group mask test up = record {
-  small = up.small;
-  bits = λ c h. let place : 64 * group + c % 64 ≡ c = omega (arith, h) in up.below (c % 64) (omega arith) ∙ ap test place;
-}
-
 -- bit j of a mask that is right
 pub bit_of : (group mask j : ℕ) (test : ℕ → Bool) → IsMaskOf group mask test → j < 64 → has_bit mask j ≡ test (64 * group + j)
 bit_of group mask j test is below =

@@ -110,10 +110,6 @@ pub current : (fixed : Fixed) (o : Option Player) (player : Player) (seat : Mach
 current fixed o player seat piece is taken there =
     (taken_seat fixed o player seat is taken).piece ∙ ap (λ (x : Option Checked). option_map (piece_of fixed.base) x) there
 
-pub no_current : (fixed : Fixed) (o : Option Player) (player : Player) (seat : MachineSeat) → StandsForSeat fixed o seat → IsTakenPlayer o player → player.piece ≡ None → seat.piece ≡ None
-no_current fixed o player seat is taken there =
-    (taken_seat fixed o player seat is taken).piece ∙ ap (λ (x : Option Checked). option_map (piece_of fixed.base) x) there
-
 -- a chunk that a seat claims is claimed in the state
 seat_claimed : (m : Machine) (n c : ℕ) → seat_has m n c ≡ true → is_claimed (store_of m) c ≡ true
 seat_claimed m n c ours = ap (λ (o : Option ℕ). is_some (option_map (λ (k : ℕ). k ∷ []) o)) (seat_claim n (m.claim c) ours)

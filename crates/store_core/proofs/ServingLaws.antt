@@ -150,14 +150,7 @@ slice_binds fixed history blob keyed is legal (Some l) e start len text h = elim
 pub served_nodes_bind : ServedBinds
 served_nodes_bind fixed history blob start len text keyed is legal h = slice_binds fixed history blob keyed is legal (state_after history).recorded refl start len text h
 
--- the same, whatever nodes the piece was used for
-pub parent_held_binds : (fixed : Fixed) (history : List Event) (blob : List ℕ) (m : ℕ) (bytes : List ℕ) → IsKeyed fixed.mode → IsBlob fixed blob
-    → IsLegal fixed history → (state_after history).parents m ≡ Some bytes → (parent_of fixed.mode blob m ≡ Some bytes) ⊎ CollisionFrom fixed history blob
-parent_held_binds fixed history blob m bytes keyed is legal h = elim (held_parent_binds fixed history blob m bytes keyed is legal h) [
-  | inl same ↦ inl same
-  | inr named ↦ inr (collision_for fixed history blob (λ node. node ≡ Parent m) (λ node. Unit {0}) (λ node there. tt) named)
-]
-
+-- the same, whatever nodes the pieces were used for
 pub served_binds : (fixed : Fixed) (history : List Event) (blob : List ℕ) (start len : ℕ) (text : List ℕ) → IsKeyed fixed.mode → IsBlob fixed blob
     → IsLegal fixed history → serving (state_after history) start len ≡ Text text → (text ≡ slice_text fixed.mode blob start len) ⊎ CollisionFrom fixed history blob
 served_binds fixed history blob start len text keyed is legal h = elim (served_nodes_bind fixed history blob start len text keyed is legal h) [

@@ -155,12 +155,6 @@ picked slots group mask among test c is hit =
     let parts = and_parts (nat_lt c (length slots)) (test (slot_at slots c)) all.1 in
     record { inside = parts.0; passes = parts.1 }
 
-pub picked_free : (slot : Slot) → is_free_slot slot ≡ true → held_in slot ≡ None
-picked_free slot h = free_held slot h
-
-pub picked_of : (seat : ℕ) (slot : Slot) → is_of seat slot ≡ true → held_in slot ≡ None
-picked_of seat slot h = of_held seat slot h
-
 -- no bits
 pub no_mask : (group : ℕ) (test : ℕ → Bool) → ((c : ℕ) → c / 64 ≡ group → test c ≡ false) → IsMaskOf group 0 test
 no_mask group test none = record { small = omega arith; bits = λ c h. has_bit-zero (c % 64) ∙ sym (none c h) }

@@ -1,6 +1,6 @@
 -- The state of a store: which chunks it holds, who claims which, the length of the blob once it is known, and which
 -- parents of its tree it holds.
-use Rattle.std.specs.Prelude.{◌≡◌, ℕ, zero, suc, ◌+◌, ◌/◌, ◌%◌, Bool, true, false, List, [], ◌∷◌, Option, None, Some, is_some, option_and_then, slice_get, if◌then◌else◌}
+use Rattle.std.specs.Prelude.{ℕ, zero, suc, ◌+◌, ◌/◌, ◌%◌, Bool, false, List, [], ◌∷◌, Option, None, Some, is_some, option_and_then, slice_get, if◌then◌else◌}
 use Rattle.store_core.specs.Names.{Name, has_name}
 
 -- Each is a finite map. Two are from the numbers of chunks: to a chunk's bytes, and to the name that claims it. The
@@ -37,9 +37,6 @@ claims names s c = is_among names (s.claim c)
 -- The byte at position q. The position is held if chunk q / 1024 is, and has more than q % 1024 bytes.
 abbrev pub byte_at : State → ℕ → Option ℕ
 byte_at s q = option_and_then (λ bytes. slice_get bytes (q % 1024)) (s.held (q / 1024))
-
-abbrev pub IsHeldAt : State → ℕ → Type 0
-IsHeldAt s q = is_some (byte_at s q) ≡ true
 
 -- a byte, and what comes after it, or nothing where it isn't held
 abbrev pub byte_and : Option ℕ → List ℕ → List ℕ

@@ -1,8 +1,9 @@
 -- Take and Give are the machine's Claim and GiveBack.
-use Rattle.std.proofs.Common.{◌≡◌, ◌≢◌, ℕ, ◌+◌, ◌*◌, ◌/◌, ◌%◌, nat_lt, Bool, true, false, not, ◌&&◌, ◌||◌, if◌then◌else◌, List, Option, None, Some, is_some, set, slice_index, refl, sym, ap, subst, ◌∙◌, arith, inl, inr, eq-eqb}
+use Rattle.std.proofs.Common.{◌≡◌, ◌≢◌, ℕ, ◌+◌, ◌*◌, ◌/◌, ◌%◌, nat_lt, Bool, true, false, not, ◌&&◌, ◌||◌, if◌then◌else◌, List, Option, None, Some, is_some, refl, sym, ap, subst, ◌∙◌, arith, inl, inr, eq-eqb}
 use Rattle.std.specs.Int.{bit_not, w64}
 use Rattle.std.specs.Int.Bits.{bit_and, bit_or}
-use Rattle.std.proofs.lemmas.Bool.{and_left, and_parts, both_ways, cases_Bool, cases_eq, ne_eqb, not-true, or_parts}
+use Rattle.std.proofs.Math.Bool.{and_assoc}
+use Rattle.std.proofs.lemmas.Bool.{and_parts, both_ways, cases_Bool, ne_eqb, not-true, or_parts}
 use Rattle.store_core.specs.declared.micro.MicroStep.{MicroStep}
 use Rattle.store_core.specs.declared.micro.MicroStep.TheVariants.{Claim, GiveBack}
 use Rattle.store_core.specs.declared.micro.Reply.{Reply}
@@ -17,39 +18,9 @@ use Rattle.store_core.proofs.MachineInvariants.{claim_seat}
 use Rattle.store_core.proofs.Tells.{masked}
 use Rattle.store_steps.specs.Layout.{cell_place, claim_place, claim_word, length_place}
 use Rattle.store_steps.specs.Simulates.{GiveIsGiveBack, TakeIsClaim}
-use Rattle.store_core.proofs.Bits.{and_small, has_bit-and, has_bit-not, has_bit-or}
+use Rattle.store_core.proofs.Bits.{and_small}
 use Rattle.store_steps.proofs.Simulating.{hidden, others_not, read_on, seat_is, stands_after, stays_stored, stored_is}
-use Rattle.store_steps.proofs.WrittenWords.{left, put}
-
--- a mask's chunks, and those of other groups
-here_is : (group mask c : ℕ) → c / 64 ≡ group → in_mask group mask c ≡ has_bit mask (c % 64)
-here_is group mask c at = ap (λ (b : Bool). b && has_bit mask (c % 64)) (eq-eqb (c / 64) group at)
-
-other_is : (group mask c : ℕ) → c / 64 ≢ group → in_mask group mask c ≡ false
-other_is group mask c other = and_left _ _ (ne_eqb (c / 64) group other)
-
--- the bits of a claim word, by whether the chunk is shown and who claims it
-grant_test : (want below busy : Bool) → ((want && below) && not busy) ≡ (want && (below && not busy))
-grant_test true below busy = refl
-grant_test false below busy = refl
-
-take_bit : (asked shown : Bool) (claim : Option ℕ) (n : ℕ)
-    → ((shown || is_some claim) || asked) ≡ (shown || is_some (if asked && not (shown || is_some claim) then Some n else claim))
-take_bit true true claim n = refl
-take_bit true false None n = refl
-take_bit true false (Some k) n = refl
-take_bit false true claim n = refl
-take_bit false false None n = refl
-take_bit false false (Some k) n = refl
-
-give_bit : (given shown : Bool) (claim : Option ℕ) → (given ≡ true → shown ≡ false)
-    → ((shown || is_some claim) && not given) ≡ (shown || is_some (if given then None else claim))
-give_bit true true claim apart = let never : true ≡ false = apart refl in cc
-give_bit true false None apart = refl
-give_bit true false (Some k) apart = refl
-give_bit false true claim apart = refl
-give_bit false false None apart = refl
-give_bit false false (Some k) apart = refl
+use Rattle.store_steps.proofs.WrittenWords.{bits_given, bits_granted, granted_bit, left}
 
 -- what a seat claims afterwards
 claims_more : (hit : Bool) (n : ℕ) (claim : Option ℕ) → is_number n (if hit then Some n else claim) ≡ (hit || is_number n claim)
@@ -74,31 +45,22 @@ take_is_claim fixed pieces s m id group want asked view new here there asks smal
     let step : MicroStep = Claim id group want in
     let reply : Option Reply = Some (Granted granted) in
     let next : Machine = after_step fixed pieces m step reply in
-    let found_bit : (c : ℕ) → c / 64 ≡ group → has_bit found (c % 64) ≡ (is_shown m c || is_some (m.claim c)) = λ c of.
-    ap (λ (g : ℕ). has_bit (claim_word fixed s.words g) (c % 64)) (sym of) ∙ here.stands.claimed c (omega (arith, of, there)) in
-    let granted_bit : (c : ℕ) → c / 64 ≡ group → has_bit granted (c % 64) ≡ (has_bit asked (c % 64) && not (is_shown m c || is_some (m.claim c))) = λ c of.
-    has_bit-and asked (bit_not w64 found) (c % 64)
-    ∙ ap (λ (b : Bool). has_bit asked (c % 64) && b) (has_bit-not found (c % 64) small (omega arith) ∙ ap (λ (b : Bool). not b) (found_bit c of)) in
     let right : IsReply fixed m step reply = (
       granted,
       refl,
       record {
         small = and_small asked (bit_not w64 found) asks.small;
         bits = λ c of.
-            granted_bit c of ∙ ap (λ (b : Bool). b && not (is_shown m c || is_some (m.claim c))) (asks.bits c of)
-            ∙ grant_test (has_bit want (c % 64)) (nat_lt c fixed.capacity) (is_shown m c || is_some (m.claim c));
+            granted_bit fixed (claim_place fixed) (λ g h e. omega (arith, e)) s.words (is_shown m) m.claim here.stands.claimed group there asked c small of
+            ∙ ap (λ (b : Bool). b && not (is_shown m c || is_some (m.claim c))) (asks.bits c of)
+            ∙ and_assoc (has_bit want (c % 64)) (nat_lt c fixed.capacity) (not (is_shown m c || is_some (m.claim c)));
       },
     ) in
-    let free : (c : ℕ) → in_mask group granted c ≡ true → is_some (m.claim c) ≡ false = λ c hit.
-    let busy = not-true _ (and_parts (nat_lt c fixed.capacity) (not (is_shown m c || is_some (m.claim c)))
+    let neither : (c : ℕ) → in_mask group granted c ≡ true → (is_shown m c ≡ false) × (is_some (m.claim c) ≡ false) = λ c hit.
+    let free = and_parts (nat_lt c fixed.capacity) (not (is_shown m c || is_some (m.claim c)))
     (and_parts (has_bit want (c % 64)) (nat_lt c fixed.capacity && not (is_shown m c || is_some (m.claim c)))
-    (masked group granted (λ c. has_bit want (c % 64) && (nat_lt c fixed.capacity && not (is_shown m c || is_some (m.claim c)))) c right.2 hit)).1).1 in
-    (or_parts (is_shown m c) (is_some (m.claim c)) busy).1 in
-    let dark : (c : ℕ) → in_mask group granted c ≡ true → is_shown m c ≡ false = λ c hit.
-    let busy = not-true _ (and_parts (nat_lt c fixed.capacity) (not (is_shown m c || is_some (m.claim c)))
-    (and_parts (has_bit want (c % 64)) (nat_lt c fixed.capacity && not (is_shown m c || is_some (m.claim c)))
-    (masked group granted (λ c. has_bit want (c % 64) && (nat_lt c fixed.capacity && not (is_shown m c || is_some (m.claim c)))) c right.2 hit)).1).1 in
-    (or_parts (is_shown m c) (is_some (m.claim c)) busy).0 in
+    (masked group granted (λ c. has_bit want (c % 64) && (nat_lt c fixed.capacity && not (is_shown m c || is_some (m.claim c)))) c right.2 hit)).1 in
+    or_parts (is_shown m c) (is_some (m.claim c)) (not-true _ free.1) in
     record {
       legal = there;
       right = right;
@@ -106,29 +68,18 @@ take_is_claim fixed pieces s m id group want asked view new here there asks smal
           (λ c. claims_more (in_mask group granted c) id (m.claim c) ∙ ap (λ (b : Bool). in_mask group granted c || b) (seat_is fixed pieces s m id view here c)
           ∙ sym (took.claims_are c))
           (λ k c other. elim (cases_Bool (in_mask group granted c)) [
-            | inl hit ↦ rw hit (other_number k id other ∙ sym (none_of k (m.claim c) (free c hit)))
+            | inl hit ↦ rw hit (other_number k id other ∙ sym (none_of k (m.claim c) (neither c hit).1))
             | inr miss ↦ rw miss refl
           ])
           (claim_place fixed group) (bit_or found asked) (one_step fixed pieces m step reply tt here.stands.served there right).served
           (λ c w below cell. left s.words (claim_place fixed group) (bit_or found asked) (cell_place fixed (129 * c + w)) (λ e. omega (arith, e, there)) ∙ here.stands.cells c w below cell)
           (λ g below. left s.words (claim_place fixed group) (bit_or found asked) g (λ e. omega (arith, e, below)) ∙ here.stands.held g below)
-          (λ c below. elim (cases_eq (c / 64) group) [
-            | inl of ↦
-                ap (λ (g : ℕ). has_bit (slice_index (set s.words (claim_place fixed group) (bit_or found asked)) (claim_place fixed g)) (c % 64)) of
-                ∙ ap (λ (w : ℕ). has_bit w (c % 64)) (put s.words (claim_place fixed group) (bit_or found asked) (omega (arith, there, here.kept.words.count)))
-                ∙ has_bit-or found asked (c % 64) ∙ ap (λ (b : Bool). b || has_bit asked (c % 64)) (found_bit c of)
-                ∙ take_bit (has_bit asked (c % 64)) (is_shown m c) (m.claim c) id
-                ∙ ap (λ (b : Bool). is_shown m c || is_some (if b then Some id else m.claim c)) (sym (granted_bit c of) ∙ sym (here_is group granted c of))
-            | inr other ↦
-                ap (λ (w : ℕ). has_bit w (c % 64))
-                (left s.words (claim_place fixed group) (bit_or found asked) (claim_place fixed (c / 64)) (λ e. other (omega (arith, e))))
-                ∙ here.stands.claimed c below
-                ∙ ap (λ (b : Bool). is_shown m c || is_some (if b then Some id else m.claim c)) (sym (other_is group granted c other))
-          ])
+          (bits_granted fixed (claim_place fixed) (λ g h e. omega (arith, e)) s.words (is_shown m) m.claim here.stands.claimed group there asked (Some id) refl small
+          (omega (arith, there, here.kept.words.count)))
           (left s.words (claim_place fixed group) (bit_or found asked) (length_place fixed) (λ e. omega (arith, e, there)) ∙ here.stands.recorded)
           (λ c w wrote by below. elim (cases_Bool (in_mask group granted c)) [
             | inl hit ↦
-                absurd (both_ways _ (none_of id (m.claim c) (free c hit)) (here.stands.served.kept.known id c w wrote (dark c hit)))
+                absurd (both_ways _ (none_of id (m.claim c) (neither c hit).1) (here.stands.served.kept.known id c w wrote (neither c hit).0))
             | inr miss ↦
                 ap (λ (words : List StoredWord). stored words (129 * c + w)) took.written_are
                 ∙ stored_is fixed pieces s m id view here c w wrote (rw miss at by) below
@@ -167,22 +118,8 @@ give_is_give_back fixed pieces s m id group mask given view new here there ours 
           (λ c w below cell. left s.words (claim_place fixed group) (bit_and found (bit_not w64 given)) (cell_place fixed (129 * c + w)) (λ e. omega (arith, e, there))
           ∙ here.stands.cells c w below cell)
           (λ g below. left s.words (claim_place fixed group) (bit_and found (bit_not w64 given)) g (λ e. omega (arith, e, below)) ∙ here.stands.held g below)
-          (λ c below. elim (cases_eq (c / 64) group) [
-            | inl of ↦
-                ap (λ (g : ℕ). has_bit (slice_index (set s.words (claim_place fixed group) (bit_and found (bit_not w64 given))) (claim_place fixed g)) (c % 64)) of
-                ∙ ap (λ (w : ℕ). has_bit w (c % 64)) (put s.words (claim_place fixed group) (bit_and found (bit_not w64 given)) (omega (arith, there, here.kept.words.count)))
-                ∙ has_bit-and found (bit_not w64 given) (c % 64)
-                ∙ ap (λ (b : Bool). b && has_bit (bit_not w64 given) (c % 64))
-                (ap (λ (g : ℕ). has_bit (claim_word fixed s.words g) (c % 64)) (sym of) ∙ here.stands.claimed c below)
-                ∙ ap (λ (b : Bool). (is_shown m c || is_some (m.claim c)) && b)
-                (has_bit-not given (c % 64) ours.small (omega arith) ∙ ap (λ (b : Bool). not b) (sym (here_is group given c of)))
-                ∙ give_bit (in_mask group given c) (is_shown m c) (m.claim c) (λ hit. hidden fixed pieces s m id view here c (its c hit))
-            | inr other ↦
-                ap (λ (w : ℕ). has_bit w (c % 64))
-                (left s.words (claim_place fixed group) (bit_and found (bit_not w64 given)) (claim_place fixed (c / 64)) (λ e. other (omega (arith, e))))
-                ∙ here.stands.claimed c below
-                ∙ ap (λ (b : Bool). is_shown m c || is_some (if b then None else m.claim c)) (sym (other_is group given c other))
-          ])
+          (bits_given fixed (claim_place fixed) (λ g h e. omega (arith, e)) s.words (is_shown m) m.claim here.stands.claimed group there given ours.small
+          (λ c hit. hidden fixed pieces s m id view here c (its c hit)) (omega (arith, there, here.kept.words.count)))
           (left s.words (claim_place fixed group) (bit_and found (bit_not w64 given)) (length_place fixed) (λ e. omega (arith, e, there)) ∙ here.stands.recorded)
           (λ c w wrote by below. elim (cases_Bool (in_mask group given c)) [
             | inl hit ↦ let none : None ≡ Some id = rw hit at by in cc

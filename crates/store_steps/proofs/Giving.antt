@@ -1,8 +1,8 @@
 -- Give: one and on the claim word.
-use Rattle.std.proofs.Common.{◌≡◌, ◌≢◌, ℕ, ◌*◌, ◌/◌, ◌%◌, ◌^◌, ◌<◌, ◌==◌, Bool, true, false, not, ◌&&◌, ◌||◌, if◌then◌else◌, List, [], ◌∷◌, Option, None, Some, is_some, slice_index, set, refl, sym, ap, subst, ◌∙◌, arith, inl, inr, ne_eqb, eq-eqb, eqb-true}
+use Rattle.std.proofs.Common.{◌≡◌, ℕ, ◌*◌, ◌/◌, ◌%◌, ◌^◌, ◌<◌, ◌==◌, Bool, true, false, ◌&&◌, if◌then◌else◌, List, [], ◌∷◌, Option, None, Some, slice_index, set, refl, sym, ap, subst, ◌∙◌, arith, inl, inr, eqb-true}
 use Rattle.std.specs.Int.{w64, bit_not}
 use Rattle.std.specs.Int.Bits.{bit_and}
-use Rattle.std.proofs.lemmas.Bool.{and_left, and_parts, both_ways, cases_Bool, false_from_ne_true}
+use Rattle.std.proofs.lemmas.Bool.{and_parts, both_ways, cases_Bool, false_from_ne_true}
 use mathlib.Core.Option.{some}
 use lib.ListN.{get_elem?}
 use Rattle.atomic_table.specs.Table.{State as Table}
@@ -15,16 +15,15 @@ use Rattle.store_core.specs.Histories.{state_after}
 use Rattle.store_core.specs.Machine.{groups}
 use Rattle.store_core.specs.Masks.{has_bit, in_mask}
 use Rattle.store_core.specs.Names.{Name}
-use Rattle.store_core.specs.States.{State, claims, is_among, is_claimed, is_held}
+use Rattle.store_core.specs.States.{State, claims, is_among, is_held}
 use Rattle.store_core.specs.Views.{names_of, stored, without_chunks}
 use Rattle.store_core.proofs.Lasting.{legal_is_sound}
 use Rattle.store_core.proofs.Tells.{claims-claimed, masked}
 use Rattle.store_steps.specs.Asks.{AreClaimed}
-use Rattle.store_steps.specs.Layout.{cell_at, cell_place, claim_place, claim_word}
+use Rattle.store_steps.specs.Layout.{cell_at, cell_place, claim_place}
 use Rattle.store_steps.specs.Plays.{Gives}
 use Rattle.store_steps.specs.Rule.{RuleHolds, StandFor}
-use Rattle.store_core.proofs.Bits.{has_bit-and, has_bit-not}
-use Rattle.store_steps.proofs.WrittenWords.{claims_stand, left}
+use Rattle.store_steps.proofs.WrittenWords.{bits_given, claims_stand, left}
 use Rattle.store_steps.proofs.StepViews.{Steps, did_step, fitting, claims_now}
 
 -- a word that still counts as stored did so before, and is of none of the mask's chunks
@@ -45,15 +44,6 @@ still_stored group mask (w ∷ words) number value h = elim (cases_Bool (in_mask
         | inr other ↦ let rest = still_stored group mask words number value (rw other at there) in (rest.0, rw other rest.1)
       ]
 ]
-
-give_bit : (held claimed given : Bool) (old : Option Name) → claimed ≡ is_some old → (given ≡ true → held ≡ false)
-    → ((held || claimed) && not given) ≡ (held || is_some (if given then None else old))
-give_bit true claimed true old is free = let never : true ≡ false = free refl in cc
-give_bit true claimed false old is free = refl
-give_bit false true true old is free = refl
-give_bit false true false old is free = is
-give_bit false false true old is free = refl
-give_bit false false false old is free = is
 
 module _ (fixed : Fixed) (s : Table Unit (List SeatView)) (k : RuleHolds fixed s) (id : ℕ) (view : SeatView) (seat : get_elem? s.views id ≡ some (view ∷ [])) where
   -- what it claims isn't held
@@ -93,27 +83,13 @@ module _ (fixed : Fixed) (s : Table Unit (List SeatView)) (k : RuleHolds fixed s
     free c hit = not_held c (and_parts (has_bit mask (c % 64)) (claims (names_of view) state c)
         (masked group given (λ c. has_bit mask (c % 64) && claims (names_of view) state c) c right hit)).1
 
-    in_here : (c : ℕ) → c / 64 ≡ group → in_mask group given c ≡ has_bit given (c % 64)
-    in_here c here = ap (λ (b : Bool). b && has_bit given (c % 64)) (eq-eqb (c / 64) group here)
-
-    in_other : (c : ℕ) → c / 64 ≢ group → in_mask group given c ≡ false
-    in_other c other = and_left _ _ (ne_eqb (c / 64) group other)
-
     abbrev claim_then : ℕ → Option Name
     claim_then c = if in_mask group given c then None else state.claim c
 
-    word_bit : (c : ℕ) → c / 64 ≡ group → has_bit (bit_and found (bit_not w64 given)) (c % 64) ≡ (is_held state c || is_some (claim_then c))
-    word_bit c here =
-        let old : has_bit found (c % 64) ≡ (is_held state c || is_claimed state c) =
-        ap (λ (g : ℕ). has_bit (claim_word fixed s.words g) (c % 64)) (sym here) ∙ k.words.claimed c (omega (arith, here, there)) in
-        has_bit-and found (bit_not w64 given) (c % 64)
-        ∙ ap (λ (b : Bool). b && has_bit (bit_not w64 given) (c % 64)) old
-        ∙ ap (λ (b : Bool). (is_held state c || is_claimed state c) && b) (has_bit-not given (c % 64) ours.small (omega arith) ∙ ap (λ (b : Bool). not b) (sym (in_here c here)))
-        ∙ give_bit (is_held state c) (is_claimed state c) (in_mask group given c) (state.claim c) refl (free c)
-
     words : StandFor fixed (set s.words (claim_place fixed group) (bit_and found (bit_not w64 given))) (after_call (names_of view) (Give group mask given) state)
-    words = claims_stand fixed s.words state k.words claim_then group (bit_and found (bit_not w64 given)) there word_bit
-        (λ c other. ap (λ (b : Bool). if b then None else state.claim c) (in_other c other))
+    words = claims_stand fixed s.words state k.words claim_then group (bit_and found (bit_not w64 given)) there
+        (bits_given fixed (claim_place fixed) (λ g h e. omega (arith, e)) s.words (is_held state) state.claim k.words.claimed group there given ours.small free
+        (omega (arith, there, k.words.count)))
 
     pub give_steps : Steps fixed s id (claim_place fixed group) (bit_and found (bit_not w64 given)) (λ new. Gives group mask given view new)
     give_steps = did_step fixed s k id view seat (Give group mask given) (claim_place fixed group) (bit_and found (bit_not w64 given)) (omega (arith, there)) refl right words

@@ -1,5 +1,5 @@
 -- A step of a seat with one view keeps the rule.
-use Rattle.std.proofs.Common.{◌≡◌, ◌≢◌, ◌⊎◌, ℕ, ◌/◌, ◌<◌, true, false, Option, List, [], ◌∷◌, ◌++◌, length, Contains, set, refl, sym, ap, subst, ◌∙◌, inl, inr, append_assoc}
+use Rattle.std.proofs.Common.{◌≡◌, ◌≢◌, ◌⊎◌, ℕ, ◌/◌, ◌<◌, true, false, Option, Some, List, [], ◌∷◌, ◌++◌, length, Contains, set, refl, sym, ap, subst, ◌∙◌, arith, inl, inr, append_assoc}
 use Rattle.std.proofs.lemmas.Bool.{false≢true, or_cases}
 use mathlib.Core.Option.{some}
 use lib.ListN.{get_elem?}
@@ -18,8 +18,8 @@ use Rattle.store_core.specs.Views.{is_boundary, names_of}
 use Rattle.store_core.proofs.Joining.{plain}
 use Rattle.store_core.proofs.Lasting.{claims_from, legal-append, run-append}
 use Rattle.store_core.proofs.Tells.{claims-claimed, claims_apart, same_name-true}
-use Rattle.store_steps.specs.Layout.{cell_at}
-use Rattle.store_steps.specs.Rule.{AreApart, AreParentsKept, ViewFits, FitsParents, HasView, RuleHolds, IsLater, IsNamed, StandFor, StandForParents}
+use Rattle.store_steps.specs.Layout.{cell_at, parent_at, parent_word_place}
+use Rattle.store_steps.specs.Rule.{AreApart, AreParentsKept, ViewFits, FitsParents, HasView, RuleHolds, IsLater, IsNamed, StandFor, StandForParents, StoresAt}
 use Rattle.store_steps.proofs.ParentsStanding.{LeavesParents, fits_left, fits_same, parents_left}
 use Rattle.store_steps.proofs.Storers.{stores_on}
 use Rattle.store_steps.proofs.Callers.{callers-append, callers_by}
@@ -30,6 +30,10 @@ use Rattle.store_core.proofs.Going.{others-append}
 -- the names of views that have the same entries
 names_same : (names others : List Named) → names ≡ others → plain names ≡ plain others
 names_same names others e = ap (λ (ns : List Named). plain ns) e
+
+-- what holds of a view at a place
+pub placed : (P : ℕ → ℕ → SeatView → Type 0) (i j id part : ℕ) (v view : SeatView) → i ≡ id → j ≡ part → v ≡ view → P id part view → P i j v
+placed P i j id part v view seat_is part_is view_is h = subst (λ (a : ℕ). P a j v) (sym seat_is) (subst (λ (b : ℕ). P id b v) (sym part_is) (subst (λ (u : SeatView). P id part u) (sym view_is) h))
 
 -- a view at a place, with the entries of another
 pub record Before (views : List (List SeatView)) (seat part : ℕ) (view : SeatView) : Type 0 where
@@ -143,28 +147,39 @@ module _ (fixed : Fixed) (s : Table Unit (List SeatView)) (k : RuleHolds fixed s
       cells number (claims-claimed (names_of v) (state_after k.history) (number / 129) c)
       (claims_apart (state_after k.history) (names_of view) (names_of v) (number / 129) turned c))
 
+  -- Which parents are kept after the step, by these storers: the seat's view fits, and what others are storing they still
+  -- are, with its words.
+  pub parents_then : (later : List ℕ) (parents : ℕ → Option (List ℕ)) (storer : ℕ → Option (ℕ × ℕ)) → StandForParents fixed later parents storer
+      → FitsParents fixed later storer id 0 new → ((m i j : ℕ) → i ≢ id → k.parents.storer m ≡ Some (i, j) → storer m ≡ Some (i, j))
+      → ((number i j : ℕ) → i ≢ id → k.parents.storer (number / 8) ≡ Some (i, j) → parent_at fixed later number ≡ parent_at fixed s.words number)
+      → ((m i j : ℕ) → storer m ≡ Some (i, j) → StoresAt (set s.views id (new ∷ [])) i j m) → AreParentsKept fixed later (set s.views id (new ∷ [])) parents
+  parents_then later parents storer stand ours owned cells by = record {
+    storer = storer;
+    stand = stand;
+    fit = λ i j v h. fit_from i j v (found i j v h);
+    by = by;
+  } where
+    fit_from : (i j : ℕ) (v : SeatView) → Found i j v → FitsParents fixed later storer i j v
+    fit_from i j v (inl here) = placed (FitsParents fixed later storer) i j id 0 v new here.0 here.1 here.2 ours
+    fit_from i j v (inr other) =
+        let f = k.parents.fit i j v other.1 in
+        record {
+          low = f.low;
+          owned = λ m is. owned m i j other.0 (f.owned m is);
+          written = λ number value is. let w = f.written number value is in (w.0, cells number i j other.0 (f.owned (number / 8) w.0) ∙ w.1);
+        }
+
   -- Where the words of parents are left, and the parents held are the same, those that are held or being
   -- stored are kept, since the seat is storing the same.
   pub parents_kept : (later : List ℕ) → LeavesParents fixed s.words later → (parents : ℕ → Option (List ℕ)) → parents ≡ (state_after k.history).parents
       → new.storing ≡ view.storing → new.parent_words ≡ view.parent_words → AreParentsKept fixed later (set s.views id (new ∷ [])) parents
-  parents_kept later leaves parents same_parents same_storing same_words = record {
-    storer = k.parents.storer;
-    stand = subst (λ (p : ℕ → Option (List ℕ)). StandForParents fixed later p k.parents.storer) (sym same_parents)
-        (parents_left fixed s.words later (state_after k.history).parents k.parents.storer leaves k.parents.stand);
-    fit = λ seat part v h. fit_from seat part v (found seat part v h);
-    by = λ m i j is. stores_on s.views id view new seat m (λ h. ap (λ (bs : List Boundaries). is_boundary bs m) same_storing ∙ h) i j (k.parents.by m i j is);
-  } where
-    its_fit : FitsParents fixed later k.parents.storer id 0 new
-    its_fit =
-        let old = fits_left fixed s.words later k.parents.storer id 0 view leaves (k.parents.fit id 0 view its) in
-        fits_same fixed later k.parents.storer id 0 view new same_storing same_words old
-
-    fit_from : (seat part : ℕ) (v : SeatView) → Found seat part v → FitsParents fixed later k.parents.storer seat part v
-    fit_from seat part v (inl here) =
-        subst (λ (p : ℕ). FitsParents fixed later k.parents.storer p part v) (sym here.0)
-        (subst (λ (q : ℕ). FitsParents fixed later k.parents.storer id q v) (sym here.1)
-        (subst (λ (u : SeatView). FitsParents fixed later k.parents.storer id 0 u) (sym here.2) its_fit))
-    fit_from seat part v (inr other) = fits_left fixed s.words later k.parents.storer seat part v leaves (k.parents.fit seat part v other.1)
+  parents_kept later leaves parents same_parents same_storing same_words = parents_then later parents k.parents.storer
+      (subst (λ (p : ℕ → Option (List ℕ)). StandForParents fixed later p k.parents.storer) (sym same_parents)
+      (parents_left fixed s.words later (state_after k.history).parents k.parents.storer leaves k.parents.stand))
+      (fits_same fixed later k.parents.storer id 0 view new same_storing same_words
+      (fits_left fixed s.words later k.parents.storer id 0 view leaves (k.parents.fit id 0 view its)))
+      (λ m i j other is. is) (λ number i j other is. leaves (parent_word_place fixed number) (omega arith))
+      (λ m i j is. stores_on s.views id view new seat m (λ h. ap (λ (bs : List Boundaries). is_boundary bs m) same_storing ∙ h) i j (k.parents.by m i j is))
 
   -- The rule after a step of the seat's that makes word i the number n, with its own events and its new view.
   pub kept_step : (own : List Event) (i n : ℕ) → AreBy (names_of view) own → IsLegal fixed (k.history ++ own)

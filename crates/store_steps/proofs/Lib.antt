@@ -28,9 +28,5 @@ pub mod SideSteps
 pub mod Storers
 pub mod ParentsStanding
 pub mod ParentsAside
-pub mod ParentClaims
-pub mod ParentStoring
-pub mod ParentPublishing
-pub mod ParentLooking
 pub mod Renaming
 pub mod JoinedSeats

@@ -1,36 +1,55 @@
--- Loads: of a held word, of a cell word, and of the length word.
-use Rattle.std.proofs.Common.{ne_eqb, ◌≡◌, ℕ, ◌+◌, ◌*◌, ◌-◌, ◌%◌, ◌<◌, ◌==◌, false, List, [], ◌∷◌, Option, None, Some, slice_index, refl, sym, ap, subst, ◌∙◌, arith, inl, inr}
-use Rattle.std.proofs.lemmas.Bool.{cases_Bool}
+-- Loads: of a held word, of the length word, and of a word of a chunk's cell or of a parent.
+use Rattle.std.proofs.Common.{ne_eqb, ◌≡◌, ℕ, ◌+◌, ◌*◌, ◌-◌, ◌%◌, ◌<◌, ◌==◌, false, List, [], ◌∷◌, Option, None, Some, slice_index, refl, sym, ap, ◌∙◌, arith, Bool, true, if◌then◌else◌, ◌≢◌, ◌/◌, nat_lt, ◌||◌, is_none, is_some, inl, inr, eq-eqb, eqb-true}
 use mathlib.Core.Option.{some}
 use lib.ListN.{get_elem?}
 use Rattle.atomic_table.specs.Table.{State as Table}
 use Rattle.store_core.specs.declared.fixed.Fixed.{Fixed}
-use Rattle.store_core.specs.declared.history.Call.TheVariants.{Length}
+use Rattle.store_core.specs.declared.history.Call.TheVariants.{Length, Read, Parents, Serve}
 use Rattle.store_core.specs.declared.history.Event.{Event}
 use Rattle.store_core.specs.declared.view.SeatView.{SeatView}
-use Rattle.store_core.specs.Histories.{AreLegalFrom, IsLegal, run, state_after}
+use Rattle.store_core.specs.Histories.{AreLegalFrom, run, state_after}
 use Rattle.store_core.specs.Machine.{groups}
-use Rattle.store_core.specs.Masks.{has_bit}
-use Rattle.store_core.specs.States.{State, is_held}
+use Rattle.store_core.specs.Masks.{has_bit, in_mask}
+use Rattle.store_core.specs.Names.{Name}
+use Rattle.store_core.specs.States.{State, is_held, read_bytes}
 use Rattle.store_core.specs.Views.{names_of}
 use Rattle.store_core.proofs.Lasting.{held_lasts}
-use Rattle.store_steps.specs.Layout.{cell_place, held_word, length_code, length_place}
-use Rattle.store_steps.specs.Plays.{LoadsLength, CopiesWord, Loads, length_in}
+use Rattle.store_steps.specs.Layout.{cell_place, held_word, length_code, length_place, parent_word_place}
+use Rattle.store_steps.specs.Plays.{LoadsLength, CopiesWord, Loads, length_in, CopiesParent, LoadsNode, LoadsToServe, LoadsToStore}
 use Rattle.store_steps.specs.Reads.{is_last, read_events}
 use Rattle.store_steps.specs.Rule.{RuleHolds}
 use Rattle.store_core.specs.Knowledge.{event_of}
 use Rattle.store_steps.proofs.Lists.{AreBy}
-use Rattle.store_steps.proofs.StepViews.{Steps, fitting, look_step, still_step}
+use Rattle.store_steps.proofs.StepViews.{Steps, look_step, still, still_step}
+use Rattle.std.proofs.lemmas.Bool.{both_ways, cases_Bool, false≢true}
+use Rattle.bao_text.specs.declared.walk.Node.{Node}
+use Rattle.bao_text.specs.declared.walk.Node.TheVariants.{Chunk, Parent}
+use Rattle.store_core.specs.declared.history.Piece.{Piece}
+use Rattle.store_core.specs.declared.history.Storing.TheVariants.{OtherLength, Stored}
+use Rattle.store_core.specs.Events.{after_call, parents_after}
+use Rattle.store_core.specs.Pieces.{IsAcceptedPiece, length_of, parent_bytes}
+use Rattle.store_core.specs.Serves.{node_held, serving}
+use Rattle.store_core.proofs.Bits.{has_bit-zero}
+use Rattle.store_core.proofs.ParentOrigins.{parent_lasts}
+use Rattle.store_steps.specs.Slices.{is_recorded, node_events, node_number, node_place, unserved_events, unstored_events}
 
--- a load's events are right, leave the state, and are the seat's
-reads_right : (fixed : Fixed) (view : SeatView) (group at len : ℕ) (s : State) → AreLegalFrom fixed s (read_events view group at len s)
-reads_right fixed view group at len s = elim (cases_Bool (is_last view.fixed group at len s)) [ inl last ↦ rw last (refl, tt) | inr more ↦ rw more tt ]
+-- a choice between a list and another by a bit
+pub either_legal : (fixed : Fixed) (s : State) (b : Bool) (mine others : List Event) → (b ≡ true → AreLegalFrom fixed s mine) → (b ≡ false → AreLegalFrom fixed s others)
+    → AreLegalFrom fixed s (if b then mine else others)
+either_legal fixed s true mine others one other = one refl
+either_legal fixed s false mine others one other = other refl
 
+pub either_quiet : (s : State) (b : Bool) (mine others : List Event) → run s mine ≡ s → run s others ≡ s → run s (if b then mine else others) ≡ s
+either_quiet s true mine others one other = one
+either_quiet s false mine others one other = other
+
+pub either_by : (names : List Name) (b : Bool) (mine others : List Event) → AreBy names mine → AreBy names others → AreBy names (if b then mine else others)
+either_by names true mine others one other = one
+either_by names false mine others one other = other
+
+-- a load's event leaves the state
 pub reads_quiet : (view : SeatView) (group at len : ℕ) (s : State) → run s (read_events view group at len s) ≡ s
-reads_quiet view group at len s = elim (cases_Bool (is_last view.fixed group at len s)) [ inl last ↦ rw last refl | inr more ↦ rw more refl ]
-
-reads_by : (view : SeatView) (group at len : ℕ) (s : State) → AreBy (names_of view) (read_events view group at len s)
-reads_by view group at len s = elim (cases_Bool (is_last view.fixed group at len s)) [ inl last ↦ rw last (refl, tt) | inr more ↦ rw more tt ]
+reads_quiet view group at len s = either_quiet s (is_last view.fixed group at len s) (event_of view (Read at len (read_bytes s at len)) ∷ []) [] refl refl
 
 -- the length that a length's word stands for
 pub length_back : (o : Option ℕ) → length_in (length_code o) ≡ o
@@ -40,6 +59,27 @@ length_back (Some l) =
     let back : l + 1 - 1 ≡ l = omega arith in
     rw some (ap (λ (n : ℕ). Some n) back)
 
+is_recorded-true : (o : Option ℕ) (l : ℕ) → is_recorded o l ≡ true → o ≡ Some l
+is_recorded-true None l h = cc
+is_recorded-true (Some known) l h = ap (λ (n : ℕ). Some n) (eqb-true known l h)
+
+is_recorded-false : (o : Option ℕ) (l : ℕ) → is_recorded o l ≡ false → o ≢ Some l
+is_recorded-false None l h e = cc
+is_recorded-false (Some known) l h e = let same : known ≡ l = cc in false≢true (sym h ∙ eq-eqb known l same)
+
+-- a mask of no bits is of no boundary, so that nothing is stored
+no_boundary : (group m : ℕ) → in_mask group 0 m ≡ false
+no_boundary group m = elim (cases_Bool (m / 64 == group)) [
+  | inl here ↦ rw here (has_bit-zero (m % 64))
+  | inr other ↦ rw other refl
+]
+
+none_after : (group : ℕ) (piece : Piece) (s : State) (names : List Name) → after_call names (Parents group piece (Stored 0)) s ≡ s
+none_after group piece s names =
+    let each : (m : ℕ) → parents_after (Stored 0) group piece s.parents m ≡ s.parents m = λ m.
+    ap (λ (b : Bool). if b then parent_bytes piece m else s.parents m) (no_boundary group m) in
+    λ i. record s { parents = λ m. each m i }
+
 module _ (fixed : Fixed) (s : Table Unit (List SeatView)) (k : RuleHolds fixed s) (id : ℕ) (view : SeatView) (seat : get_elem? s.views id ≡ some (view ∷ [])) where
   abbrev state : State
   state = state_after k.history
@@ -47,8 +87,10 @@ module _ (fixed : Fixed) (s : Table Unit (List SeatView)) (k : RuleHolds fixed s
   pub load_steps : (group at len : ℕ) → group < groups fixed
       → Steps fixed s id group (slice_index s.words group) (λ new. Loads group at len (slice_index s.words group) view new)
   load_steps group at len there =
-      let t = look_step fixed s k id view seat (read_events view group at len) group (reads_right fixed view group at len state)
-      (reads_quiet view group at len state) (reads_by view group at len state) in
+      let b : Bool = is_last view.fixed group at len state in
+      let read : List Event = event_of view (Read at len (read_bytes state at len)) ∷ [] in
+      let t = look_step fixed s k id view seat (read_events view group at len) group (either_legal fixed state b read [] (λ is. (refl, tt)) (λ is. tt))
+      (reads_quiet view group at len state) (either_by (names_of view) b read [] (refl, tt) tt) in
       record {
         new = t.new;
         kept = t.kept;
@@ -72,17 +114,87 @@ module _ (fixed : Fixed) (s : Table Unit (List SeatView)) (k : RuleHolds fixed s
         told = record { between = t.told.0.between; goes_on = t.told.0.goes_on; claims_are = t.told.0.claims_are; written_are = t.told.0.written_are; storing_is = t.told.0.storing_is };
       }
 
-  -- what the seat saw held is held
-  held_now : (c : ℕ) (bytes : List ℕ) → (state_after view.seen).held c ≡ Some bytes → state.held c ≡ Some bytes
-  held_now c bytes h =
-      let on = (fitting fixed s k id view seat).continues in
-      ap (λ (t : List Event). (state_after t).held c) on.is
-      ∙ held_lasts fixed view.seen on.between c bytes (subst (λ (t : List Event). IsLegal fixed t) on.is k.legal) h
-
   pub copy_steps : (chunk w : ℕ) → w < 129 → Steps fixed s id (cell_place fixed (129 * chunk + w)) (slice_index s.words (cell_place fixed (129 * chunk + w)))
       (λ new. CopiesWord chunk w (slice_index s.words (cell_place fixed (129 * chunk + w))) view new)
   copy_steps chunk w below = record {
     new = view;
     kept = still_step fixed s k id view seat (cell_place fixed (129 * chunk + w));
-    told = record { same = refl; finds = λ bytes held. k.words.cells chunk w bytes (held_now chunk bytes held) below };
+    told = record {
+      same = refl;
+      finds = λ bytes held.
+          k.words.cells chunk w bytes (still fixed s k id view seat (λ t. t.held chunk ≡ Some bytes) (λ more legal is. held_lasts fixed view.seen more chunk bytes legal is) held) below;
+    };
+  }
+
+  -- the bit of a node that could be held
+  pub held_node : (node : Node) → node_number node < fixed.capacity
+      → has_bit (slice_index s.words (node_place fixed node)) (node_number node % 64) ≡ is_some (node_held state node)
+  held_node (Chunk c) below = k.words.held c (omega (arith, below))
+  held_node (Parent m) below = k.parents.stand.held m (omega (arith, below))
+
+  pub load_node_steps : (node : Node) (last : Bool) (start len : ℕ) → node_number node < fixed.capacity
+      → Steps fixed s id (node_place fixed node) (slice_index s.words (node_place fixed node))
+      (λ new. LoadsNode node last start len (slice_index s.words (node_place fixed node)) view new)
+  load_node_steps node last start len below =
+      let serve : List Event = event_of view (Serve start len (serving state start len)) ∷ [] in
+      let b : Bool = last || is_none (node_held state node) in
+      let t = look_step fixed s k id view seat (node_events view node last start len) (node_place fixed node)
+      (either_legal fixed state b serve [] (λ is. (refl, tt)) (λ is. tt)) (either_quiet state b serve [] refl refl) (either_by (names_of view) b serve [] (refl, tt) tt) in
+      record {
+        new = t.new;
+        kept = t.kept;
+        told = record {
+          looked = t.told.0;
+          finds = held_node node below ∙ ap (λ (t : State). is_some (node_held t node)) (sym t.told.1);
+        };
+      }
+
+  -- the length word stands for the recorded length
+  length_found : length_in (slice_index s.words (length_place fixed)) ≡ state.recorded
+  length_found = ap (λ (n : ℕ). length_in n) k.words.recorded ∙ length_back state.recorded
+
+  pub length_to_serve_steps : (start len : ℕ) → Steps fixed s id (length_place fixed) (slice_index s.words (length_place fixed))
+      (λ new. LoadsToServe start len (slice_index s.words (length_place fixed)) view new)
+  length_to_serve_steps start len =
+      let serve : List Event = event_of view (Serve start len (serving state start len)) ∷ [] in
+      let b : Bool = is_none state.recorded in
+      let t = look_step fixed s k id view seat (unserved_events view start len) (length_place fixed)
+      (either_legal fixed state b serve [] (λ is. (refl, tt)) (λ is. tt)) (either_quiet state b serve [] refl refl) (either_by (names_of view) b serve [] (refl, tt) tt) in
+      record {
+        new = t.new;
+        kept = t.kept;
+        told = record { looked = t.told.0; finds = length_found ∙ ap (λ (t : State). t.recorded) (sym t.told.1) };
+      }
+
+  pub length_to_store_steps : (group : ℕ) (piece : Piece) → IsAcceptedPiece fixed piece → Steps fixed s id (length_place fixed) (slice_index s.words (length_place fixed))
+      (λ new. LoadsToStore group piece (slice_index s.words (length_place fixed)) view new)
+  length_to_store_steps group piece accepted =
+      let none : List Event = event_of view (Parents group piece (Stored 0)) ∷ [] in
+      let other : List Event = event_of view (Parents group piece OtherLength) ∷ [] in
+      let known : Bool = is_recorded state.recorded (length_of piece) in
+      let there : Bool = nat_lt group (groups view.fixed) in
+      let inner : List Event = if there then [] else none in
+      let t = look_step fixed s k id view seat (unstored_events view group piece) (length_place fixed)
+      (either_legal fixed state known inner other
+      (λ is. either_legal fixed state there [] none (λ within. tt)
+      (λ absent. ((accepted, (is_recorded-true state.recorded (length_of piece) is, λ m hit. absurd (both_ways (in_mask group 0 m) (no_boundary group m) hit))), tt)))
+      (λ isnt. ((accepted, is_recorded-false state.recorded (length_of piece) isnt), tt)))
+      (either_quiet state known inner other (either_quiet state there [] none refl (none_after group piece state (names_of view))) refl)
+      (either_by (names_of view) known inner other (either_by (names_of view) there [] none tt (refl, tt)) (refl, tt)) in
+      record {
+        new = t.new;
+        kept = t.kept;
+        told = record { looked = t.told.0; finds = length_found ∙ ap (λ (t : State). t.recorded) (sym t.told.1) };
+      }
+
+  pub copy_parent_steps : (m w : ℕ) → w < 8 → Steps fixed s id (parent_word_place fixed (8 * m + w)) (slice_index s.words (parent_word_place fixed (8 * m + w)))
+      (λ new. CopiesParent m w (slice_index s.words (parent_word_place fixed (8 * m + w))) view new)
+  copy_parent_steps m w below = record {
+    new = view;
+    kept = still_step fixed s k id view seat (parent_word_place fixed (8 * m + w));
+    told = record {
+      same = refl;
+      finds = λ bytes held. k.parents.stand.cells m w bytes
+          (still fixed s k id view seat (λ t. t.parents m ≡ Some bytes) (λ more legal is. parent_lasts fixed view.seen more m bytes legal is) held) below;
+    };
   }

@@ -23,7 +23,7 @@ use Rattle.store_core.proofs.Ordering.{merge_order}
 use Rattle.store_steps.specs.Grips.{first_of}
 use Rattle.store_steps.specs.Plays.{MeetsSeat, Merges, OfTwo, later_views}
 use Rattle.store_steps.specs.Rule.{AreApart, ViewFits, FitsParents, HasView, RuleHolds, IsNamed, StoresAt}
-use Rattle.store_steps.proofs.Keeping.{Before, apart_still}
+use Rattle.store_steps.proofs.Keeping.{Before, apart_still, placed}
 use Rattle.store_core.proofs.Naming.{apart_from, merge-cases, merge-some}
 use Rattle.store_steps.proofs.Lists.{one_part}
 use Rattle.store_steps.proofs.Regrouping.{at_other, other_place, rekept, same_place, stand_moved, two_parts}
@@ -236,9 +236,7 @@ module _ (fixed : Fixed) (s : Table Unit (List SeatView)) (k : RuleHolds fixed s
 
   merge_parents : (i j : ℕ) (v : SeatView) → MergeFound i j v → FitsParents fixed s.words storer_then i j v
   merge_parents i j v (inl here) =
-      subst (λ (a : ℕ). FitsParents fixed s.words storer_then a j v) (sym here.0)
-      (subst (λ (b : ℕ). FitsParents fixed s.words storer_then id b v) (sym here.1)
-      (subst (λ (u : SeatView). FitsParents fixed s.words storer_then id 0 u) (sym here.2) merged_parents))
+      placed (FitsParents fixed s.words storer_then) i j id 0 v merged here.0 here.1 here.2 merged_parents
   merge_parents i j v (inr other) =
       let f = k.parents.fit i j v other.1 in
       record {
@@ -331,13 +329,9 @@ module _ (fixed : Fixed) (s : Table Unit (List SeatView)) (k : RuleHolds fixed s
 
   meet_parents : (i j : ℕ) (v : SeatView) → MeetFound i j v → FitsParents fixed s.words k.parents.storer i j v
   meet_parents i j v (inl here) =
-      subst (λ (a : ℕ). FitsParents fixed s.words k.parents.storer a j v) (sym here.0)
-      (subst (λ (b : ℕ). FitsParents fixed s.words k.parents.storer id b v) (sym here.1)
-      (subst (λ (u : SeatView). FitsParents fixed s.words k.parents.storer id 0 u) (sym here.2) (fits_same fixed s.words k.parents.storer id 0 one met_one refl refl parents_one)))
+      placed (FitsParents fixed s.words k.parents.storer) i j id 0 v met_one here.0 here.1 here.2 (fits_same fixed s.words k.parents.storer id 0 one met_one refl refl parents_one)
   meet_parents i j v (inr (inl here)) =
-      subst (λ (a : ℕ). FitsParents fixed s.words k.parents.storer a j v) (sym here.0)
-      (subst (λ (b : ℕ). FitsParents fixed s.words k.parents.storer id b v) (sym here.1)
-      (subst (λ (u : SeatView). FitsParents fixed s.words k.parents.storer id 1 u) (sym here.2) (fits_same fixed s.words k.parents.storer id 1 two met_two refl refl parents_two)))
+      placed (FitsParents fixed s.words k.parents.storer) i j id 1 v met_two here.0 here.1 here.2 (fits_same fixed s.words k.parents.storer id 1 two met_two refl refl parents_two)
   meet_parents i j v (inr (inr other)) = k.parents.fit i j v other.1
 
   -- who was storing a parent is where it was

@@ -25,7 +25,7 @@ use Rattle.store_steps.specs.Rule.{ViewFits, FitsParents, HasView, RuleHolds, Is
 use Rattle.store_steps.specs.Grips.{first_of}
 use Rattle.store_steps.specs.Plays.{PartsInTwo}
 use Rattle.store_steps.proofs.StepViews.{Steps, still_step}
-use Rattle.store_steps.proofs.Keeping.{its, single}
+use Rattle.store_steps.proofs.Keeping.{its, placed, single}
 use Rattle.store_core.proofs.Naming.{child, entry_of, first_entry, first_there, later_cases, name_there, new_names-are, raise-length, raised, raised_cases, same_rest}
 use Rattle.store_steps.proofs.Lists.{one_part}
 use Rattle.store_steps.proofs.Naming.{child_later, later_child, later_raised}
@@ -231,10 +231,8 @@ module _ (fixed : Fixed) (s : Table Unit (List SeatView)) (k : RuleHolds fixed s
 
   parents_in : (i j : ℕ) (v : SeatView) → Found i j v → FitsParents fixed s.words k.parents.storer i j v
   parents_in i j v (is_first _ _ _ p q is) =
-      subst (λ (a : ℕ). FitsParents fixed s.words k.parents.storer a j v) (sym p)
-      (subst (λ (b : ℕ). FitsParents fixed s.words k.parents.storer id b v) (sym q)
-      (subst (λ (u : SeatView). FitsParents fixed s.words k.parents.storer id 0 u) (sym is)
-      (fits_same fixed s.words k.parents.storer id 0 view (split_first view) refl refl (k.parents.fit id 0 view here))))
+      placed (FitsParents fixed s.words k.parents.storer) i j id 0 v (split_first view) p q is
+      (fits_same fixed s.words k.parents.storer id 0 view (split_first view) refl refl (k.parents.fit id 0 view here))
   parents_in i j v (is_second _ _ _ p q is) =
       subst (λ (u : SeatView). FitsParents fixed s.words k.parents.storer i j u) (sym is) (record {
         low = λ m is. let never : false ≡ true = is in cc;

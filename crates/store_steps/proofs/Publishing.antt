@@ -1,50 +1,40 @@
--- Commit: one or on the held word, once all words of the chunks are stored.
-use Rattle.std.proofs.Common.{◌≡◌, ◌≢◌, ℕ, ◌+◌, ◌*◌, ◌/◌, ◌%◌, ◌<◌, Bool, true, false, ◌&&◌, ◌||◌, if◌then◌else◌, List, [], ◌∷◌, Option, None, Some, is_some, slice_index, set, refl, sym, ap, ◌∙◌, arith, inl, inr, ne_eqb, eq-eqb}
+-- One or on a held word, once all words are stored: of chunks, and of parents.
+use Rattle.std.proofs.Common.{◌≡◌, ℕ, ◌+◌, ◌*◌, ◌<◌, Bool, true, ◌&&◌, ◌||◌, if◌then◌else◌, List, [], ◌∷◌, Option, None, Some, slice_index, set, refl, sym, ap, ◌∙◌, arith, inl, inr, ◌≢◌, false, ◌++◌, is_some}
 use Rattle.std.specs.Int.Bits.{bit_or}
-use Rattle.std.proofs.lemmas.Bool.{and_left, and_parts, cases_Bool}
+use Rattle.std.proofs.lemmas.Bool.{and_parts, cases_Bool, false≢true}
+use Rattle.std.proofs.lemmas.List.{length-set}
 use mathlib.Core.Option.{some}
 use lib.ListN.{get_elem?}
 use Rattle.atomic_table.specs.Table.{State as Table}
 use Rattle.store_core.specs.declared.fixed.Fixed.{Fixed}
-use Rattle.store_core.specs.declared.history.Call.TheVariants.{Commit}
+use Rattle.store_core.specs.declared.history.Call.TheVariants.{Commit, Parents}
 use Rattle.store_core.specs.declared.history.Piece.{Piece}
 use Rattle.store_core.specs.declared.view.SeatView.{SeatView}
 use Rattle.store_core.specs.Cells.{cell_word}
-use Rattle.store_core.specs.Events.{after_call}
+use Rattle.store_core.specs.Events.{after_call, IsRightReply}
 use Rattle.store_core.specs.Histories.{state_after}
 use Rattle.store_core.specs.Machine.{groups}
-use Rattle.store_core.specs.Masks.{IsMaskOf, has_bit, in_mask}
+use Rattle.store_core.specs.Masks.{IsMaskOf, in_mask}
 use Rattle.store_core.specs.Names.{Name}
-use Rattle.store_core.specs.Pieces.{IsAcceptedPiece, chunk_bytes, holds_chunk}
-use Rattle.store_core.specs.States.{State, claims, is_held}
-use Rattle.store_core.specs.Views.{names_of}
+use Rattle.store_core.specs.Pieces.{IsAcceptedPiece, chunk_bytes, holds_chunk, length_of, parent_bytes}
+use Rattle.store_core.specs.States.{State, claims, is_claimed, is_held}
+use Rattle.store_core.specs.Views.{names_of, is_boundary, is_storing}
 use Rattle.store_core.proofs.Tells.{claims-claimed, masked}
-use Rattle.store_steps.specs.Asks.{AreHeldClaims, AreWordsStored}
-use Rattle.store_steps.specs.Layout.{cell_at, held_word}
-use Rattle.store_steps.specs.Plays.{Publishes}
-use Rattle.store_steps.specs.Rule.{RuleHolds, StandFor}
-use Rattle.store_core.proofs.Bits.{has_bit-or}
+use Rattle.store_steps.specs.Asks.{AreHeldClaims, AreWordsStored, AreParentsWritten}
+use Rattle.store_steps.specs.Layout.{cell_at, claim_place, length_place, parent_at, parent_claim_place, parent_held_place, parent_word, parent_word_place}
+use Rattle.store_steps.specs.Plays.{Publishes, PublishesParents}
+use Rattle.store_steps.specs.Rule.{RuleHolds, StandFor, FitsParents, StandForParents, StoresAt}
 use Rattle.store_steps.proofs.Giving.{cells_beside, ended_written}
-use Rattle.store_steps.proofs.WrittenWords.{held_stand}
-use Rattle.store_steps.proofs.StepViews.{Steps, did_step, fitting, claims_now}
-
--- the bit of a chunk, whether it is held afterwards, and whether it is held or claimed
-held_bit : (hit held : Bool) (new old : Option (List ℕ)) → held ≡ is_some old → (hit ≡ true → is_some new ≡ true)
-    → (held || hit) ≡ is_some (if hit then new else old)
-held_bit true true new old is has = sym (has refl)
-held_bit true false new old is has = sym (has refl)
-held_bit false true new old is has = is
-held_bit false false new old is has = is
-
-or_true : (b : Bool) → (b || true) ≡ true
-or_true true = refl
-or_true false = refl
-
-either_bit : (hit : Bool) (new old : Option (List ℕ)) (claim : Option Name) → (hit ≡ true → is_some new ≡ true) → (hit ≡ true → is_some claim ≡ true)
-    → (is_some (if hit then new else old) || is_some (if hit then None else claim)) ≡ (is_some old || is_some claim)
-either_bit true new old claim has claimed =
-    ap (λ (b : Bool). b || false) (has refl) ∙ sym (ap (λ (b : Bool). is_some old || b) (claimed refl) ∙ or_true (is_some old))
-either_bit false new old claim has claimed = refl
+use Rattle.store_steps.proofs.WrittenWords.{bits_left, bits_shown, left, still_taken}
+use Rattle.store_steps.proofs.StepViews.{Steps, did_step, fitting, claims_now, still}
+use Rattle.store_core.specs.declared.history.Storing.TheVariants.{Stored}
+use Rattle.store_core.specs.declared.view.Boundaries.{Boundaries}
+use Rattle.store_core.proofs.Lasting.{record_lasts}
+use Rattle.store_core.specs.Knowledge.{event_of}
+use Rattle.store_steps.proofs.Keeping.{its, parents_then}
+use Rattle.store_steps.proofs.ParentsAside.{parents_step}
+use Rattle.store_steps.proofs.ParentsStanding.{same_seat}
+use Rattle.store_steps.proofs.Storers.{stores_on}
 
 module _ (fixed : Fixed) (s : Table Unit (List SeatView)) (k : RuleHolds fixed s) (id : ℕ) (view : SeatView) (seat : get_elem? s.views id ≡ some (view ∷ []))
     (group mask : ℕ) (piece : Piece) (there : group < groups fixed) (accepted : IsAcceptedPiece fixed piece) (ours : AreHeldClaims view group piece mask)
@@ -65,25 +55,11 @@ module _ (fixed : Fixed) (s : Table Unit (List SeatView)) (k : RuleHolds fixed s
   both : (c : ℕ) → in_mask group mask c ≡ true → (claims who state c ≡ true) × (holds_chunk piece c ≡ true)
   both c hit = let parts = and_parts (claims who state c) (holds_chunk piece c) (masked group mask (λ c. claims who state c && holds_chunk piece c) c marked hit) in (parts.0, parts.1)
 
-  in_here : (c : ℕ) → c / 64 ≡ group → in_mask group mask c ≡ has_bit mask (c % 64)
-  in_here c here = ap (λ (b : Bool). b && has_bit mask (c % 64)) (eq-eqb (c / 64) group here)
-
-  in_other : (c : ℕ) → c / 64 ≢ group → in_mask group mask c ≡ false
-  in_other c other = and_left _ _ (ne_eqb (c / 64) group other)
-
   abbrev held_then : ℕ → Option (List ℕ)
   held_then c = if in_mask group mask c then chunk_bytes piece c else state.held c
 
   abbrev claim_then : ℕ → Option Name
   claim_then c = if in_mask group mask c then None else state.claim c
-
-  word_bit : (c : ℕ) → c / 64 ≡ group → has_bit (bit_or found mask) (c % 64) ≡ is_some (held_then c)
-  word_bit c here =
-      let old : has_bit found (c % 64) ≡ is_held state c =
-      ap (λ (g : ℕ). has_bit (held_word s.words g) (c % 64)) (sym here) ∙ k.words.held c (omega (arith, here, there)) in
-      has_bit-or found mask (c % 64) ∙ ap (λ (b : Bool). b || has_bit mask (c % 64)) old
-      ∙ ap (λ (b : Bool). is_held state c || b) (sym (in_here c here))
-      ∙ held_bit (in_mask group mask c) (is_held state c) (chunk_bytes piece c) (state.held c) refl (λ hit. (both c hit).1)
 
   cells : (c w : ℕ) (bytes : List ℕ) → held_then c ≡ Some bytes → w < 129 → cell_at fixed s.words (129 * c + w) ≡ cell_word bytes w
   cells c w bytes held below = elim (cases_Bool (in_mask group mask c)) [
@@ -93,14 +69,109 @@ module _ (fixed : Fixed) (s : Table Unit (List SeatView)) (k : RuleHolds fixed s
   ]
 
   words : StandFor fixed (set s.words group (bit_or found mask)) (after_call who (Commit group piece mask) state)
-  words = held_stand fixed s.words state k.words held_then claim_then group (bit_or found mask) there word_bit
-      (λ c other. ap (λ (b : Bool). is_some (if b then chunk_bytes piece c else state.held c)) (in_other c other))
-      (λ c. either_bit (in_mask group mask c) (chunk_bytes piece c) (state.held c) (state.claim c) (λ hit. (both c hit).1)
-      (λ hit. claims-claimed who state c (both c hit).0))
-      cells
+  words = record {
+    count = length-set s.words group (bit_or found mask) ∙ k.words.count;
+    held = bits_shown fixed (λ g. g) (λ g h e. e) s.words state.held (chunk_bytes piece) k.words.held group mask there (omega (arith, there, k.words.count)) (λ c hit. (both c hit).1);
+    claimed = λ c below.
+        bits_left fixed (claim_place fixed) s.words (λ d. is_held state d || is_claimed state d) group (bit_or found mask) (λ g low e. omega (arith, e, there)) k.words.claimed c below
+        ∙ still_taken (in_mask group mask c) (chunk_bytes piece c) (state.held c) (state.claim c) (λ hit. (both c hit).1) (λ hit. claims-claimed who state c (both c hit).0);
+    cells = λ c w bytes held below. cells_beside fixed s k id view seat group (bit_or found mask) (129 * c + w) (omega (arith, there)) ∙ cells c w bytes held below;
+    recorded = left s.words group (bit_or found mask) (length_place fixed) (λ e. omega (arith, e, there)) ∙ k.words.recorded;
+  }
 
   pub publish_steps : Steps fixed s id group (bit_or found mask) (λ new. Publishes group piece mask view new)
   publish_steps = did_step fixed s k id view seat (Commit group piece mask) group (bit_or found mask) (omega (arith, there)) refl (accepted, marked) words
       (ended_written fixed s k id view seat (after_call who (Commit group piece mask) state) group mask group (bit_or found mask) (omega (arith, there))
       (λ c miss. ap (λ (b : Bool). if b then None else state.claim c) miss))
       (λ number c never. cells_beside fixed s k id view seat group (bit_or found mask) number (omega (arith, there)))
+
+module _ (fixed : Fixed) (s : Table Unit (List SeatView)) (k : RuleHolds fixed s) (id : ℕ) (view : SeatView) (seat : get_elem? s.views id ≡ some (view ∷ []))
+    (group mask : ℕ) (piece : Piece) (there : group < groups fixed) (accepted : IsAcceptedPiece fixed piece)
+    (known : (state_after view.seen).recorded ≡ Some (length_of piece)) (written : AreParentsWritten view group mask piece) where
+  abbrev place : ℕ
+  place = parent_held_place fixed group
+
+  abbrev found_word : ℕ
+  found_word = slice_index s.words place
+
+  abbrev later : List ℕ
+  later = set s.words place (bit_or found_word mask)
+
+  abbrev parents : ℕ → Option (List ℕ)
+  parents = (state_after k.history).parents
+
+  abbrev new : SeatView
+  new = record view { seen = k.history ++ event_of view (Parents group piece (Stored mask)) ∷ []; storing = []; parent_words = [] }
+
+  abbrev parents_by : ℕ → Option (List ℕ)
+  parents_by m = if in_mask group mask m then parent_bytes piece m else parents m
+
+  abbrev storer_then : ℕ → Option (ℕ × ℕ)
+  storer_then m = if in_mask group mask m then None else k.parents.storer m
+
+  its_old : FitsParents fixed s.words k.parents.storer id 0 view
+  its_old = k.parents.fit id 0 view (its fixed s k id view new seat refl)
+
+  ours : (m : ℕ) → in_mask group mask m ≡ true → is_storing view m ≡ true
+  ours m hit = ap (λ (bs : List Boundaries). is_boundary bs m) written.only ∙ rw hit refl
+
+  owner : (m : ℕ) → in_mask group mask m ≡ true → k.parents.storer m ≡ Some (id, 0)
+  owner m hit = its_old.owned m (ours m hit)
+
+  stored_bit : (m : ℕ) → in_mask group mask m ≡ true → is_some (k.parents.storer m) ≡ true
+  stored_bit m hit = ap (λ (o : Option (ℕ × ℕ)). is_some o) (owner m hit)
+
+  -- the recorded length is the one that the seat saw
+  recorded : (state_after k.history).recorded ≡ Some (length_of piece)
+  recorded = still fixed s k id view seat (λ t. t.recorded ≡ Some (length_of piece)) (λ more legal is. record_lasts fixed view.seen more (length_of piece) legal is) known
+
+  right : IsRightReply fixed (state_after k.history) (names_of view) (Parents group piece (Stored mask))
+  right = (accepted, (recorded, λ m hit. (written.held m hit, k.parents.stand.apart m (stored_bit m hit))))
+
+  cells_left : (number : ℕ) → parent_at fixed later number ≡ parent_at fixed s.words number
+  cells_left number = left s.words place (bit_or found_word mask) (parent_word_place fixed number) (λ e. omega (arith, e, there))
+
+  stand : StandForParents fixed later parents_by storer_then
+  stand = record {
+    held = bits_shown fixed (parent_held_place fixed) (λ g h e. omega (arith, e)) s.words parents (parent_bytes piece) k.parents.stand.held group mask there
+        (omega (arith, there, k.words.count)) written.held;
+    claimed = λ m below.
+        bits_left fixed (parent_claim_place fixed) s.words (λ n. is_some (parents n) || is_some (k.parents.storer n)) place (bit_or found_word mask)
+        (λ g low e. omega (arith, e, there)) k.parents.stand.claimed m below
+        ∙ still_taken (in_mask group mask m) (parent_bytes piece m) (parents m) (k.parents.storer m) (written.held m) (stored_bit m);
+    cells = λ m w bytes held below. cells_left (8 * m + w) ∙ elim (cases_Bool (in_mask group mask m)) [
+      | inl hit ↦ (its_old.written (8 * m + w) (parent_word bytes w) (written.words m w bytes hit (rw hit at held) below)).1
+      | inr miss ↦ k.parents.stand.cells m w bytes (rw miss at held) below
+    ];
+    apart = λ m is. elim (cases_Bool (in_mask group mask m)) [
+      | inl hit ↦ let never : false ≡ true = rw hit at is in cc
+      | inr miss ↦ rw miss (k.parents.stand.apart m (rw miss at is))
+    ];
+  }
+
+  its_fit : FitsParents fixed later storer_then id 0 new
+  its_fit = record {
+    low = λ m is. let never : false ≡ true = is in cc;
+    owned = λ m is. let never : false ≡ true = is in cc;
+    written = λ number value is. cc;
+  }
+
+  owned_then : (m i j : ℕ) → i ≢ id → k.parents.storer m ≡ Some (i, j) → storer_then m ≡ Some (i, j)
+  owned_then m i j other is = elim (cases_Bool (in_mask group mask m)) [
+    | inl hit ↦ absurd (other (same_seat i j id 0 (sym is ∙ owner m hit)))
+    | inr miss ↦ rw miss is
+  ]
+
+  by_then : (m i j : ℕ) → storer_then m ≡ Some (i, j) → StoresAt (set s.views id (new ∷ [])) i j m
+  by_then m i j is = elim (cases_Bool (in_mask group mask m)) [
+    | inl hit ↦ let never : None ≡ Some (i, j) = rw hit at is in cc
+    | inr miss ↦ stores_on s.views id view new seat m (λ h.
+        let never : false ≡ true = sym (ap (λ (bs : List Boundaries). is_boundary bs m) written.only ∙ rw miss refl) ∙ h in absurd (false≢true never))
+        i j (k.parents.by m i j (rw miss at is))
+  ]
+
+  pub publish_parents_steps : Steps fixed s id place (bit_or found_word mask) (λ new. PublishesParents group piece mask view new)
+  publish_parents_steps =
+      let t = parents_step fixed s k id view seat place (bit_or found_word mask) (omega arith) group piece (Stored mask) right
+      (parents_then fixed s k id view new seat refl later parents_by storer_then stand its_fit owned_then (λ number i j other is. cells_left number) by_then) in
+      record { new = t.new; kept = t.kept; told = record { called = t.told.0; written_are = t.told.1 } }

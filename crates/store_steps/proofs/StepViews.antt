@@ -8,6 +8,7 @@ use Rattle.atomic_table.specs.Table.{Allows, Me, State as Table, keeps, stepped}
 use Rattle.store_core.specs.declared.fixed.Fixed.{Fixed}
 use Rattle.store_core.specs.declared.history.Call.{Call}
 use Rattle.store_core.specs.declared.history.Event.{Event}
+use Rattle.store_core.specs.declared.view.Boundaries.{Boundaries}
 use Rattle.store_core.specs.declared.view.SeatView.{SeatView}
 use Rattle.store_core.specs.declared.view.StoredWord.{StoredWord}
 use Rattle.store_core.specs.Events.{IsRightReply, after_call}
@@ -20,7 +21,7 @@ use Rattle.store_core.proofs.Lasting.{legal_is_sound, legal-join, run-append}
 use Rattle.store_steps.specs.Grips.{first_of}
 use Rattle.store_steps.specs.Layout.{cell_at, parents_place}
 use Rattle.store_steps.specs.Plays.{OfOne}
-use Rattle.store_steps.specs.Rule.{ViewFits, RuleHolds, StandFor}
+use Rattle.store_steps.specs.Rule.{AreParentsKept, ViewFits, RuleHolds, StandFor}
 use Rattle.store_core.specs.Knowledge.{Did, GoesOn, Looked, event_of}
 use Rattle.store_steps.proofs.Calls.{claims_after-same, claims_then, least_among, own_all, shares_itself}
 use Rattle.store_steps.proofs.Keeping.{its, kept_step, parents_kept}
@@ -62,6 +63,13 @@ module _ (fixed : Fixed) (s : Table Unit (List SeatView)) (k : RuleHolds fixed s
   pub seen_is : (own : List Event) → k.history ++ own ≡ (view.seen ++ fitting.continues.between) ++ own
   seen_is own = ap (λ (h : List Event). h ++ own) fitting.continues.is
 
+  -- what lasts, and the seat saw, is so now
+  pub still : (P : State → Type 0) → ((more : List Event) → IsLegal fixed (view.seen ++ more) → P (state_after view.seen) → P (state_after (view.seen ++ more)))
+      → P (state_after view.seen) → P now
+  still P lasts seen =
+      let on = fitting.continues in
+      subst (λ (h : List Event). P (state_after h)) (sym on.is) (lasts on.between (subst (λ (h : List Event). IsLegal fixed h) on.is k.legal) seen)
+
   -- the view after events of its own, with all that happened before
   abbrev pub after_own : List Event → SeatView
   after_own own = record view { seen = k.history ++ own }
@@ -74,8 +82,13 @@ module _ (fixed : Fixed) (s : Table Unit (List SeatView)) (k : RuleHolds fixed s
   pub some_names : 0 < length view.names
   some_names = k.names.named id 0 view (its fixed s k id view view seat refl)
 
-  pub goes_on : (own : List Event) → AreLegalFrom fixed now own → AreBy (names_of view) own → GoesOn view (after_own own) fitting.continues.between own
-  goes_on own legal by = record {
+  -- the same, where what it stored and is storing is this
+  abbrev pub seen_then : List Event → List StoredWord → List Boundaries → List StoredWord → SeatView
+  seen_then own written storing parent_words = record view { seen = k.history ++ own; written = written; storing = storing; parent_words = parent_words }
+
+  pub goes_on : (own : List Event) (written : List StoredWord) (storing : List Boundaries) (parent_words : List StoredWord) → AreLegalFrom fixed now own → AreBy (names_of view) own
+      → GoesOn view (seen_then own written storing parent_words) fitting.continues.between own
+  goes_on own written storing parent_words legal by = record {
     fixed_is = refl;
     names_are = refl;
     seen_is = seen_is own;
@@ -86,36 +99,50 @@ module _ (fixed : Fixed) (s : Table Unit (List SeatView)) (k : RuleHolds fixed s
     legal = subst (λ (f : Fixed). IsLegal f (k.history ++ own)) (sym fitting.fixed_is) (legal-join fixed empty k.history own k.legal legal);
   }
 
+  -- the words that count as stored are of chunks that it claims in this state, and stand in these words' cells
+  abbrev pub AreStored : List StoredWord → State → List ℕ → Type 0
+  AreStored written t later = (number value : ℕ) → stored written number ≡ Some value → (claims (names_of view) t (number / 129) ≡ true) × (cell_at fixed later number ≡ value)
+
+  -- the cells of others' claims are left
+  abbrev pub LeavesOthers : List ℕ → Type 0
+  LeavesOthers later = (number : ℕ) → is_claimed now (number / 129) ≡ true → claims (names_of view) now (number / 129) ≡ false → cell_at fixed later number ≡ cell_at fixed s.words number
+
+  -- A step with events of its own, which lead from all that happened to a state: the words stand for it.
+  pub seen_step : (own : List Event) (t : State) → run now own ≡ t → AreLegalFrom fixed now own → AreBy (names_of view) own
+      → (written : List StoredWord) (storing : List Boundaries) (parent_words : List StoredWord) (i n : ℕ) → StandFor fixed (set s.words i n) t
+      → AreStored written t (set s.words i n) → LeavesOthers (set s.words i n)
+      → AreParentsKept fixed (set s.words i n) (set s.views id (seen_then own written storing parent_words ∷ [])) t.parents
+      → RuleHolds fixed (stepped s i n id [] (seen_then own written storing parent_words ∷ []) keeps)
+  seen_step own t leads legal by written storing parent_words i n words stand cells parents =
+      let then : state_after (k.history ++ own) ≡ t = run-append empty k.history own ∙ leads in
+      let new : SeatView = seen_then own written storing parent_words in
+      kept_step fixed s k id view new seat refl own i n by (legal-join fixed empty k.history own k.legal legal)
+      (subst (λ (u : State). StandFor fixed (set s.words i n) u) (sym then) words)
+      (record {
+        fixed_is = fitting.fixed_is;
+        continues = record { between = []; is = sym (append-nil (k.history ++ own)); others = refl };
+        written = λ number value is. let w = stand number value is in (ap (λ (u : State). claims (names_of view) u (number / 129)) then ∙ w.0, w.1);
+      })
+      cells
+      (subst (λ (u : State). AreParentsKept fixed (set s.words i n) (set s.views id (new ∷ [])) u.parents) (sym then) parents)
+
   -- A call of the seat's, whose reply is right: the words stand for the state after it, the words that count as stored
   -- stand in cells of its claims, and the cells of others' claims are left.
   pub did_step : (call : Call) (i n : ℕ) → i < parents_place fixed → (after_call (names_of view) call now).parents ≡ now.parents → IsRightReply fixed now (names_of view) call
       → StandFor fixed (set s.words i n) (after_call (names_of view) call now)
-      → ((number value : ℕ) → stored (written_after call view.written) number ≡ Some value
-      → (claims (names_of view) (after_call (names_of view) call now) (number / 129) ≡ true) × (cell_at fixed (set s.words i n) number ≡ value))
-      → ((number : ℕ) → is_claimed now (number / 129) ≡ true → claims (names_of view) now (number / 129) ≡ false
-      → cell_at fixed (set s.words i n) number ≡ cell_at fixed s.words number)
+      → AreStored (written_after call view.written) (after_call (names_of view) call now) (set s.words i n) → LeavesOthers (set s.words i n)
       → Steps fixed s id i n (λ new. Did call view new)
   did_step call i n low same right words written cells =
       let own : List Event = event_of view call ∷ [] in
       let then : state_after (k.history ++ own) ≡ after_call (names_of view) call now = run-append empty k.history own in
-      let new : SeatView = record (after_own own) { written = written_after call view.written } in
-      let legal : IsLegal fixed (k.history ++ own) = legal-join fixed empty k.history own k.legal (right, tt) in
-      let on : GoesOn view (after_own own) fitting.continues.between own = goes_on own (right, tt) (refl, tt) in
+      let new : SeatView = seen_then own (written_after call view.written) view.storing view.parent_words in
       record {
         new = new;
-        kept = kept_step fixed s k id view new seat refl own i n (refl, tt) legal
-            (subst (λ (t : State). StandFor fixed (set s.words i n) t) (sym then) words)
-            (record {
-              fixed_is = fitting.fixed_is;
-              continues = record { between = []; is = sym (append-nil (k.history ++ own)); others = refl };
-              written = λ number value is.
-                  let w = written number value is in (ap (λ (t : State). claims (names_of view) t (number / 129)) then ∙ w.0, w.1);
-            })
-            cells
-            (parents_kept fixed s k id view new seat refl (set s.words i n) (leaves_low fixed s.words i n low) (state_after (k.history ++ own)).parents (ap (λ (t : State). t.parents) then ∙ same) refl refl);
+        kept = seen_step own (after_call (names_of view) call now) refl (right, tt) (refl, tt) (written_after call view.written) view.storing view.parent_words i n words written cells
+            (parents_kept fixed s k id view new seat refl (set s.words i n) (leaves_low fixed s.words i n low) (after_call (names_of view) call now).parents same refl refl);
         told = record {
           between = fitting.continues.between;
-          goes_on = record { fixed_is = on.fixed_is; names_are = on.names_are; seen_is = on.seen_is; others = on.others; mine_is = on.mine_is; legal = on.legal };
+          goes_on = goes_on own (written_after call view.written) view.storing view.parent_words (right, tt) (refl, tt);
           claims_are = λ c.
               ap (λ (t : State). claims (names_of view) t c) then ∙ claims_then (names_of view) call now c (least_among view.names some_names)
               ∙ claims_after-same call (λ d. claims (names_of view) now d) (seat_claims view) c (claims_now c);
@@ -124,24 +151,28 @@ module _ (fixed : Fixed) (s : Table Unit (List SeatView)) (k : RuleHolds fixed s
         };
       }
 
-  -- A step with no event: the seat sees nothing new, and what it stored changes at most.
-  pub silent_step : (written : List StoredWord) (i n : ℕ) → LeavesParents fixed s.words (set s.words i n) → StandFor fixed (set s.words i n) now
-      → ((number value : ℕ) → stored written number ≡ Some value → (claims (names_of view) now (number / 129) ≡ true) × (cell_at fixed (set s.words i n) number ≡ value))
-      → ((number : ℕ) → is_claimed now (number / 129) ≡ true → claims (names_of view) now (number / 129) ≡ false
-      → cell_at fixed (set s.words i n) number ≡ cell_at fixed s.words number)
-      → RuleHolds fixed (stepped s i n id [] (record view { written = written } ∷ []) keeps)
-  silent_step written i n leaves words stand cells =
+  -- A step with no event: the seat sees nothing new, and what it stored and is storing changes at most.
+  pub quiet_step : (written : List StoredWord) (storing : List Boundaries) (parent_words : List StoredWord) (i n : ℕ) → StandFor fixed (set s.words i n) now
+      → AreStored written now (set s.words i n) → LeavesOthers (set s.words i n)
+      → AreParentsKept fixed (set s.words i n) (set s.views id (record view { written = written; storing = storing; parent_words = parent_words } ∷ [])) now.parents
+      → RuleHolds fixed (stepped s i n id [] (record view { written = written; storing = storing; parent_words = parent_words } ∷ []) keeps)
+  quiet_step written storing parent_words i n words stand cells parents =
       let whole : k.history ++ [] ≡ k.history = append-nil k.history in
-      kept_step fixed s k id view (record view { written = written }) seat refl [] i n tt (subst (λ (h : List Event). IsLegal fixed h) (sym whole) k.legal)
+      let new : SeatView = record view { written = written; storing = storing; parent_words = parent_words } in
+      kept_step fixed s k id view new seat refl [] i n tt (subst (λ (h : List Event). IsLegal fixed h) (sym whole) k.legal)
       (subst (λ (h : List Event). StandFor fixed (set s.words i n) (state_after h)) (sym whole) words)
-      (subst (λ (h : List Event). ViewFits fixed h (set s.words i n) (record view { written = written })) (sym whole) (record {
+      (subst (λ (h : List Event). ViewFits fixed h (set s.words i n) new) (sym whole) (record {
         fixed_is = fitting.fixed_is;
         continues = record { between = fitting.continues.between; is = fitting.continues.is; others = fitting.continues.others };
         written = stand;
       }))
       cells
-      (parents_kept fixed s k id view (record view { written = written }) seat refl (set s.words i n) leaves (state_after (k.history ++ [])).parents
-      (ap (λ (h : List Event). (state_after h).parents) whole) refl refl)
+      (subst (λ (h : List Event). AreParentsKept fixed (set s.words i n) (set s.views id (new ∷ [])) (state_after h).parents) (sym whole) parents)
+
+  pub silent_step : (written : List StoredWord) (i n : ℕ) → LeavesParents fixed s.words (set s.words i n) → StandFor fixed (set s.words i n) now
+      → AreStored written now (set s.words i n) → LeavesOthers (set s.words i n) → RuleHolds fixed (stepped s i n id [] (record view { written = written } ∷ []) keeps)
+  silent_step written i n leaves words stand cells = quiet_step written view.storing view.parent_words i n words stand cells
+      (parents_kept fixed s k id view (record view { written = written }) seat refl (set s.words i n) leaves now.parents refl refl refl)
 
   -- a load that changes nothing
   pub still_step : (i : ℕ) → RuleHolds fixed (stepped s i (slice_index s.words i) id [] (view ∷ []) keeps)
@@ -158,29 +189,18 @@ module _ (fixed : Fixed) (s : Table Unit (List SeatView)) (k : RuleHolds fixed s
       let own : List Event = events now in
       let then : state_after (k.history ++ own) ≡ now = run-append empty k.history own ∙ quiet in
       let same : set s.words i (slice_index s.words i) ≡ s.words = set-get_or s.words i 0 in
-      let on : GoesOn view (after_own own) fitting.continues.between own = goes_on own legal by in
       let state : now ≡ state_after (view.seen ++ fitting.continues.between) = ap (λ (h : List Event). state_after h) fitting.continues.is in
       record {
         new = after_own own;
-        kept = kept_step fixed s k id view (after_own own) seat refl own i (slice_index s.words i) by (legal-join fixed empty k.history own k.legal legal)
-            (subst (λ (t : State). StandFor fixed (set s.words i (slice_index s.words i)) t) (sym then)
-            (subst (λ (words : List ℕ). StandFor fixed words now) (sym same) k.words))
-            (record {
-              fixed_is = fitting.fixed_is;
-              continues = record { between = []; is = sym (append-nil (k.history ++ own)); others = refl };
-              written = λ number value is.
-                  let w = fitting.written number value is in (
-                    ap (λ (t : State). claims (names_of view) t (number / 129)) then ∙ w.0,
-                    ap (λ (words : List ℕ). cell_at fixed words number) same ∙ w.1,
-                  );
-            })
+        kept = seen_step own now quiet legal by view.written view.storing view.parent_words i (slice_index s.words i)
+            (subst (λ (words : List ℕ). StandFor fixed words now) (sym same) k.words)
+            (λ number value is. let w = fitting.written number value is in (w.0, ap (λ (words : List ℕ). cell_at fixed words number) same ∙ w.1))
             (λ number c others. ap (λ (words : List ℕ). cell_at fixed words number) same)
-            (parents_kept fixed s k id view (after_own own) seat refl (set s.words i (slice_index s.words i)) (leaves_same fixed s.words i) (state_after (k.history ++ own)).parents
-            (ap (λ (t : State). t.parents) then) refl refl);
+            (parents_kept fixed s k id view (after_own own) seat refl (set s.words i (slice_index s.words i)) (leaves_same fixed s.words i) now.parents refl refl refl);
         told = (
           record {
             between = fitting.continues.between;
-            goes_on = subst (λ (t : State). GoesOn view (after_own own) fitting.continues.between (events t)) state on;
+            goes_on = subst (λ (t : State). GoesOn view (after_own own) fitting.continues.between (events t)) state (goes_on own view.written view.storing view.parent_words legal by);
             claims_are = λ c. ap (λ (t : State). claims (names_of view) t c) then ∙ claims_now c;
             written_are = refl;
             storing_is = refl;

@@ -1,8 +1,9 @@
--- Take: one or on the claim word.
-use Rattle.std.proofs.Common.{◌≡◌, ◌≢◌, ℕ, ◌/◌, ◌%◌, ◌^◌, ◌<◌, nat_lt, Bool, true, false, not, ◌&&◌, ◌||◌, if◌then◌else◌, List, [], ◌∷◌, length, Option, is_some, slice_index, set, refl, sym, ap, ◌∙◌, arith, inl, inr, ne_eqb, eq-eqb}
+-- One or on a claim word: chunks are taken, and boundaries claimed.
+use Rattle.std.proofs.Common.{◌≡◌, ℕ, ◌/◌, ◌%◌, ◌^◌, ◌<◌, nat_lt, Bool, true, not, ◌&&◌, ◌||◌, if◌then◌else◌, List, [], ◌∷◌, length, Option, is_some, slice_index, set, refl, ap, ◌∙◌, arith, inl, inr, ◌+◌, ◌*◌, false, None, Some, sym, subst, eqb-true, ◌==◌}
 use Rattle.std.specs.Int.{w64, bit_not}
 use Rattle.std.specs.Int.Bits.{bit_and, bit_or}
-use Rattle.std.proofs.lemmas.Bool.{and_left, cases_Bool}
+use Rattle.std.proofs.Math.Bool.{and_assoc}
+use Rattle.std.proofs.lemmas.Bool.{cases_Bool, and_parts, false≢true}
 use mathlib.Core.Option.{some}
 use lib.ListN.{get_elem?}
 use Rattle.atomic_table.specs.Table.{State as Table}
@@ -13,37 +14,31 @@ use Rattle.store_core.specs.declared.view.SeatView.{SeatView}
 use Rattle.store_core.specs.Events.{IsRightReply, after_call}
 use Rattle.store_core.specs.Histories.{state_after}
 use Rattle.store_core.specs.Machine.{groups}
-use Rattle.store_core.specs.Masks.{has_bit, in_mask}
+use Rattle.store_core.specs.Masks.{has_bit, in_mask, IsMaskOf}
 use Rattle.store_core.specs.Names.{Name, least_name}
 use Rattle.store_core.specs.States.{State, claims, is_among, is_claimed, is_held}
-use Rattle.store_core.specs.Views.{names_of}
+use Rattle.store_core.specs.Views.{names_of, is_boundary, is_storing}
 use Rattle.store_core.proofs.Joining.{plain}
-use Rattle.store_steps.specs.Layout.{cell_at, cell_place, claim_place, claim_word}
-use Rattle.store_steps.specs.Plays.{TakesChunks}
-use Rattle.store_steps.specs.Rule.{RuleHolds, StandFor}
-use Rattle.store_core.proofs.Bits.{and_small, has_bit-and, has_bit-not, has_bit-or}
+use Rattle.store_steps.specs.Layout.{cell_at, cell_place, claim_place, parent_claim_place, parent_held_place, parent_word_place}
+use Rattle.store_steps.specs.Plays.{TakesChunks, ClaimsParents}
+use Rattle.store_steps.specs.Rule.{RuleHolds, StandFor, FitsParents, StandForParents, StoresAt}
+use Rattle.store_core.proofs.Bits.{and_small, has_bit-and}
 use Rattle.store_steps.proofs.Calls.{least_among}
-use Rattle.store_steps.proofs.WrittenWords.{claims_stand, left}
+use Rattle.store_steps.proofs.WrittenWords.{bits_granted, claims_stand, granted_bit, left, bits_left, in_here}
 use Rattle.store_steps.proofs.StepViews.{Steps, did_step, fitting, some_names}
+use Rattle.store_core.specs.declared.history.Event.{Event}
+use Rattle.store_core.specs.Knowledge.{AreAllNames}
+use Rattle.store_core.specs.declared.view.Boundaries.{Boundaries}
+use Rattle.store_steps.proofs.Keeping.{its, parents_then}
+use Rattle.store_steps.proofs.ParentsAside.{aside_step}
+use Rattle.store_steps.proofs.Lists.{one_part}
+use Rattle.store_steps.proofs.Storers.{had, stores_new, stores_on}
+use Rattle.store_steps.proofs.Wholes.{alone, only_view, whole_history}
 
 -- one with names has a least
 is_some-least : (names : List Named) → 0 < length names → is_some (least_name (plain names)) ≡ true
 is_some-least [] none = absurd (omega arith)
 is_some-least (named ∷ names) more = refl
-
--- the bits of the reply and of the word afterwards
-grant_bit : (wanted below taken : Bool) → ((wanted && below) && not taken) ≡ (wanted && (below && not taken))
-grant_bit true below taken = refl
-grant_bit false below taken = refl
-
-claim_bit : (asked held claimed : Bool) (least old : Option Name) → is_some least ≡ true → claimed ≡ is_some old
-    → ((held || claimed) || asked) ≡ (held || is_some (if asked && not (held || claimed) then least else old))
-claim_bit true true claimed least old has is = refl
-claim_bit true false true least old has is = is
-claim_bit true false false least old has is = sym has
-claim_bit false true claimed least old has is = refl
-claim_bit false false true least old has is = is
-claim_bit false false false least old has is = is
 
 module _ (fixed : Fixed) (s : Table Unit (List SeatView)) (k : RuleHolds fixed s) (id : ℕ) (view : SeatView) (seat : get_elem? s.views id ≡ some (view ∷ []))
     (group want asked : ℕ) (there : group < groups fixed) (small_asked : asked < 2 ^ 64)
@@ -58,30 +53,17 @@ module _ (fixed : Fixed) (s : Table Unit (List SeatView)) (k : RuleHolds fixed s
   abbrev state : State
   state = state_after k.history
 
-  -- what the word's bits say of the group's chunks
-  found_bit : (c : ℕ) → c / 64 ≡ group → has_bit found (c % 64) ≡ (is_held state c || is_claimed state c)
-  found_bit c here =
-      ap (λ (g : ℕ). has_bit (claim_word fixed s.words g) (c % 64)) (sym here) ∙ k.words.claimed c (omega (arith, here, there))
-
-  granted_bit : (c : ℕ) → c / 64 ≡ group → has_bit granted (c % 64) ≡ (has_bit asked (c % 64) && not (is_held state c || is_claimed state c))
-  granted_bit c here =
-      has_bit-and asked (bit_not w64 found) (c % 64)
-      ∙ ap (λ (b : Bool). has_bit asked (c % 64) && b) (has_bit-not found (c % 64) small (omega arith) ∙ ap (λ (b : Bool). not b) (found_bit c here))
+  -- chunks that are granted were free
+  granted_is : (c : ℕ) → c / 64 ≡ group → has_bit granted (c % 64) ≡ (has_bit asked (c % 64) && not (is_held state c || is_claimed state c))
+  granted_is c here = granted_bit fixed (claim_place fixed) (λ g h e. omega (arith, e)) s.words (is_held state) state.claim k.words.claimed group there asked c small here
 
   right : IsRightReply fixed state (names_of view) (Take group want granted)
   right = record {
     small = and_small asked (bit_not w64 found) small_asked;
     bits = λ c here.
-        granted_bit c here ∙ ap (λ (b : Bool). b && not (is_held state c || is_claimed state c)) (asks c here)
-        ∙ grant_bit (has_bit want (c % 64)) (nat_lt c fixed.capacity) (is_held state c || is_claimed state c);
+        granted_is c here ∙ ap (λ (b : Bool). b && not (is_held state c || is_claimed state c)) (asks c here)
+        ∙ and_assoc (has_bit want (c % 64)) (nat_lt c fixed.capacity) (not (is_held state c || is_claimed state c));
   }
-
-  -- a chunk of the group is in the mask where its bit is set, and one of another group never is
-  in_here : (c : ℕ) → c / 64 ≡ group → in_mask group granted c ≡ (has_bit asked (c % 64) && not (is_held state c || is_claimed state c))
-  in_here c here = ap (λ (b : Bool). b && has_bit granted (c % 64)) (eq-eqb (c / 64) group here) ∙ granted_bit c here
-
-  in_other : (c : ℕ) → c / 64 ≢ group → in_mask group granted c ≡ false
-  in_other c other = and_left _ _ (ne_eqb (c / 64) group other)
 
   abbrev who : List Name
   who = names_of view
@@ -91,11 +73,8 @@ module _ (fixed : Fixed) (s : Table Unit (List SeatView)) (k : RuleHolds fixed s
 
   words : StandFor fixed (set s.words (claim_place fixed group) (bit_or found asked)) (after_call who (Take group want granted) state)
   words = claims_stand fixed s.words state k.words claim_then group (bit_or found asked) there
-      (λ c here.
-      has_bit-or found asked (c % 64) ∙ ap (λ (b : Bool). b || has_bit asked (c % 64)) (found_bit c here)
-      ∙ claim_bit (has_bit asked (c % 64)) (is_held state c) (is_claimed state c) (least_name who) (state.claim c) (is_some-least view.names (some_names fixed s k id view seat)) refl
-      ∙ ap (λ (b : Bool). is_held state c || is_some (if b then least_name who else state.claim c)) (sym (in_here c here)))
-      (λ c other. ap (λ (b : Bool). if b then least_name who else state.claim c) (in_other c other))
+      (bits_granted fixed (claim_place fixed) (λ g h e. omega (arith, e)) s.words (is_held state) state.claim k.words.claimed group there asked (least_name who)
+      (is_some-least view.names (some_names fixed s k id view seat)) small (omega (arith, there, k.words.count)))
 
   -- cells are left
   cells_left : (n number : ℕ) → cell_at fixed (set s.words (claim_place fixed group) n) number ≡ cell_at fixed s.words number
@@ -113,3 +92,155 @@ module _ (fixed : Fixed) (s : Table Unit (List SeatView)) (k : RuleHolds fixed s
       let w = (fitting fixed s k id view seat).written number value is in
       (claims_stay (number / 129) w.0, cells_left (bit_or found asked) number ∙ w.1))
       (λ number c ours. cells_left (bit_or found asked) number)
+
+-- a boundary that nobody is storing
+unstored : (held : Bool) (storer : Option (ℕ × ℕ)) → storer ≡ None → (held || is_some storer) ≡ held
+unstored true storer none = refl
+unstored false storer none = ap (λ (o : Option (ℕ × ℕ)). is_some o) none
+
+-- one that is stored_mask is neither held nor being stored
+granted_free : (asked held : Bool) (storer : Option (ℕ × ℕ)) → (asked && not (held || is_some storer)) ≡ true → (held ≡ false) × (storer ≡ None)
+granted_free true true storer h = cc
+granted_free true false None h = (refl, refl)
+granted_free true false (Some other) h = cc
+granted_free false held storer h = cc
+
+no_place : (storer : Option (ℕ × ℕ)) (place : ℕ × ℕ) → storer ≡ None → storer ≡ Some place → ⊥
+no_place None place none is = cc
+no_place (Some other) place none is = cc
+
+none_is : (o : Option (List ℕ)) → is_some o ≡ false → o ≡ None
+none_is None h = refl
+none_is (Some bytes) h = cc
+
+swapped : (a b c : Bool) → ((a && b) && c) ≡ (b && (a && c))
+swapped true b c = refl
+swapped false true c = refl
+swapped false false c = refl
+
+-- what is stored_mask to a seat with all names, of what it wants
+pub granted_mask : (group below want free capacity : ℕ) (parents : ℕ → Option (List ℕ)) → IsMaskOf group below (λ m. nat_lt m capacity)
+    → ((m : ℕ) → m / 64 ≡ group → has_bit (bit_and (bit_and below want) free) (m % 64) ≡ (has_bit (bit_and below want) (m % 64) && not (is_some (parents m))))
+    → IsMaskOf group (bit_and (bit_and below want) free) (λ m. has_bit want (m % 64) && (nat_lt m capacity && not (is_some (parents m))))
+granted_mask group below want free capacity parents low is = record {
+  small = and_small (bit_and below want) free (and_small below want low.small);
+  bits = λ m at.
+      is m at
+      ∙ ap (λ (b : Bool). b && not (is_some (parents m))) (has_bit-and below want (m % 64) ∙ ap (λ (b : Bool). b && has_bit want (m % 64)) (low.bits m at))
+      ∙ swapped (nat_lt m capacity) (has_bit want (m % 64)) (not (is_some (parents m)));
+}
+
+module _ (fixed : Fixed) (s : Table Unit (List SeatView)) (k : RuleHolds fixed s) (id : ℕ) (view : SeatView) (seat : get_elem? s.views id ≡ some (view ∷ []))
+    (group asked : ℕ) (there : group < groups fixed) (asks : (m : ℕ) → m / 64 ≡ group → has_bit asked (m % 64) ≡ true → m < fixed.capacity)
+    (none : view.storing ≡ []) (small : slice_index s.words (parent_claim_place fixed group) < 2 ^ 64) where
+  abbrev place : ℕ
+  place = parent_claim_place fixed group
+
+  abbrev found_word : ℕ
+  found_word = slice_index s.words place
+
+  abbrev stored_mask : ℕ
+  stored_mask = bit_and asked (bit_not w64 found_word)
+
+  abbrev parents : ℕ → Option (List ℕ)
+  parents = (state_after k.history).parents
+
+  abbrev storer : ℕ → Option (ℕ × ℕ)
+  storer = k.parents.storer
+
+  abbrev later : List ℕ
+  later = set s.words place (bit_or found_word asked)
+
+  abbrev storing : List Boundaries
+  storing = record { group = group; mask = stored_mask } ∷ []
+
+  abbrev new : SeatView
+  new = record view { storing = storing; parent_words = view.parent_words }
+
+  abbrev storer_then : ℕ → Option (ℕ × ℕ)
+  storer_then m = if in_mask group stored_mask m then Some (id, 0) else storer m
+
+  -- boundaries that are stored_mask were free
+  free_bit : (m : ℕ) → m / 64 ≡ group → has_bit stored_mask (m % 64) ≡ (has_bit asked (m % 64) && not (is_some (parents m) || is_some (storer m)))
+  free_bit m here = granted_bit fixed (parent_claim_place fixed) (λ g h e. omega (arith, e)) s.words (λ n. is_some (parents n)) storer k.parents.stand.claimed group there asked m small here
+
+  of_group : (m : ℕ) → in_mask group stored_mask m ≡ true → m / 64 ≡ group
+  of_group m hit = eqb-true (m / 64) group (and_parts (m / 64 == group) (has_bit stored_mask (m % 64)) hit).0
+
+  hit_is : (m : ℕ) → in_mask group stored_mask m ≡ true → (has_bit asked (m % 64) && not (is_some (parents m) || is_some (storer m))) ≡ true
+  hit_is m hit = sym (in_here group stored_mask m (of_group m hit) ∙ free_bit m (of_group m hit)) ∙ hit
+
+  free : (m : ℕ) → in_mask group stored_mask m ≡ true → (is_some (parents m) ≡ false) × (storer m ≡ None)
+  free m hit = granted_free (has_bit asked (m % 64)) (is_some (parents m)) (storer m) (hit_is m hit)
+
+  low : (m : ℕ) → in_mask group stored_mask m ≡ true → m < fixed.capacity
+  low m hit = asks m (of_group m hit) (and_parts (has_bit asked (m % 64)) (not (is_some (parents m) || is_some (storer m))) (hit_is m hit)).0
+
+  words_left : (number : ℕ) → slice_index later (parent_word_place fixed number) ≡ slice_index s.words (parent_word_place fixed number)
+  words_left number = left s.words place (bit_or found_word asked) (parent_word_place fixed number) (λ e. omega (arith, e, there))
+
+  stand : StandForParents fixed later parents storer_then
+  stand = record {
+    held = bits_left fixed (parent_held_place fixed) s.words (λ m. is_some (parents m)) place (bit_or found_word asked) (λ g below e. omega (arith, e, below)) k.parents.stand.held;
+    claimed = bits_granted fixed (parent_claim_place fixed) (λ g h e. omega (arith, e)) s.words (λ m. is_some (parents m)) storer k.parents.stand.claimed group there asked
+        (Some (id, 0)) refl small (omega (arith, there, k.words.count));
+    cells = λ m w bytes held below. words_left (8 * m + w) ∙ k.parents.stand.cells m w bytes held below;
+    apart = λ m is. elim (cases_Bool (in_mask group stored_mask m)) [
+      | inl hit ↦ none_is (parents m) (free m hit).0
+      | inr miss ↦ k.parents.stand.apart m (rw miss at is)
+    ];
+  }
+
+  its_storing : (m : ℕ) → is_storing new m ≡ true → in_mask group stored_mask m ≡ true
+  its_storing m is = elim (cases_Bool (in_mask group stored_mask m)) [
+    | inl hit ↦ hit
+    | inr miss ↦ let never : false ≡ true = rw miss at is in cc
+  ]
+
+  its_fit : FitsParents fixed later storer_then id 0 new
+  its_fit = record {
+    low = λ m is. low m (its_storing m is);
+    owned = λ m is. rw (its_storing m is) refl;
+    written = λ number value is.
+        let old = (k.parents.fit id 0 view (its fixed s k id view new seat refl)).written number value is in
+        let never : false ≡ true = sym (ap (λ (bs : List Boundaries). is_boundary bs (number / 8)) none) ∙ old.0 in cc;
+  }
+
+  owned_then : (m i j : ℕ) → storer m ≡ Some (i, j) → storer_then m ≡ Some (i, j)
+  owned_then m i j is = elim (cases_Bool (in_mask group stored_mask m)) [
+    | inl hit ↦ absurd (no_place (storer m) (i, j) (free m hit).1 is)
+    | inr miss ↦ rw miss is
+  ]
+
+  by_then : (m i j : ℕ) → storer_then m ≡ Some (i, j) → StoresAt (set s.views id (new ∷ [])) i j m
+  by_then m i j is = elim (cases_Bool (in_mask group stored_mask m)) [
+    | inl hit ↦ stores_new s.views id view new seat m i j (rw hit at is) (rw hit refl)
+    | inr miss ↦ stores_on s.views id view new seat m (λ h.
+        let never : false ≡ true = sym (ap (λ (bs : List Boundaries). is_boundary bs m) none) ∙ h in absurd (false≢true never)) i j (k.parents.by m i j (rw miss at is))
+  ]
+
+  -- where the seat has all names, nobody is storing a parent
+  none_storing : AreAllNames view.names → (m : ℕ) (o : Option (ℕ × ℕ)) → storer m ≡ o → o ≡ None
+  none_storing all m None is = refl
+  none_storing all m (Some place) is =
+      let s' = k.parents.by m place.0 place.1 is in
+      let same = only_view fixed s k id 0 view (its fixed s k id view new seat refl) all place.0 place.1 s'.view s'.has in
+      let one = one_part view s'.view place.1 (had s.views id (view ∷ []) place.0 place.1 s'.view seat (ap (λ (p : ℕ × ℕ). p.0) same) s'.has) in
+      let storing : is_storing view m ≡ true = subst (λ (v : SeatView). is_storing v m ≡ true) one.1 s'.storing in
+      let never : false ≡ true = sym (ap (λ (bs : List Boundaries). is_boundary bs m) none) ∙ storing in cc
+
+  free_alone : AreAllNames view.names → (m : ℕ) → m / 64 ≡ group
+      → has_bit stored_mask (m % 64) ≡ (has_bit asked (m % 64) && not (is_some ((state_after view.seen).parents m)))
+  free_alone all m here =
+      free_bit m here
+      ∙ ap (λ (b : Bool). has_bit asked (m % 64) && not b)
+      (unstored (is_some (parents m)) (storer m) (none_storing all m (storer m) refl)
+      ∙ ap (λ (h : List Event). is_some ((state_after h).parents m)) (whole_history fixed s k id 0 view (its fixed s k id view new seat refl) all))
+
+  pub claim_parents_steps : Steps fixed s id place (bit_or found_word asked) (λ new. ClaimsParents group asked found_word view new)
+  claim_parents_steps = record {
+    new = new;
+    kept = aside_step fixed s k id view seat place (bit_or found_word asked) (omega arith) storing view.parent_words
+        (parents_then fixed s k id view new seat refl later parents storer_then stand its_fit (λ m i j other is. owned_then m i j is) (λ number i j other is. words_left number) by_then);
+    told = record { stores = refl; own = alone fixed s k id 0 view (its fixed s k id view new seat refl); free = free_alone };
+  }

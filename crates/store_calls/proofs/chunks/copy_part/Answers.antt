@@ -1,6 +1,7 @@
 use Rattle.std.proofs.Common.{◌≡◌, ◌+◌, ◌/◌, ◌%◌, ◌<◌, ℕ, ◌-◌, refl, subst, ◌∙◌, arith}
 use Rattle.store_core.specs.declared.fixed.Fixed.{Fixed}
-use Rattle.store_calls.proofs.Holding.{part_byte, part_filled, part_size, sized_below}
+use Rattle.store_core.specs.Histories.{state_after}
+use Rattle.store_calls.proofs.Holding.{held_valid, part_byte, part_filled, part_size, sized_below}
 use Rattle.store_calls.proofs.chunks.copy_part.Goals as goal
 
 pub copy-requires-clause-chunk : goal.copy-requires-clause-chunk
@@ -15,8 +16,8 @@ returns-clause-filled c =
     let skip : ℕ = (c.args.at + c.args.from) % 8 in
     let span : ℕ = skip + c.args.count - skip in
     let same : span ≡ c.args.count = omega arith in
-    part_filled grip.view.fixed grip.view.seen c.args.at c.args.from c.args.count skip _ _ c.copy.result c.args.out.now c.put_bytes.new.out _
-    c.requires.of.knows.legal c.requires.held c.requires.word refl refl refl c.copy.ensures.word
+    part_filled (state_after grip.view.seen) c.args.at c.args.from c.args.count skip _ _ c.copy.result c.args.out.now c.put_bytes.new.out _
+    (held_valid grip.view.fixed grip.view.seen c.requires.of.knows.legal) c.requires.held c.requires.word refl refl refl c.copy.ensures.word
     (part_size c.to_le_bytes-bytes.result c.copy.result skip span c.to_le_bytes-bytes.ensures (omega (arith, c.requires.word)) ∙ same)
     (λ k below. part_byte c.to_le_bytes-bytes.result c.copy.result skip span k c.to_le_bytes-bytes.ensures (omega (arith, below)))
     c.requires.room c.put_bytes.ensures

@@ -1,6 +1,7 @@
 use Rattle.std.proofs.Common.{◌+◌, ◌/◌, ◌%◌, ◌<◌, refl, sym, subst, ◌∙◌, arith}
 use Rattle.store_core.specs.declared.fixed.Fixed.{Fixed}
-use Rattle.store_calls.proofs.Holding.{size_fits, sized_below, words_more}
+use Rattle.store_core.specs.Histories.{state_after}
+use Rattle.store_calls.proofs.Holding.{held_valid, size_fits, sized_below, words_more}
 use Rattle.store_steps.specs.Grips.{Gripped}
 use Rattle.store_steps.specs.Tells.{FindsWord}
 use Rattle.store_steps.specs.Words.{IsGripOf}
@@ -25,8 +26,8 @@ words-preserved c =
     let grip = c.args.grip.now in (
       c.copy.ensures.same ∙ c.words.invariant.0,
       subst (λ (g : Gripped). IsGripOf c.args.words.now g) (sym c.copy.ensures.same) c.words.invariant.1,
-      words_more grip.view.fixed grip.view.seen c.args.at c.args.from c.words.i c.args.count _ _ c.copy.result c.args.out.now c.words.out c.put_bytes.new.out c.to_le_bytes-bytes.result
-          c.requires.of.knows.legal c.requires.held c.requires.word c.words-test.true refl refl
+      words_more (state_after grip.view.seen) c.args.at c.args.from c.words.i c.args.count _ _ c.copy.result c.args.out.now c.words.out c.put_bytes.new.out c.to_le_bytes-bytes.result
+          (held_valid grip.view.fixed grip.view.seen c.requires.of.knows.legal) c.requires.held c.requires.word c.words-test.true refl refl
           (subst (λ (g : Gripped). FindsWord ((c.args.at + c.args.from) / 1024) ((c.args.at + c.args.from) % 1024 / 8 + 1 + c.words.i) c.copy.result g.view) c.words.invariant.0 c.copy.ensures.word)
           c.to_le_bytes-bytes.ensures c.requires.room c.words.invariant.2 c.put_bytes.ensures,
     )

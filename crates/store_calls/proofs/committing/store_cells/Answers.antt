@@ -3,11 +3,11 @@ use Rattle.std.specs.Option.{option_copied}
 use Rattle.store_core.specs.declared.history.Piece.{Piece}
 use Rattle.store_core.specs.declared.view.SeatView.{SeatView}
 use Rattle.store_core.specs.Pieces.{chunk_bytes, piece_of}
-use Rattle.store_calls.specs.StoredCells.{HasCells}
+use Rattle.store_calls.specs.StoredCells.{HaveWords, chunk_kind}
 use Rattle.store_steps.specs.Grips.{Gripped}
 use Rattle.store_steps.specs.Words.{IsGripOf}
 use Rattle.store_calls.proofs.CommittedChunks.{claimed_held, there}
-use Rattle.store_calls.proofs.Storing.{cells_more, cells_same}
+use Rattle.store_calls.proofs.Storing.{chunks_are, item_more, item_none}
 use Rattle.store_calls.proofs.committing.store_cells.Goals as goal
 use Rattle.store_calls.proofs.committing.store_cells.Goals.{then-has_bit, else-has_bit}
 
@@ -33,12 +33,12 @@ loop-j-preserved c =
           let has : chunk_bytes piece chunk ≡ Some w.unwrap-bytes.result.now =
           sym (subst (λ (base : ℕ). option_copied w.chunk.result ≡ chunk_bytes (piece_of base c.args.piece.now) chunk) c.base-base.ensures.value w.chunk.ensures.value)
           ∙ ap (λ (o : Option (Bor (List ℕ))). option_copied o) w.unwrap-bytes.ensures in
-          subst (λ (g : Gripped). IsGripOf c.args.words.now g × HasCells group c.args.mask piece (j + 1) old g.view) (sym w.grip-is) (
+          subst (λ (g : Gripped). IsGripOf c.args.words.now g × HaveWords chunk_kind group c.args.mask piece (j + 1) old g.view) (sym w.grip-is) (
             w.store_cell.ensures.of,
-            cells_more group c.args.mask piece j chunk w.unwrap-bytes.result.now old new w.store_cell.new.grip.view c.loop-j.invariant.1 (omega arith) c.loop-j-test.true has
+            item_more chunk_kind chunks_are group c.args.mask piece j old new c.loop-j.invariant.1 chunk w.unwrap-bytes.result.now w.store_cell.new.grip.view (omega arith) c.loop-j-test.true has
                 w.store_cell.ensures.stored,
           )
       | else-has_bit w ↦
-          subst (λ (g : Gripped). IsGripOf c.args.words.now g × HasCells group c.args.mask piece (j + 1) old g.view) (sym w.grip-is)
-          (c.loop-j.invariant.0, cells_same group c.args.mask piece j old new c.loop-j.invariant.1 (sym c.has_bit.ensures ∙ w.if-has_bit.false))
+          subst (λ (g : Gripped). IsGripOf c.args.words.now g × HaveWords chunk_kind group c.args.mask piece (j + 1) old g.view) (sym w.grip-is)
+          (c.loop-j.invariant.0, item_none chunk_kind chunks_are group c.args.mask piece j old new c.loop-j.invariant.1 (sym c.has_bit.ensures ∙ w.if-has_bit.false))
     ]

@@ -3,11 +3,12 @@ use Rattle.std.specs.Option.{option_copied}
 use Rattle.store_core.specs.declared.history.Piece.{Piece}
 use Rattle.store_core.specs.declared.view.SeatView.{SeatView}
 use Rattle.store_core.specs.Pieces.{parent_bytes, piece_of}
-use Rattle.store_calls.specs.Parents.{HaveParentWords}
+use Rattle.store_calls.specs.StoredCells.{HaveWords, parent_kind}
 use Rattle.store_steps.specs.Grips.{Gripped}
 use Rattle.store_steps.specs.Words.{IsGripOf}
 use Rattle.store_calls.proofs.CommittedChunks.{there}
-use Rattle.store_calls.proofs.ParentsStoring.{boundary_in, parents_more, parents_same, storing_now}
+use Rattle.store_calls.proofs.ParentsStoring.{boundary_in, storing_now}
+use Rattle.store_calls.proofs.Storing.{item_more, item_none, parents_are}
 use Rattle.store_calls.proofs.parents.store_parents.Goals as goal
 use Rattle.store_calls.proofs.parents.store_parents.Goals.{then-has_bit, else-has_bit}
 
@@ -40,12 +41,12 @@ loop-j-preserved c =
       | then-has_bit w ↦
           let has : parent_bytes piece boundary ≡ Some w.unwrap-bytes.result.now =
           sym w.parent.ensures.value ∙ ap (λ (o : Option (Bor (List ℕ))). option_copied o) w.unwrap-bytes.ensures in
-          subst (λ (g : Gripped). IsGripOf c.args.words.now g × HaveParentWords group c.args.mask piece (j + 1) old g.view) (sym w.grip-is) (
+          subst (λ (g : Gripped). IsGripOf c.args.words.now g × HaveWords parent_kind group c.args.mask piece (j + 1) old g.view) (sym w.grip-is) (
             w.store_parent.ensures.of,
-            parents_more group c.args.mask piece j boundary w.unwrap-bytes.result.now old new w.store_parent.new.grip.view c.loop-j.invariant.1 (omega arith) c.loop-j-test.true has
+            item_more parent_kind parents_are group c.args.mask piece j old new c.loop-j.invariant.1 boundary w.unwrap-bytes.result.now w.store_parent.new.grip.view (omega arith) c.loop-j-test.true has
                 w.store_parent.ensures.stored,
           )
       | else-has_bit w ↦
-          subst (λ (g : Gripped). IsGripOf c.args.words.now g × HaveParentWords group c.args.mask piece (j + 1) old g.view) (sym w.grip-is)
-          (c.loop-j.invariant.0, parents_same group c.args.mask piece j old new c.loop-j.invariant.1 (sym c.has_bit.ensures ∙ w.if-has_bit.false))
+          subst (λ (g : Gripped). IsGripOf c.args.words.now g × HaveWords parent_kind group c.args.mask piece (j + 1) old g.view) (sym w.grip-is)
+          (c.loop-j.invariant.0, item_none parent_kind parents_are group c.args.mask piece j old new c.loop-j.invariant.1 (sym c.has_bit.ensures ∙ w.if-has_bit.false))
     ]

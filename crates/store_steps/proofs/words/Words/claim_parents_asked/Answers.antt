@@ -11,7 +11,7 @@ use Rattle.store_steps.specs.Grips.{Gripped, first_of}
 use Rattle.store_steps.specs.Layout.{parent_claim_place}
 use Rattle.store_steps.specs.Plays.{ClaimsParents}
 use Rattle.store_core.proofs.Bits.{has_bit-and}
-use Rattle.store_steps.proofs.ParentClaims.{claim_parents_steps, granted_mask}
+use Rattle.store_steps.proofs.Taking.{claim_parents_steps, granted_mask}
 use Rattle.store_steps.proofs.StepViews.{at_code}
 use Rattle.store_steps.proofs.words.Words.claim_parents_asked.Goals as goal
 

@@ -4,7 +4,7 @@ use Rattle.store_core.specs.declared.view.SeatView.{SeatView}
 use Rattle.store_steps.specs.Grips.{Gripped, first_of}
 use Rattle.store_steps.specs.Layout.{parent_word_place}
 use Rattle.store_steps.specs.Plays.{CopiesParent}
-use Rattle.store_steps.proofs.ParentLooking.{copy_parent_steps}
+use Rattle.store_steps.proofs.Looking.{copy_parent_steps}
 use Rattle.store_steps.proofs.StepViews.{at_code}
 use Rattle.store_steps.proofs.words.Words.copy_parent_asked.Goals as goal
 

@@ -4,7 +4,7 @@ use Rattle.store_core.specs.declared.view.SeatView.{SeatView}
 use Rattle.store_steps.specs.Grips.{Gripped, first_of}
 use Rattle.store_steps.specs.Layout.{length_place}
 use Rattle.store_steps.specs.Plays.{LoadsToServe}
-use Rattle.store_steps.proofs.ParentLooking.{length_to_serve_steps}
+use Rattle.store_steps.proofs.Looking.{length_to_serve_steps}
 use Rattle.store_steps.proofs.StepViews.{at_code, told_by}
 use Rattle.store_steps.proofs.words.Words.length_to_serve_asked.Goals as goal
 

@@ -7,7 +7,7 @@ use Rattle.store_core.proofs.SlotStates.{accepted_piece}
 use Rattle.store_steps.specs.Grips.{Gripped, first_of}
 use Rattle.store_steps.specs.Layout.{length_place}
 use Rattle.store_steps.specs.Plays.{LoadsToStore}
-use Rattle.store_steps.proofs.ParentLooking.{length_to_store_steps}
+use Rattle.store_steps.proofs.Looking.{length_to_store_steps}
 use Rattle.store_steps.proofs.StepViews.{at_code, told_by}
 use Rattle.store_steps.proofs.words.Words.length_to_store_asked.Goals as goal
 

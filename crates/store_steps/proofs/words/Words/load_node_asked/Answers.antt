@@ -5,7 +5,7 @@ use Rattle.store_core.specs.declared.view.SeatView.{SeatView}
 use Rattle.store_steps.specs.Grips.{Gripped, first_of}
 use Rattle.store_steps.specs.Plays.{LoadsNode}
 use Rattle.store_steps.specs.Slices.{node_place}
-use Rattle.store_steps.proofs.ParentLooking.{load_node_steps}
+use Rattle.store_steps.proofs.Looking.{load_node_steps}
 use Rattle.store_steps.proofs.StepViews.{at_code, told_by}
 use Rattle.store_steps.proofs.words.Words.load_node_asked.Goals as goal
 

@@ -10,7 +10,7 @@ use Rattle.store_steps.specs.Asks.{AreParentsWritten}
 use Rattle.store_steps.specs.Grips.{Gripped, first_of}
 use Rattle.store_steps.specs.Layout.{parent_held_place}
 use Rattle.store_steps.specs.Plays.{PublishesParents}
-use Rattle.store_steps.proofs.ParentPublishing.{publish_parents_steps}
+use Rattle.store_steps.proofs.Publishing.{publish_parents_steps}
 use Rattle.store_steps.proofs.StepViews.{at_code, told_by}
 use Rattle.store_steps.proofs.words.Words.publish_parents_asked.Goals as goal
 

@@ -5,7 +5,7 @@ use Rattle.store_core.specs.Views.{is_storing}
 use Rattle.store_steps.specs.Grips.{Gripped, first_of}
 use Rattle.store_steps.specs.Layout.{parent_word_place}
 use Rattle.store_steps.specs.Plays.{StoresParent}
-use Rattle.store_steps.proofs.ParentStoring.{store_parent_steps}
+use Rattle.store_steps.proofs.Storing.{store_parent_steps}
 use Rattle.store_steps.proofs.StepViews.{at_code}
 use Rattle.store_steps.proofs.words.Words.store_parent_asked.Goals as goal
 
