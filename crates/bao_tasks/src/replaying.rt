@@ -101,7 +101,8 @@ pub fn replay_on<'a, D: Disk>(
         → OfFiles (D.at disk.now) script.now files.now (λ lines pieces. IsStoppedRun mode.now root.now capacity lines pieces number) }
     ensures refused { (number : ℕ) (fault : CheckFault) → IsErrOf result (RerunFault.Replay (replay.Refused number fault))
         → OfFiles (D.at disk.now) script.now files.now (λ lines pieces. IsRefusedRun mode.now root.now lines pieces number fault) }
-    ensures capacity { IsErrOf result (RerunFault.Replay replay.Capacity) → (capacity ≡ 0) ⊎ (65536 < capacity) }
+    ensures capacity { IsErrOf result (RerunFault.Replay replay.Capacity) → ((capacity ≡ 0) ⊎ (65536 < capacity))
+        × OfFiles (D.at disk.now) script.now files.now (λ lines pieces. IsAcceptedRun mode.now root.now lines pieces) }
     ensures within { IsOk result → (0 < capacity) × (capacity ≤ 65536) }
     ensures illegal_within { (number : ℕ) → IsErrOf result (RerunFault.Replay (replay.Illegal number)) → (0 < capacity) × (capacity ≤ 65536) }
     ensures file { IfErr result (NamesRead script.entry files.now) }

@@ -1,13 +1,14 @@
 -- What two runs of one command line print and write, over the same known files.
 use Rattle.std.specs.Borrow.{Bor}
-use Rattle.std.proofs.Common.{◌≡◌, ◌≢◌, ◌++◌, ◌^◌, ◌<◌, ℕ, List, length, Option, None, Some, Ok, IfSome, inl, inr, refl, ap, sym, subst, ◌∙◌}
+use Rattle.std.proofs.Common.{◌≡◌, ◌≢◌, ◌++◌, ◌^◌, ◌<◌, ℕ, true, List, length, Option, None, Some, Ok, IfSome, inl, inr, refl, ap, sym, subst, ◌∙◌}
 use Rattle.std.specs.Option.{option_copied}
+use Rattle.std.proofs.lemmas.Option.{same_Some}
 use Rattle.std.specs.Io.KnownBytes.{Appends}
 use Rattle.b3tree.specs.declared.mode.Mode.{Mode}
 use Rattle.b3tree.specs.Hashing.{hash, stream}
 use Rattle.b3tree.specs.Modes.{keyed}
 use Rattle.clap.specs.Words.{Text, subcommand_of}
-use Rattle.bao_text.specs.Cut.{cut_text}
+use Rattle.bao_text.specs.Cut.{claimed, cut_text}
 use Rattle.bao_files.specs.Disks.{AreOf, FileState, IsKnown, Puts, Stored}
 use Rattle.bao_files.specs.Encoded.{encoding_text}
 use Rattle.bao_files.specs.Keys.{GivesKey}
@@ -16,6 +17,7 @@ use Rattle.bao_files.specs.declared.kinds.Part.{Part}
 use Rattle.bao_files.specs.declared.kinds.Part.TheVariants.{Slice}
 use Rattle.bao_decode.specs.Cutting.{IsCutOf}
 use Rattle.bao_decode.specs.Ranges.{part_bytes}
+use Rattle.bao_decode.specs.Weaving.{IsCutBeside, are_whole, woven_text}
 use Rattle.bao_request.specs.CommandLine.{AsksFor, AsksForHelp, program_app}
 use Rattle.bao_request.specs.declared.tasks.Request.{Request}
 use Rattle.bao_request.specs.declared.tasks.Task.{Task}
@@ -56,6 +58,15 @@ module _ (at : List ℕ → FileState) where
       let all : cut.0 ≡ text = subst (λ (s : FileState). AreOf s cut.0) there cut.1 in
       subst (λ (t : List ℕ). xs ≡ cut_text t start len) all (cut.2 (subst (λ (t : List ℕ). length t < 2 ^ 64) (sym all) small))
 
+  -- or out of a known copy beside a known outboard encoding that are whole
+  beside_same : (outboard copy outline bytes : List ℕ) (start len : ℕ) (xs : List ℕ) → at outboard ≡ Stored outline → at copy ≡ Stored bytes
+      → are_whole (claimed outline) outline bytes ≡ true → IsCutBeside (at outboard) (at copy) start len xs → xs ≡ cut_text (woven_text (claimed outline) outline bytes) start len
+  beside_same outboard copy outline bytes start len xs at_outboard at_copy whole cut =
+      let o : cut.0 ≡ outline = subst (λ (s : FileState). AreOf s cut.0) at_outboard cut.2 in
+      let c : cut.1 ≡ bytes = subst (λ (s : FileState). AreOf s cut.1) at_copy cut.3 in
+      let also : are_whole (claimed cut.0) cut.0 cut.1 ≡ true = (λ i. are_whole (claimed (o i)) (o i) (c i)) ∙ whole in
+      cut.4 (subst IsKnown (sym at_outboard) tt) (subst IsKnown (sym at_copy) tt) also ∙ (λ i. cut_text (woven_text (claimed (o i)) (o i) (c i)) start len)
+
   module _ (a b : List ℕ → FileState) (m : Mode) (xs ys : List ℕ) where
     -- what is put at OUT is one text, at one path
     put_same : (out also text other : List ℕ) → out ≡ also → text ≡ other → Puts at a out (Some text) → Puts at b also (Some other) → SameWhereKnown at a b
@@ -81,7 +92,17 @@ module _ (at : List ℕ → FileState) where
         (λ i. part_line (Slice (same.1 i) (same.2 i)) (bytes i), put_same out.now out'.now xs ys same.5 bytes did also)
     task_same (CutSlice root start len None verbose file out) (CutSlice root' start' len' (Some outboard) verbose' file' out') same known ours theirs did also =
         let no : None ≡ Some outboard.now = same.3 in cc
-    task_same (CutSlice root start len (Some outboard) verbose file out) s same known ours theirs did also = absurd known
+    task_same (CutSlice root start len (Some outboard) verbose file out) (CutSlice root' start' len' None verbose' file' out') same known ours theirs did also =
+        let no : Some outboard.now ≡ None = same.3 in cc
+    task_same (CutSlice root start len (Some outboard) verbose file out) (CutSlice root' start' len' (Some outboard') verbose' file' out') same known ours theirs did also =
+        let path : outboard.now ≡ outboard'.now = same_Some outboard.now outboard'.now same.3 in
+        let one : xs ≡ cut_text (woven_text (claimed known.0) known.0 known.1) start len =
+        beside_same outboard.now file.now known.0 known.1 start len xs known.2 known.3 known.4 ours.1 in
+        let other : ys ≡ cut_text (woven_text (claimed known.0) known.0 known.1) start' len' =
+        beside_same outboard'.now file'.now known.0 known.1 start' len' ys (subst (λ (p : List ℕ). at p ≡ Stored known.0) path known.2)
+        (subst (λ (p : List ℕ). at p ≡ Stored known.1) same.4 known.3) known.4 theirs.1 in
+        let bytes : xs ≡ ys = one ∙ (λ i. cut_text (woven_text (claimed known.0) known.0 known.1) (same.1 i) (same.2 i)) ∙ sym other in
+        (λ i. part_line (Slice (same.1 i) (same.2 i)) (bytes i), put_same out.now out'.now xs ys same.5 bytes did also)
     task_same (Decode root part verbose file out) (Decode root' part' verbose' file' out') same known ours theirs did also =
         let bytes : xs ≡ ys = bytes_same file.now file'.now same.2 known ours.1 theirs.1 in
         (λ i. part_line (same.1 i) (bytes i), put_same out.now out'.now _ _ same.3 (λ i. part_bytes (same.1 i) (bytes i)) did also)
@@ -103,11 +124,17 @@ module _ (at : List ℕ → FileState) where
     task_same (Encode encoding file out) (Gather root' workers' capacity' long' outboard' salvage' encode' verbose' missing' files' out') same known ours theirs did also = absurd same
     task_same (Encode encoding file out) (Replay root' capacity' script' files') same known ours theirs did also = absurd same
     task_same (CutSlice root start len None verbose file out) (Hash from' count' file') same known ours theirs did also = absurd same
+    task_same (CutSlice root start len (Some outboard) verbose file out) (Hash from' count' file') same known ours theirs did also = absurd same
     task_same (CutSlice root start len None verbose file out) (Encode encoding' file' out') same known ours theirs did also = absurd same
+    task_same (CutSlice root start len (Some outboard) verbose file out) (Encode encoding' file' out') same known ours theirs did also = absurd same
     task_same (CutSlice root start len None verbose file out) (Decode root' part' verbose' file' out') same known ours theirs did also = absurd same
+    task_same (CutSlice root start len (Some outboard) verbose file out) (Decode root' part' verbose' file' out') same known ours theirs did also = absurd same
     task_same (CutSlice root start len None verbose file out) (DecodeCopy root' outboard' verbose' copy' out') same known ours theirs did also = absurd same
+    task_same (CutSlice root start len (Some outboard) verbose file out) (DecodeCopy root' outboard' verbose' copy' out') same known ours theirs did also = absurd same
     task_same (CutSlice root start len None verbose file out) (Gather root' workers' capacity' long' outboard' salvage' encode' verbose' missing' files' out') same known ours theirs did also = absurd same
+    task_same (CutSlice root start len (Some outboard) verbose file out) (Gather root' workers' capacity' long' outboard' salvage' encode' verbose' missing' files' out') same known ours theirs did also = absurd same
     task_same (CutSlice root start len None verbose file out) (Replay root' capacity' script' files') same known ours theirs did also = absurd same
+    task_same (CutSlice root start len (Some outboard) verbose file out) (Replay root' capacity' script' files') same known ours theirs did also = absurd same
     task_same (Decode root part verbose file out) (Hash from' count' file') same known ours theirs did also = absurd same
     task_same (Decode root part verbose file out) (Encode encoding' file' out') same known ours theirs did also = absurd same
     task_same (Decode root part verbose file out) (CutSlice root' start' len' outboard' verbose' file' out') same known ours theirs did also = absurd same

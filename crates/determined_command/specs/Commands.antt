@@ -1,6 +1,8 @@
 -- What two runs of one command line have in common.
-use Rattle.std.specs.Prelude.{◌≡◌, ◌⊎◌, ℕ, ◌^◌, ◌<◌, List, length, Option, None, Some, IfSome}
+use Rattle.std.specs.Prelude.{◌≡◌, ◌⊎◌, ℕ, ◌^◌, ◌<◌, true, List, length, Option, None, Some, IfSome}
 use Rattle.std.specs.Option.{option_copied}
+use Rattle.bao_text.specs.Cut.{claimed}
+use Rattle.bao_decode.specs.Weaving.{are_whole}
 use Rattle.bao_files.specs.Disks.{FileState, IsKnown, Stored}
 use Rattle.bao_request.specs.declared.tasks.Request.{Request}
 use Rattle.bao_request.specs.declared.tasks.Task.{Task}
@@ -15,13 +17,14 @@ abbrev pub BothKeep : Option (List ℕ) → Option (List ℕ) → Option (List �
 BothKeep None one other = Unit {0}
 BothKeep (Some all) one other = (one ≡ Some all) × (other ≡ Some all)
 
--- it is known of which bytes the task's line is: of a file that is hashed, encoded, decoded or cut out of. A blob that is gathered is only known by its
--- hash, a slice beside an outboard encoding by its root, and of a schedule there is a law of its own.
+-- it is known of which bytes the task's line is: of a file that is hashed, encoded, decoded or cut out of, or of an outboard encoding and a copy that
+-- have all bytes of the length that the one claims. A blob that is gathered is only known by its hash, and of a schedule there is a law of its own.
 abbrev pub IsOfKnown : (List ℕ → FileState) → Task → Type 0
 IsOfKnown at (Hash from count file) = IsKnown (at file.now)
 IsOfKnown at (Encode encoding file out) = IsKnown (at file.now)
 IsOfKnown at (CutSlice root start len None verbose file out) = (text : List ℕ) × (at file.now ≡ Stored text) × (length text < 2 ^ 64)
-IsOfKnown at (CutSlice root start len (Some outboard) verbose file out) = ⊥
+IsOfKnown at (CutSlice root start len (Some outboard) verbose file out) =
+    (outline : List ℕ) × (bytes : List ℕ) × (at outboard.now ≡ Stored outline) × (at file.now ≡ Stored bytes) × (are_whole (claimed outline) outline bytes ≡ true)
 IsOfKnown at (Decode root part verbose file out) = IsKnown (at file.now)
 IsOfKnown at (DecodeCopy root outboard verbose copy out) = IsKnown (at copy.now)
 IsOfKnown at (Gather root workers capacity long outboard salvage encode verbose missing files out) = ⊥

@@ -58,7 +58,8 @@ pub fn command_determined<
     )
 }
 
-// The files that are hashed, encoded, decoded or cut out of decide what is printed and written, where both runs are done.
+// The files that are hashed, encoded, decoded or cut out of, also beside an outboard encoding, decide what is printed and written, where both runs are
+// done.
 pub fn known_files_decide<
     R: AllocGlobal + Threads + Sync,
     D: Disk,

@@ -20,7 +20,7 @@ one_number m n = elim (cases_lt m n) [
 ]
 
 -- two lists of numbers are the same, or aren't
-same_or_apart : (xs ys : List ℕ) → (xs ≡ ys) ⊎ (xs ≢ ys)
+pub same_or_apart : (xs ys : List ℕ) → (xs ≡ ys) ⊎ (xs ≢ ys)
 same_or_apart [] [] = inl refl
 same_or_apart [] (y ∷ ys) = inr (λ e. cc)
 same_or_apart (x ∷ xs) [] = inr (λ e. cc)

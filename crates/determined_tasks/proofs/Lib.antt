@@ -11,3 +11,6 @@ pub mod Runs
 pub mod Scripts
 pub mod Verdicts
 pub mod Decoded
+pub mod Cuts
+pub mod PutBlobs
+pub mod Reruns

@@ -23,7 +23,7 @@ use Rattle.determined_tasks.proofs.Scripts as scripts
 use Rattle.determined_tasks.specs.Replays.{IsWant}
 
 -- a store may have room for so many chunks
-abbrev HasRoom : ℕ → Type 0
+abbrev pub HasRoom : ℕ → Type 0
 HasRoom capacity = (0 < capacity) × (capacity ≤ 65536)
 
 module _ (mode : Mode) (root : Hash) (capacity : ℕ) (text : List ℕ) (files : List (List ℕ)) where

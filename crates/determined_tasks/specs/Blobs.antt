@@ -1,13 +1,16 @@
 -- Blobs that were gathered for one root.
-use Rattle.std.specs.Prelude.{◌≡◌, ◌≢◌, ◌⊎◌, ℕ, Bool, List, Option, Result, Ok, Err, length}
+use Rattle.std.specs.Prelude.{◌≡◌, ◌≢◌, ◌⊎◌, ℕ, Bool, List, Option, Some, Result, Ok, Err, length}
 use Rattle.std.specs.Io.KnownBytes.{Appends}
 use Rattle.b3tree.specs.declared.mode.Mode.{Mode}
 use Rattle.b3tree.specs.Hashing.{hash}
+use Rattle.bao_files.specs.Disks.{FileState, Puts}
 use Rattle.bao_files.specs.declared.fault.FileFault.{FileFault}
 use Rattle.bao_files.specs.declared.fault.FileFault.TheVariants.{Read, Write, Output, Encoding, Memory}
 use Rattle.bao_tasks.specs.declared.gathered_fault.GatheredFault.{GatheredFault}
 use Rattle.bao_tasks.specs.declared.gathered_fault.GatheredFault.TheVariants.{File, Outboard, Gather}
 use Rattle.bao_tasks.specs.Gathered.{gathered_text}
+use Rattle.gather.specs.declared.fault.GatherFault.TheVariants.{NotTheRoot}
+use Rattle.determined_files.specs.Agreeing.{SameWhereKnown}
 
 -- The two blobs that were written are different, and have one hash: a collision.
 pub record WroteCollision (mode : Mode) (root : List ℕ) (encode : Bool) (old a b : Option (List ℕ)) (m n : ℕ) : Type 0 where
@@ -41,3 +44,37 @@ SameBlob mode root encode old a b (Ok m) (Ok n) = ((m ≡ n) × (a ≡ b)) ⊎ W
 SameBlob mode root encode old a b (Ok m) (Err f) = Unit {0}
 SameBlob mode root encode old a b (Err e) (Ok n) = Unit {0}
 SameBlob mode root encode old a b (Err e) (Err f) = IsEarly e → IsEarly f → a ≡ b
+
+-- The two blobs that were put at the path, or whose encodings were, are different, and have one hash: a collision.
+pub record PutCollision (mode : Mode) (root : List ℕ) (encode : Bool) (before one other : List ℕ → FileState) (path : List ℕ) (m n : ℕ) : Type 0 where
+  pub ours : List ℕ
+  pub theirs : List ℕ
+  pub apart : ours ≢ theirs
+  pub our_hash : hash mode ours ≡ root
+  pub their_hash : hash mode theirs ≡ root
+  pub our_count : m ≡ length ours
+  pub their_count : n ≡ length theirs
+  pub our_text : Puts before one path (Some (gathered_text encode mode ours))
+  pub their_text : Puts before other path (Some (gathered_text encode mode theirs))
+
+-- Where both put a blob, it is one, with one count, and what is at each path is the same; or the two are a collision. Where both were refused, what
+-- is at each path is the same.
+abbrev pub SamePut : Mode → List ℕ → Bool → (List ℕ → FileState) → (List ℕ → FileState) → (List ℕ → FileState) → List ℕ → Result ℕ GatheredFault → Result ℕ GatheredFault → Type 0
+SamePut mode root encode before one other path (Ok m) (Ok n) = ((m ≡ n) × SameWhereKnown before one other) ⊎ PutCollision mode root encode before one other path m n
+SamePut mode root encode before one other path (Ok m) (Err f) = Unit {0}
+SamePut mode root encode before one other path (Err e) (Ok n) = Unit {0}
+SamePut mode root encode before one other path (Err e) (Err f) = SameWhereKnown before one other
+
+-- Where there is a blob with the root: both put one, with one count, and what is at each path is the same; and neither says that there is none (902).
+abbrev pub SameRight : (List ℕ → FileState) → (List ℕ → FileState) → (List ℕ → FileState) → Result ℕ GatheredFault → Result ℕ GatheredFault → Type 0
+SameRight before one other (Ok m) (Ok n) = (m ≡ n) × SameWhereKnown before one other
+SameRight before one other (Ok m) (Err f) = f ≢ Gather NotTheRoot
+SameRight before one other (Err e) (Ok n) = e ≢ Gather NotTheRoot
+SameRight before one other (Err e) (Err f) = (e ≢ Gather NotTheRoot) × (f ≢ Gather NotTheRoot)
+
+-- Of an outboard encoding whose bytes are known: where both refuse it, it is for one fault, and where one has put a blob the other doesn't refuse it.
+abbrev pub SameOutboard : Result ℕ GatheredFault → Result ℕ GatheredFault → Type 0
+SameOutboard (Ok m) (Err (Outboard f)) = ⊥
+SameOutboard (Err (Outboard e)) (Ok n) = ⊥
+SameOutboard (Err (Outboard e)) (Err (Outboard f)) = e ≡ f
+SameOutboard one other = Unit {0}

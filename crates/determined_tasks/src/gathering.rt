@@ -2,12 +2,22 @@
 // first room and the capacity have no part in what is written: where both have a blob, it is the same, or the two are a collision. Which
 // fault is answered depends on what each holder was asked for, and isn't determined.
 
-ghost use Rattle.std.specs.Prelude.{◌≡◌, IfSome};
-ghost use Rattle.determined_tasks.specs.Blobs.{SameBlob};
+ghost use Rattle.std.specs.Borrow.{Bor};
+ghost use Rattle.std.specs.Prelude.{◌≡◌, ◌⊎◌, ◌^◌, ◌<◌, ℕ, List, IfSome, Some, length, slice_get, true};
+ghost use Rattle.bao_files.specs.Disks.{IsKnown, Stored};
+ghost use Rattle.bao_tasks.specs.FromFiles.{CollidesBeside, CollidesBesideOutline, HasRoom, IsEnough, IsExcusedGathering, IsFromFile, is_regular};
+ghost use Rattle.bao_text.specs.Texts.{outboard_text};
+ghost use Rattle.gather.specs.Large.{HasCollision, fixed_as};
+ghost use Rattle.store_core.specs.Laws.{IsBlob};
+ghost use Rattle.determined_files.specs.Agreeing.{AgreeUnless, SameWhereKnown};
+ghost use Rattle.determined_tasks.specs.Blobs.{SameBlob, SameOutboard, SamePut, SameRight};
 
 use b3tree::{Hash, Mode};
+use bao_files::{Disk, Progress};
 use bao_read::Source;
-use bao_tasks::{Form, GatheredFault, Gathering, write_gathered};
+use bao_tasks::{
+    Form, GatheredFault, Gathering, Notes, gather_beside_on, gather_on, write_gathered,
+};
 use std::io::Write;
 use std::thread::Threads;
 
@@ -53,6 +63,124 @@ pub fn write_gathered_determined<
             other_sources,
             path,
             theirs,
+        ),
+    )
+}
+
+// The same out of the same known files. Where both put a blob, it is one, or the two are a collision. On disks without faults, where it is known what
+// is at OUT, the collision of a blob with the root is named from the files; neither says that there is none with the root, where there is one; and where
+// one of the files is true both put it, unless there was no memory or writing failed. Which of the other faults is answered isn't determined.
+pub fn gather_on_determined<
+    'a,
+    R: AllocGlobal + Threads + Sync,
+    D: Disk,
+    E: Disk,
+    P: Progress + Sync,
+>(
+    rt: &R,
+    ours: &mut D,
+    theirs: &mut E,
+    mode: &Mode,
+    root: &Hash,
+    form: &Form<'_>,
+    how: Gathering,
+    other_how: Gathering,
+    files: &[&'a str],
+    path: &'a str,
+    notes: &mut Notes,
+    other_notes: &mut Notes,
+    progress: &P,
+) -> (
+    Result<u64, GatheredFault<'a>>,
+    Result<u64, GatheredFault<'a>>,
+)
+    requires same { (at : List ℕ) → D.at ours.old at ≡ E.at theirs.old at }
+    requires encode { how.encode ≡ other_how.encode }
+    requires long { how.long ≡ other_how.long }
+    requires capacity { how.capacity ≡ other_how.capacity }
+    ensures put { SamePut mode.now root.now.0 how.encode (D.at ours.old) (D.at ours.new) (E.at theirs.new) path.now result.0 result.1 }
+    ensures right { D.faultless ours.old → E.faultless theirs.old → IsKnown (D.at ours.old path.now) → (blob : List ℕ) → IsBlob (fixed_as root.now mode.now how.capacity) blob
+        → SameRight (D.at ours.old) (D.at ours.new) (E.at theirs.new) result.0 result.1
+        ⊎ HasCollision (IsFromFile form.now how.capacity (D.at ours.old) files.now) (fixed_as root.now mode.now how.capacity) blob }
+    ensures enough { D.faultless ours.old → E.faultless theirs.old → IsKnown (D.at ours.old path.now) → (blob text : List ℕ) (i : ℕ) (file : Bor (List ℕ))
+        → IsEnough form.now (fixed_as root.now mode.now how.capacity) how blob text → slice_get files.now i ≡ Some file → is_regular file.now ≡ true → D.at ours.old file.now ≡ Stored text
+        → AgreeUnless (λ m n. (m ≡ n) × SameWhereKnown (D.at ours.old) (D.at ours.new) (E.at theirs.new)) IsExcusedGathering IsExcusedGathering result.0 result.1
+        ⊎ HasCollision (IsFromFile form.now how.capacity (D.at ours.old) files.now) (fixed_as root.now mode.now how.capacity) blob }
+{
+    (
+        gather_on(
+            rt, ours, mode, root, form, how, files, path, notes, progress,
+        ),
+        gather_on(
+            rt,
+            theirs,
+            mode,
+            root,
+            form,
+            other_how,
+            files,
+            path,
+            other_notes,
+            progress,
+        ),
+    )
+}
+
+// The same of plain copies beside an outboard encoding, which both accept or refuse by its first fault, where its bytes are known.
+pub fn gather_beside_on_determined<
+    'a,
+    R: AllocGlobal + Threads + Sync,
+    D: Disk,
+    E: Disk,
+    P: Progress + Sync,
+>(
+    rt: &R,
+    ours: &mut D,
+    theirs: &mut E,
+    mode: &Mode,
+    root: &Hash,
+    how: Gathering,
+    other_how: Gathering,
+    outboard: &'a str,
+    files: &[&'a str],
+    path: &'a str,
+    notes: &mut Notes,
+    other_notes: &mut Notes,
+    progress: &P,
+) -> (
+    Result<u64, GatheredFault<'a>>,
+    Result<u64, GatheredFault<'a>>,
+)
+    requires same { (at : List ℕ) → D.at ours.old at ≡ E.at theirs.old at }
+    requires encode { how.encode ≡ other_how.encode }
+    requires long { how.long ≡ other_how.long }
+    requires capacity { how.capacity ≡ other_how.capacity }
+    ensures put { SamePut mode.now root.now.0 how.encode (D.at ours.old) (D.at ours.new) (E.at theirs.new) path.now result.0 result.1 }
+    ensures outboard { (text : List ℕ) → D.at ours.old outboard.now ≡ Stored text → SameOutboard result.0 result.1 }
+    ensures right { D.faultless ours.old → E.faultless theirs.old → IsKnown (D.at ours.old path.now) → (blob : List ℕ) → IsBlob (fixed_as root.now mode.now how.capacity) blob
+        → SameRight (D.at ours.old) (D.at ours.new) (E.at theirs.new) result.0 result.1
+        ⊎ CollidesBesideOutline (fixed_as root.now mode.now how.capacity) how.capacity (D.at ours.old) outboard.now files.now blob }
+    ensures enough { D.faultless ours.old → E.faultless theirs.old → IsKnown (D.at ours.old path.now) → (blob : List ℕ) (i : ℕ) (file : Bor (List ℕ))
+        → IsBlob (fixed_as root.now mode.now how.capacity) blob → HasRoom how (length blob) → 0 < length blob → length blob < 2 ^ 64
+        → D.at ours.old outboard.now ≡ Stored (outboard_text mode.now blob) → slice_get files.now i ≡ Some file → is_regular file.now ≡ true → D.at ours.old file.now ≡ Stored blob
+        → AgreeUnless (λ m n. (m ≡ n) × SameWhereKnown (D.at ours.old) (D.at ours.new) (E.at theirs.new)) IsExcusedGathering IsExcusedGathering result.0 result.1
+        ⊎ CollidesBeside (fixed_as root.now mode.now how.capacity) how.capacity (D.at ours.old) files.now blob }
+{
+    (
+        gather_beside_on(
+            rt, ours, mode, root, how, outboard, files, path, notes, progress,
+        ),
+        gather_beside_on(
+            rt,
+            theirs,
+            mode,
+            root,
+            other_how,
+            outboard,
+            files,
+            path,
+            other_notes,
+            progress,
         ),
     )
 }

@@ -1,6 +1,6 @@
-//! That the contracts of `bao_tasks` determine what its functions answer: each function here asks one of theirs twice, over
-//! readers and writers whose bytes are known to be the same, and what it ensures is that both answers are. What a file has no
-//! contract knows, so that there is no law of what opens files by their paths.
+//! That the contracts of `bao_decode` and `bao_tasks` determine what their functions answer: each function here asks one of
+//! theirs twice, over readers, writers and files whose bytes are known to be the same, and what it ensures is that both
+//! answers are.
 #![tactic(auto)]
 
 mod decoding;
@@ -8,6 +8,7 @@ mod gathering;
 mod lacks;
 mod lists;
 mod replaying;
+mod slicing;
 mod spots;
 mod values;
 mod worths;

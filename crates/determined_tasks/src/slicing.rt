@@ -1,0 +1,72 @@
+// Slices that are cut out of files, and verified.
+
+ghost use Rattle.std.specs.Prelude.{◌≡◌, ◌^◌, ◌<◌, ℕ, List, length, OnErr, OnOk, true};
+ghost use Rattle.bao_decode.specs.Weaving.{are_whole};
+ghost use Rattle.bao_decode.specs.declared.decode_fault.DecodeFault.TheVariants as DecodeFault;
+ghost use Rattle.bao_files.specs.Disks.{Absent, IsKnown, Stored};
+ghost use Rattle.bao_files.specs.declared.fault.FileFault.TheVariants as FileFault;
+ghost use Rattle.bao_text.specs.Cut.{claimed};
+ghost use Rattle.determined_files.specs.Agreeing.{AgreeUnless, SameWhereKnown};
+ghost use Rattle.determined_tasks.specs.Copies.{MayComeBeside, MayComeOfCopy};
+
+use b3tree::{Hash, Mode};
+use bao_decode::{DecodeFault, slice_beside_on, slice_on};
+use bao_files::Disk;
+use std::alloc::Global;
+
+// Memory may run out, writing may fail, and a read of a file may, on a disk that isn't faultless, at any time. Everything else is the encoding's, where
+// it isn't longer than any file, and of each path of which it was known before what is there is the same.
+pub fn slice_on_determined<'a, D: Disk, E: Disk>(
+    alloc: Global,
+    ours: &mut D,
+    theirs: &mut E,
+    mode: &Mode,
+    root: &Hash,
+    start: u64,
+    len: u64,
+    file: &'a str,
+    path: &'a str,
+) -> (Result<u64, DecodeFault<'a>>, Result<u64, DecodeFault<'a>>)
+    requires { (at : List ℕ) → D.at ours.old at ≡ E.at theirs.old at }
+    ensures answer { IsKnown (D.at ours.old path.now) → (text : List ℕ) → D.at ours.old file.now ≡ Stored text → length text < 2 ^ 63
+        → AgreeUnless (λ m n. m ≡ n) (MayComeOfCopy (D.faultless ours.old) file.entry path.entry) (MayComeOfCopy (E.faultless theirs.old) file.entry path.entry) result.0 result.1 }
+    ensures absent { D.at ours.old file.now ≡ Absent
+        → AgreeUnless (λ _ _. ⊥) (λ fault. fault ≡ DecodeFault.File FileFault.Memory) (λ fault. fault ≡ DecodeFault.File FileFault.Memory) result.0 result.1 }
+    ensures put { (text : List ℕ) → D.at ours.old file.now ≡ Stored text → length text < 2 ^ 64
+        → OnOk result.0 (OnOk result.1 (SameWhereKnown (D.at ours.old) (D.at ours.new) (E.at theirs.new))) }
+    ensures kept { OnErr result.0 (OnErr result.1 (SameWhereKnown (D.at ours.old) (D.at ours.new) (E.at theirs.new))) }
+{
+    (
+        slice_on(alloc, ours, mode, root, start, len, file, path),
+        slice_on(alloc, theirs, mode, root, start, len, file, path),
+    )
+}
+
+// The same of a plain copy beside an outboard encoding, where the two have all bytes of the length that this claims.
+pub fn slice_beside_on_determined<'a, D: Disk, E: Disk>(
+    alloc: Global,
+    ours: &mut D,
+    theirs: &mut E,
+    mode: &Mode,
+    root: &Hash,
+    start: u64,
+    len: u64,
+    outboard: &'a str,
+    copy: &'a str,
+    path: &'a str,
+) -> (Result<u64, DecodeFault<'a>>, Result<u64, DecodeFault<'a>>)
+    requires { (at : List ℕ) → D.at ours.old at ≡ E.at theirs.old at }
+    ensures answer { IsKnown (D.at ours.old path.now) → (outline bytes : List ℕ) → D.at ours.old outboard.now ≡ Stored outline → D.at ours.old copy.now ≡ Stored bytes
+        → are_whole (claimed outline) outline bytes ≡ true → AgreeUnless (λ m n. m ≡ n) (MayComeBeside (D.faultless ours.old) outboard.entry copy.entry path.entry)
+        (MayComeBeside (E.faultless theirs.old) outboard.entry copy.entry path.entry) result.0 result.1 }
+    ensures absent { D.at ours.old outboard.now ≡ Absent
+        → AgreeUnless (λ _ _. ⊥) (λ fault. fault ≡ DecodeFault.File FileFault.Memory) (λ fault. fault ≡ DecodeFault.File FileFault.Memory) result.0 result.1 }
+    ensures put { (outline bytes : List ℕ) → D.at ours.old outboard.now ≡ Stored outline → D.at ours.old copy.now ≡ Stored bytes
+        → are_whole (claimed outline) outline bytes ≡ true → OnOk result.0 (OnOk result.1 (SameWhereKnown (D.at ours.old) (D.at ours.new) (E.at theirs.new))) }
+    ensures kept { OnErr result.0 (OnErr result.1 (SameWhereKnown (D.at ours.old) (D.at ours.new) (E.at theirs.new))) }
+{
+    (
+        slice_beside_on(alloc, ours, mode, root, start, len, outboard, copy, path),
+        slice_beside_on(alloc, theirs, mode, root, start, len, outboard, copy, path),
+    )
+}
