@@ -55,7 +55,7 @@ help:
 	@echo '                          pkg-config and libcurl with its headers)'
 	@echo 'make fetch-install PREFIX=DIR copies bw-fetch to DIR/bin, its manual page to DIR/share/man'
 	@echo 'make fetch-test           runs bw-fetch against hostile mirrors on loopback, under what is installed of sanitizers;'
-	@echo '                          DRAWN=N for another number of fetches from drawn mirrors than 10000'
+	@echo '                          DRAWN=N for another number of fetches from drawn mirrors than 4000'
 	@echo 'make fetch-bench          measures bw-fetch beside curl and aria2c, where they are installed, over mirrors on loopback'
 	@echo '                          (needs nginx)'
 	@echo 'make bench                measures times and prints them with their ratios, beside b3sum where it is installed and'
@@ -104,6 +104,7 @@ dist:
 test:
 	@python3 scripts/laws.py
 	@python3 scripts/wrong_bodies.py --read --strict
+	@python3 scripts/uncited.py
 	@python3 scripts/prose.py
 	@python3 scripts/rooms.py
 	@python3 scripts/readmes.py --read

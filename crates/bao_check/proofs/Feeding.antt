@@ -492,13 +492,6 @@ module _ (mode : Mode) (root : List ℕ) (start len total : ℕ) (choice : Choic
         top_stopped mode root (header ++ more) start len total choice asked long claims chosen asks (Mismatch 8)
         (subst (λ (T : Type 0). T) (λ i. StopsIn asked mode choice 0 (sym empty i) (bare_text i) (size i) (Mismatch (size i))) stop)
 
--- the length is the first that is taken
-pub begun_taken : (said task : CheckTask) (choice : Choice) (parts : List Part) (taken node : List ℕ) → said ≡ task → taken ≡ [] → length node ≡ 8
-    → ((more : List ℕ) → WaitsIn said choice parts (node ++ more) 8) → (more : List ℕ) → WaitsIn task choice parts ((taken ++ node) ++ more) (length (taken ++ node))
-begun_taken said task choice parts taken node same none len waits more =
-    subst (λ (s : List ℕ). WaitsIn task choice parts ((s ++ node) ++ more) (length (s ++ node))) (sym none)
-    (subst (λ (k : ℕ). WaitsIn task choice parts (node ++ more) k) (sym len) (subst (λ (t : CheckTask). WaitsIn t choice parts (node ++ more) 8) same (waits more)))
-
 pub begun_fault : (said task : CheckTask) (taken node : List ℕ) (fault : CheckFault) → said ≡ task → taken ≡ []
     → ((more : List ℕ) → IsFaultAs said (node ++ more) fault) → (more : List ℕ) → IsFaultAs task ((taken ++ node) ++ more) fault
 begun_fault said task taken node fault same none faults more =
@@ -516,11 +509,6 @@ pub refused_in_fault : (task : CheckTask) (choice : Choice) (before after : List
     → (more : List ℕ) → IsFaultAs task ((taken ++ bytes) ++ more) fault
 refused_in_fault task choice before after at used taken bytes fault refused at_is waits more =
     (subst (λ (s : List ℕ). WaitsIn task choice before s (length taken)) (sym (append_assoc taken bytes more)) (waits (bytes ++ more))).stopped fault (refused.stops taken more at_is)
-
--- whether the length is still to come
-pub first_size : (at n : ℕ) (o : Option ℕ) → at ≡ 0 → (if nat_eq at 0 then Some 8 else o) ≡ Some n → n ≡ 8
-first_size zero n o none h = cc
-first_size (suc at) n o none h = absurd (omega (arith, none))
 
 pub later_size : (at : ℕ) (o : Option ℕ) → 0 < at → (if nat_eq at 0 then Some 8 else o) ≡ o
 later_size at o some = elim (cases_Bool (nat_eq at 0)) [

@@ -158,13 +158,6 @@ pub parent_place-unwanted : (choice : Choice) (number n : ℕ) (sides : List Sid
 parent_place-unwanted choice number n sides source at m skipped =
     ap (λ (nodes : List TreeNode). parent_place (placed_nodes at nodes) m) (subtree_nodes-unwanted choice number n sides source skipped)
 
-pub parent_place-chunk : (choice : Choice) (number n : ℕ) (sides : List Side) (source at m : ℕ) → n ≤ 1024
-    → parent_place (placed_nodes at (subtree_nodes choice number n sides source)) m ≡ None
-parent_place-chunk choice number n sides source at m one =
-    let count : chunk_count n ≡ 1 = omega arith in
-    parent_place-none (placed_nodes at (subtree_nodes choice number n sides source)) m
-    (outside_lacks choice number n m at source sides (λ h. omega (arith, h.0, h.1)))
-
 -- the bytes of a parent are those at its place
 pub parent_in-place : (text : List ℕ) (places : List (ℕ × TreeNode)) (m : ℕ) → parent_in text places m ≡ option_map (λ at. take 64 (drop at text)) (parent_place places m)
 parent_in-place text [] m = refl

@@ -134,11 +134,6 @@ up asked sides d mode text ps own q p part on h = (
       ],
 )
 
--- the parent itself, where all others go on from it
-top_down : (asked : Asked) (sides : List Side) (mode : Mode) (text : List ℕ) (ps : List (ℕ × TreeNode)) (q : ℕ × TreeNode) → q.1.sides ≡ sides
-    → IsAskedIn asked sides mode text ps q → Meets asked (input_at mode text q)
-top_down asked sides mode text ps q is h = h.0 is
-
 top_up : (asked : Asked) (sides : List Side) (mode : Mode) (text : List ℕ) (ps : List (ℕ × TreeNode)) (q : ℕ × TreeNode) → q.1.sides ≡ sides
     → ((a : ℕ × TreeNode) → Contains ps a → Extends sides a.1.sides) → Meets asked (input_at mode text q) → IsAskedIn asked sides mode text ps q
 top_up asked sides mode text ps q is on h = (

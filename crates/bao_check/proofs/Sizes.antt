@@ -124,6 +124,3 @@ bound-levels (suc levels) choice number n sides source hn = elim (cases_lt 1024 
             omega arith
       ]
 ]
-
-pub nodes_size-bound : (choice : Choice) (number n : ℕ) (sides : List Side) (source : ℕ) → nodes_size (subtree_nodes choice number n sides source) ≤ subtree_size n
-nodes_size-bound choice number n sides source = bound-levels n choice number n sides source (omega arith)

@@ -26,13 +26,6 @@ Consumes-then (Some a) None c xs ys h k = absurd h
 Consumes-then (Some a) (Some b) None xs ys h k = absurd k
 Consumes-then (Some a) (Some b) (Some c) xs ys h k = h ∙ ap (λ (s : List ℕ). xs ++ s) k ∙ sym (append_assoc xs ys c)
 
-Consumes-none : (a : Option (List ℕ)) → Consumes a a []
-Consumes-none None = tt
-Consumes-none (Some a) = refl
-
-pub Grows-none : (old : List ℕ) (before : Option (List ℕ)) → Grows old old before before
-Grows-none old before = record { bytes = []; grown = sym (append-nil old); consumed = Consumes-none before }
-
 pub Grows-from_Takes : (size : ℕ) (old new : List ℕ) (before after : Option (List ℕ)) → Takes size old new before after → Grows old new before after
 Grows-from_Takes size old new before after h = record { bytes = h.bytes; grown = h.grown; consumed = h.consumed }
 

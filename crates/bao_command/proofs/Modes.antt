@@ -1,11 +1,10 @@
 -- What a fault of the mode's words leaves, and what a file with a key gives.
-use Rattle.std.proofs.Common.{◌≡◌, ◌≢◌, ◌⊎◌, ℕ, List, Bor, Option, Some, IfOk, IfSome, IsErrAnd, Result, Ok, Err, inl, inr, sym, ap, subst, refl, ◌∙◌}
+use Rattle.std.proofs.Common.{◌≡◌, ◌≢◌, ℕ, List, Bor, Option, IsErrAnd, Result, Ok, Err, inl, inr, sym, ap, subst, ◌∙◌}
 use Rattle.std.proofs.KnownBytes.{Keeps-refl}
-use Rattle.b3tree.specs.declared.mode.Mode.{Mode}
-use Rattle.bao_files.specs.Disks.{FileState, Unknown, Absent, Stored, Opens}
+use Rattle.bao_files.specs.Disks.{FileState}
 use Rattle.bao_files.specs.declared.fault.FileFault.TheVariants as files
 use Rattle.bao_command.specs.declared.fault.Fault.{Fault}
-use Rattle.bao_command.specs.ModeWords.{GivesFileMode, IsKeyedBy, IsKeyedIn, IsModeFault}
+use Rattle.bao_command.specs.ModeWords.{IsModeFault}
 use Rattle.bao_command.specs.Status.{status_of}
 use Rattle.bao_command.specs.Tasks.{Answers, LeavesOf}
 use Rattle.bao_request.specs.declared.tasks.Request.{Request}
@@ -35,11 +34,3 @@ mode_refuses_none named fault (inr (inr (inl is))) one = usage_refuses_none (ap 
 mode_refuses_none named fault (inr (inr (inr (inl is)))) one = usage_refuses_none (ap status_of (sym is) ∙ one)
 mode_refuses_none named fault (inr (inr (inr (inr (inl is))))) one = file_refuses_none files.Memory (ap status_of (sym is) ∙ one)
 mode_refuses_none named fault (inr (inr (inr (inr (inr read))))) one = file_refuses_none (files.Read read.0) (ap status_of (sym read.1.1) ∙ one)
-
--- the mode of the bytes of a file that was opened
-pub keyed_in : (path : Bor (List ℕ)) (state : FileState) (contents left : Option (List ℕ)) (result : Result Mode Fault) → Opens state contents left
-    → IfSome left (λ bytes. GivesFileMode path bytes result) → IfOk result (λ mode. (bytes : List ℕ) × IsKeyedBy bytes mode) → IfOk result (IsKeyedIn state)
-keyed_in path state contents left (Err fault) opened known some = tt
-keyed_in path Unknown contents left (Ok mode) opened known some = (some.0, tt, some.1)
-keyed_in path Absent contents left (Ok mode) opened known some = absurd opened
-keyed_in path (Stored s) contents left (Ok mode) opened known some = (s, refl, subst (λ (o : Option (List ℕ)). IfSome o (λ bytes. GivesFileMode path bytes (Ok mode))) opened.1 known)

@@ -138,8 +138,3 @@ draft_names file path Output answer is = subst (NamesDraftPaths file path) (sym 
 pub flushed_names : (file path : Bor (List ℕ)) (result : Result ℕ DecodeFault) → IfErr result (λ fault. fault ≡ decode.File (Write path)) → IfErr result (NamesDraftPaths file path)
 flushed_names file path (Ok count) fault_is = tt
 flushed_names file path (Err fault) fault_is = subst (NamesDraftPaths file path) (sym fault_is) (inr (inr refl))
-
--- what is so of a count is so of one that is the same
-pub same_count : {E : Type 0} (P : ℕ → Type 0) (count : ℕ) (result : Result ℕ E) → IfOk result (λ answer. answer ≡ count) → P count → IfOk result P
-same_count P count (Ok answer) is p = subst P (sym is) p
-same_count P count (Err fault) is p = tt

@@ -1,7 +1,7 @@
 -- The text of a tree, from those of its two parts.
 use Rattle.std.proofs.Common.{◌≡◌, ℕ, ◌+◌, ◌-◌, ◌*◌, ◌/◌, ◌<◌, ◌≤◌, List, [], ◌∷◌, ◌++◌, Vec, Global, length, take, drop, Option, Some, None, IfSome, Bool, true, false, if◌then◌else◌, max, ◌∙◌, sym, ap, subst, arith}
 use Rattle.std.proofs.lemmas.Bool.{and_from, and_parts, false_from_ne_true, lt-ltb, ltb-true, true≢false}
-use Rattle.std.proofs.lemmas.List.{append-nil, append_assoc, take_at, drop_at, length-append, take_all}
+use Rattle.std.proofs.lemmas.List.{append_assoc, take_at, drop_at, length-append, take_all}
 use Rattle.b3word.specs.declared.input.Input.{Input}
 use Rattle.b3word.specs.Compression.{cv}
 use Rattle.b3tree.specs.declared.mode.Mode.{Mode}
@@ -161,10 +161,6 @@ text_all (Some s) choice mode len text top gains ends =
     let within : length s ≤ length gains.top.bytes = omega (arith, gains.top.len_is) in
     let same : gains.top.bytes ≡ s = gains.top.given ∙ take_all (length gains.top.bytes) s within in
     subst (λ (bytes : List ℕ). IsTextOf choice mode len bytes (root_hash (rooted top)) text) same (text_some (Some s) choice mode len text top gains)
-
--- one text alone
-pub joined_one : (texts : List (Vec ℕ Global)) (text : Vec ℕ Global) → texts ≡ text ∷ [] → joined texts ≡ text.items
-joined_one texts text is = ap joined is ∙ append-nil text.items
 
 -- the length stands in a text of its own, before those of the tree
 pub text_after : (contents : Option (List ℕ)) (choice : Choice) (mode : Mode) (first len : ℕ) (before : Vec ℕ Global) (old : List ℕ) (rest texts : List (Vec ℕ Global)) (top : Input)

@@ -1,13 +1,12 @@
 -- A subcommand of which an argument is missing asks for nothing.
-use Rattle.std.proofs.Common.{◌≡◌, ◌∙◌, ◌<◌, ◌^◌, ℕ, List, Option, None, Some, IsNone, Bor, codes, ap, sym, arith}
+use Rattle.std.proofs.Common.{◌≡◌, ◌<◌, ◌^◌, ℕ, List, Option, None, Some, IsNone, Bor, codes, ap, arith}
 use Rattle.clap.specs.Words.{Row, Text}
-use Rattle.bao_files.specs.declared.kinds.Encoding.{Encoding}
 use Rattle.bao_files.specs.declared.kinds.Encoding.TheVariants.{Combined, Outboard, Slice}
 use Rattle.bao_files.specs.declared.kinds.Part.TheVariants as part
 use Rattle.bao_request.specs.declared.tasks.Task.{Task}
 use Rattle.bao_request.specs.declared.tasks.Task.TheVariants.{Hash, Encode, CutSlice, Decode, DecodeCopy, Gather, Replay}
-use Rattle.bao_request.specs.Requests.{Finds, GivesEncoding, GivesNumber, GivesRange, GivesTask, GivesText, GivesTexts}
-use Rattle.bao_request.proofs.Subcommands.{class_is, letters, task_class, writes}
+use Rattle.bao_request.specs.Requests.{Finds, GivesNumber, GivesRange, GivesTask, GivesText, GivesTexts}
+use Rattle.bao_request.proofs.Subcommands.{class_is, letters}
 
 -- nothing was found where there is nothing
 pub nothing : {X : Type 0} (gives : X → Type 0) (o : Option X) → IsNone o → ((x : X) → ¬ gives x) → Finds gives o
@@ -29,11 +28,6 @@ pub no_hash : (rows : List Row)
 no_hash rows without (Hash at size file) a = without at size file a.1 a.2 a.3
 no_hash rows without task a = let e = class_is (codes "hash") rows task a in absurd (omega (arith, e))
 
-pub no_encoding : (name : Text) (rows : List Row) (encoding : Encoding) → GivesEncoding name rows encoding
-    → ((file out : Bor Text) → GivesText rows (codes "FILE") file.now → ¬ GivesText rows (codes "OUT") out.now) → (task : Task) → ¬ GivesTask name rows task
-no_encoding name rows encoding is without (Encode other file out) a = without file out a.1 a.2
-no_encoding name rows encoding is without task a = let e : 1 ≡ task_class task = sym (writes name rows encoding is) ∙ class_is name rows task a in absurd (omega (arith, e))
-
 pub no_slice : (rows : List Row) → ((start len : ℕ) → ¬ GivesRange rows start len) → (task : Task) → ¬ GivesTask (codes "slice") rows task
 no_slice rows without (Encode Combined file out) a = absurd (omega (arith, ap letters a.0))
 no_slice rows without (Encode Outboard file out) a = absurd (omega (arith, ap letters a.0))
@@ -45,14 +39,6 @@ pub no_cut_slice : (rows : List Row)
     → (task : Task) → ¬ GivesTask (codes "cut-slice") rows task
 no_cut_slice rows without (CutSlice root start len outboard verbose file out) a = without start len root file out a.1 a.4 a.5 a.6
 no_cut_slice rows without task a = let e = class_is (codes "cut-slice") rows task a in absurd (omega (arith, e))
-
-pub no_decode : (rows : List Row)
-    → ((root enc out : Bor Text) → GivesText rows (codes "ROOT") root.now → GivesText rows (codes "ENC") enc.now → ¬ GivesText rows (codes "OUT") out.now)
-    → (task : Task) → ¬ GivesTask (codes "decode") rows task
-no_decode rows without (Decode root part.Whole verbose file out) a = without root file out a.1 a.0.2 a.2
-no_decode rows without (Decode root (part.Slice start len) verbose file out) a = absurd (omega (arith, ap letters a.0.0))
-no_decode rows without (DecodeCopy root outboard verbose copy out) a = without root copy out a.3 a.2 a.4
-no_decode rows without task a = let e = class_is (codes "decode") rows task a in absurd (omega (arith, e))
 
 pub no_decode_slice : (rows : List Row)
     → ((start len : ℕ) (root slice out : Bor Text) → GivesRange rows start len → GivesText rows (codes "ROOT") root.now → GivesText rows (codes "SLICE") slice.now → ¬ GivesText rows (codes "OUT") out.now)

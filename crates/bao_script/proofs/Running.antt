@@ -81,10 +81,6 @@ steps_stop fixed pieces m steps i number old mid run step found ran refuses =
       },
     )
 
--- Lines: none,
-pub lines_none : (fixed : Fixed) (pieces : List Checked) (m : Machine) (text : List ℕ) (run : ScheduleRun) → StandsAt fixed pieces m run → RanLines fixed pieces m [] text text run
-lines_none fixed pieces m text run stands = record { answers = []; last = m; runs = (refl, refl); stands = stands; text = sym (append-nil text) }
-
 script_more : (fixed : Fixed) (pieces : List Checked) (piece : ℕ) (m : Machine) (lines : List NumberedLine) (answers : List (ℕ × Reply)) (last : Machine) (line : NumberedLine)
     (replies : List Reply) (events : List Event) (next : Machine) → RunsScript fixed pieces piece m lines answers last
     → Runs fixed pieces last (steps_of (piece + pieces_among lines) line.line) replies events next

@@ -1,18 +1,18 @@
 -- What the sources of files give, and what a try out of them answers.
 use Rattle.std.specs.Borrow.{Bor}
-use Rattle.std.proofs.Common.{◌≡◌, ◌⊎◌, ℕ, zero, suc, ◌-◌, ◌^◌, ◌<◌, ◌≤◌, true, false, List, [], ◌∷◌, ◌++◌, length, take, Option, None, Some, IfSome, is_some, Result, Ok, Err, slice_get, leb, refl, sym, ap, subst, arith, inl, inr, ◌*◌, ◌∙◌, ◌≢◌}
+use Rattle.std.proofs.Common.{◌≡◌, ◌⊎◌, ℕ, zero, suc, ◌-◌, ◌<◌, true, false, List, [], ◌∷◌, ◌++◌, length, Option, None, Some, IfSome, is_some, Result, Ok, Err, slice_get, leb, refl, sym, subst, arith, inl, inr, ◌*◌, ◌∙◌, ◌≢◌}
 use Rattle.std.proofs.lemmas.Bool.Decides.{leb_tells}
-use Rattle.std.proofs.lemmas.Option.{none-some, same_Some, slice_get_within}
+use Rattle.std.proofs.lemmas.Option.{none-some, same_Some}
 use Rattle.std.specs.Bool.{⊤}
 use Rattle.b3tree.specs.declared.mode.Mode.{Mode}
 use Rattle.b3tree.specs.declared.values.Hash.{Hash}
 use Rattle.bao_files.specs.declared.fault.FileFault.{FileFault}
 use Rattle.bao_files.specs.declared.fault.FileFault.TheVariants as file
-use Rattle.bao_files.specs.Disks.{FileState, Unknown, Absent, Stored, Opens}
+use Rattle.bao_files.specs.Disks.{FileState}
 use Rattle.bao_text.specs.Choice.{chunk_count}
 use Rattle.bao_text.specs.Texts.{combined_text}
 use Rattle.gather.specs.declared.fault.GatherFault.{GatherFault}
-use Rattle.gather.specs.declared.fault.GatherFault.TheVariants.{Store, Capacity, TooLarge, Seat, Unfinished, NotTheRoot, Memory, Starved}
+use Rattle.gather.specs.declared.fault.GatherFault.TheVariants.{TooLarge, Unfinished, NotTheRoot, Memory}
 use Rattle.gather.specs.declared.form.Form.{Form}
 use Rattle.gather.specs.declared.form.Form.TheVariants.{Slices, Bare}
 use Rattle.gather.specs.Forms.{AreSlices, IsLengthOf}
@@ -26,28 +26,12 @@ use Rattle.store_core.specs.declared.fixed.Fixed.{Fixed}
 use Rattle.store_core.specs.declared.history.Piece.{Piece}
 use Rattle.store_core.specs.Laws.{IsBlob}
 use Rattle.bao_tasks.specs.declared.gathered_fault.GatheredFault.{GatheredFault}
-use Rattle.bao_tasks.specs.declared.gathered_fault.GatheredFault.TheVariants.{File, Gather, Outboard}
+use Rattle.bao_tasks.specs.declared.gathered_fault.GatheredFault.TheVariants.{File, Gather}
 use Rattle.bao_tasks.specs.declared.gathering.Gathering.{Gathering}
-use Rattle.bao_tasks.specs.Gathered.{IsWrittenOut}
 use Rattle.bao_tasks.specs.Givens.{most_bytes}
 use Rattle.gather.proofs.Binding.{pair_wider}
-use Rattle.bao_tasks.specs.FromFiles.{IsExcusedFile, IsExcusedGathering, IsFromFile, IsPutAt, IsTextOf, file_bytes, never_fails, taken_bytes}
-use Rattle.bao_tasks.specs.TakenFiles.{AreOfFiles, Follows, HasSound, IsDrafted, IsOfFile, IsOfWriting, IsRightDraft, IsTried, is_open, open_fault}
-
--- a file that was opened has the bytes that are taken of it
-pub opened_whole : (state : FileState) (contents remaining : Option (List ℕ)) → Opens state contents remaining → IfSome (taken_bytes true 0 state) (λ bytes. contents ≡ Some bytes)
-opened_whole Unknown contents remaining opens = tt
-opened_whole Absent contents remaining opens = absurd opens
-opened_whole (Stored s) contents remaining opens = opens.0
-
--- so has the text of the first ones
-pub opened_part : (state : FileState) (contents remaining : Option (List ℕ)) (most : ℕ) (text : List ℕ) → Opens state contents remaining
-    → IfSome remaining (λ left. text ≡ take most left) → IfSome (taken_bytes false most state) (λ bytes. Some text ≡ Some bytes)
-opened_part Unknown contents remaining most text opens read = tt
-opened_part Absent contents remaining most text opens read = absurd opens
-opened_part (Stored s) contents remaining most text opens read =
-    let is : text ≡ take most s = subst (λ (r : Option (List ℕ)). IfSome r (λ left. text ≡ take most left)) opens.1 read in
-    ap (λ (xs : List ℕ). Some xs) is
+use Rattle.bao_tasks.specs.FromFiles.{IsExcusedFile, IsExcusedGathering, IsFromFile, IsPutAt, IsTextOf, file_bytes, never_fails}
+use Rattle.bao_tasks.specs.TakenFiles.{AreOfFiles, Follows, HasSound, IsDrafted, IsOfFile, IsRightDraft, IsTried, is_open, open_fault}
 
 -- what is there in a list is there where more follows
 pub still_there : {A : Type 0} (xs ys : List A) (i : ℕ) (x : A) → slice_get xs i ≡ Some x → slice_get (xs ++ ys) i ≡ Some x
@@ -183,39 +167,6 @@ pub by_text : (X : Type 0) (form : Form) (fixed : Fixed) (blob text : List ℕ) 
 by_text X Slices fixed blob text is slices copies = slices tt is
 by_text X (Bare outline) fixed blob text is slices copies = copies is.0 is.1
 
--- a fault after which no other file helps isn't one of the files, or no blob has the root
-pub excused_closed : (P : Type 0) (fault : GatheredFault) → IsOfWriting fault → (fault ≡ Gather NotTheRoot → P) → open_fault (Err fault) ≡ None → IsExcusedGathering fault ⊎ P
-excused_closed P (File fault) writing none closed = inl writing
-excused_closed P (Outboard fault) writing none closed = absurd writing
-excused_closed P (Gather Store) writing none closed = inl tt
-excused_closed P (Gather Capacity) writing none closed = inl tt
-excused_closed P (Gather TooLarge) writing none closed = absurd (none-some TooLarge (sym closed))
-excused_closed P (Gather Seat) writing none closed = inl tt
-excused_closed P (Gather Unfinished) writing none closed = absurd (none-some Unfinished (sym closed))
-excused_closed P (Gather NotTheRoot) writing none closed = inr (none refl)
-excused_closed P (Gather Memory) writing none closed = inl tt
-excused_closed P (Gather Starved) writing none closed = absurd (none-some Starved (sym closed))
-
--- a fault after which another may help, where a source has the blob, is that there was no memory
-pub open_starved : (handed : Piece → Type 0) (fixed : Fixed) (how : Gathering) (blob : List ℕ) (old new : Option (List ℕ)) (result : Result ℕ GatheredFault) (fault : GatherFault)
-    → IsWrittenOut handed fixed how blob old new result → open_fault result ≡ Some fault → (fault ≡ Starved) ⊎ HasCollision handed fixed blob
-open_starved handed fixed how blob old new result fault (inr pair) left = inr pair
-open_starved handed fixed how blob old new (Ok count) fault (inl out) left = absurd (none-some fault left)
-open_starved handed fixed how blob old new (Err (File cause)) fault (inl out) left = absurd (none-some fault left)
-open_starved handed fixed how blob old new (Err (Outboard cause)) fault (inl out) left = absurd out
-open_starved handed fixed how blob old new (Err (Gather Store)) fault (inl out) left = absurd (none-some fault left)
-open_starved handed fixed how blob old new (Err (Gather Capacity)) fault (inl out) left = absurd (none-some fault left)
-open_starved handed fixed how blob old new (Err (Gather TooLarge)) fault (inl out) left = absurd out
-open_starved handed fixed how blob old new (Err (Gather Seat)) fault (inl out) left = absurd (none-some fault left)
-open_starved handed fixed how blob old new (Err (Gather Unfinished)) fault (inl out) left = absurd out
-open_starved handed fixed how blob old new (Err (Gather NotTheRoot)) fault (inl out) left = absurd out
-open_starved handed fixed how blob old new (Err (Gather Memory)) fault (inl out) left = absurd (none-some fault left)
-open_starved handed fixed how blob old new (Err (Gather Starved)) fault (inl out) left = inl (sym (same_Some Starved fault left))
-
--- a length of 64 bits is of no more chunks than a number of 64 bits
-pub few_chunks : (n : ℕ) → n < 2 ^ 64 → chunk_count n ≤ 2 ^ 64 - 1
-few_chunks n below = omega arith
-
 -- a try that made a draft made one with the blob's text, or a collision is exhibited
 pub drafted_of : {T : Type 0} (contents : T → Option (List ℕ)) (how : Gathering) (mode : Mode) (blob : List ℕ) (P Q : Type 0) (result : Result (Option (ℕ × T)) GatheredFault)
     (found : Option (ℕ × T)) (made : ℕ × T) → IsTried contents how mode blob result ⊎ Q → (Q → P) → result ≡ Ok found → found ≡ Some made → IsDrafted contents how mode blob (Ok made) ⊎ P
@@ -238,19 +189,10 @@ excused_end A A' H H' M M' E P (inr h) first hungry kept second excused = elim (
   | inr p ↦ inr p
 ]
 
--- the fault that is left, if one is, is that there was no memory
-pub starved_left : (P : Type 0) (met : Option GatherFault) → is_some met ≡ true → ((fault : GatherFault) → met ≡ Some fault → (fault ≡ Starved) ⊎ P) → (met ≡ Some Starved) ⊎ P
-starved_left P None is each = cc
-starved_left P (Some fault) is each = elim (each fault refl) [ inl same ↦ inl (ap (λ (f : GatherFault). Some f) same) | inr p ↦ inr p ]
-
 -- none is left
 pub none_left : (met : Option GatherFault) → is_some met ≡ false → met ≡ None
 none_left None is = refl
 none_left (Some fault) is = cc
-
--- one that has a source isn't empty
-pub some_sources : {S : Type 0} (contents : S → Option (List ℕ)) (faultless : S → Type 0) (sources : List S) (bytes : List ℕ) → HasSound contents faultless sources bytes → 0 < length sources
-some_sources contents faultless sources bytes has = omega (arith, slice_get_within sources has.place has.source has.there)
 
 -- one answer for another that is the same
 pub same_ok : {T E : Type 0} (r : Result T E) (x y : T) → r ≡ Ok x → x ≡ y → r ≡ Ok y
@@ -289,34 +231,6 @@ above_room m n past = elim (leb_tells n (1024 * m)) [
 pub long_as : (handed : Piece → Type 0) (root : Hash) (mode : Mode) (m : ℕ) → AreLonger handed (fixed_as root mode m) → AreTooLong handed (fixed_as root mode m) m
 long_as handed root mode m longer blob is =
     elim (longer blob is) [ inl above ↦ inl (more_chunks m (length blob) (above_room m (length blob) above)) | inr pair ↦ inr pair ]
-
--- what another file may help with is a fault of gathering
-pub open_is : (result : Result ℕ GatheredFault) (fault : GatherFault) → open_fault result ≡ Some fault → result ≡ Err (Gather fault)
-open_is (Ok count) fault is = absurd (none-some fault is)
-open_is (Err (File cause)) fault is = absurd (none-some fault is)
-open_is (Err (Outboard cause)) fault is = absurd (none-some fault is)
-open_is (Err (Gather Store)) fault is = absurd (none-some fault is)
-open_is (Err (Gather Capacity)) fault is = absurd (none-some fault is)
-open_is (Err (Gather TooLarge)) fault is = ap (λ (f : GatherFault). Err (Gather f)) (same_Some TooLarge fault is)
-open_is (Err (Gather Seat)) fault is = absurd (none-some fault is)
-open_is (Err (Gather Unfinished)) fault is = ap (λ (f : GatherFault). Err (Gather f)) (same_Some Unfinished fault is)
-open_is (Err (Gather NotTheRoot)) fault is = absurd (none-some fault is)
-open_is (Err (Gather Memory)) fault is = absurd (none-some fault is)
-open_is (Err (Gather Starved)) fault is = ap (λ (f : GatherFault). Err (Gather f)) (same_Some Starved fault is)
-
--- and is such a one
-pub open_helps : (result : Result ℕ GatheredFault) → IfSome (open_fault result) (λ fault. is_open fault ≡ true)
-open_helps (Ok count) = tt
-open_helps (Err (File cause)) = tt
-open_helps (Err (Outboard cause)) = tt
-open_helps (Err (Gather Store)) = tt
-open_helps (Err (Gather Capacity)) = tt
-open_helps (Err (Gather TooLarge)) = refl
-open_helps (Err (Gather Seat)) = tt
-open_helps (Err (Gather Unfinished)) = refl
-open_helps (Err (Gather NotTheRoot)) = tt
-open_helps (Err (Gather Memory)) = tt
-open_helps (Err (Gather Starved)) = refl
 
 -- a try that made a draft is right of the blob
 pub right_draft : {T : Type 0} (contents : T → Option (List ℕ)) (how : Gathering) (mode : Mode) (blob : List ℕ) (P : Type 0) (result : Result (ℕ × T) GatheredFault)

@@ -1,55 +1,17 @@
 -- Gaps, one after another.
-use Rattle.std.proofs.Common.{◌≡◌, ◌⊎◌, ℕ, ◌+◌, ◌-◌, ◌*◌, ◌<◌, ◌≤◌, min, Bool, true, false, List, [], ◌∷◌, ◌++◌, length, map, take, Option, Some, slice_get, append-nil, append_assoc, inl, inr, sym, ap, subst, ◌∙◌, arith}
+use Rattle.std.proofs.Common.{◌≡◌, ℕ, ◌+◌, ◌-◌, ◌<◌, ◌≤◌, Bool, true, false, List, [], ◌∷◌, ◌++◌, map, Option, Some, slice_get, append-nil, append_assoc, inl, inr, sym, ap, subst, ◌∙◌, arith}
 use Rattle.std.proofs.lemmas.Bool.{cases_lt}
-use Rattle.std.proofs.lemmas.List.{length-take, length_push, take-append-le, take_all}
-use Rattle.std.proofs.lemmas.List.Sums.{sum_by_push}
 use Rattle.gather.specs.declared.grain.Grain.{Grain}
 use Rattle.gather.specs.declared.grain.Grain.TheVariants.{Group, Chunk}
 use Rattle.bao_windows.specs.declared.wanted.Wanted.{Wanted}
 use Rattle.bao_tasks.specs.Worth.{IsSaidOf}
 use Rattle.bao_tasks.specs.declared.missing.MissingParts.{MissingParts}
-use Rattle.bao_tasks.specs.declared.missing.Span.{Span}
-use Rattle.bao_tasks.specs.Missing.{AreGaps, AreParts, GoesUpTo, HasUnit, IsNextGap, JudgesUnit, Tells, place_of, span_len, span_of, unit_chunks, units_in}
+use Rattle.bao_tasks.specs.Missing.{AreGaps, AreParts, GoesUpTo, HasUnit, IsNextGap, JudgesUnit, Tells, place_of, span_of, units_in}
 
 -- a unit that comes later begins no earlier
 pub place_order : (grain : Grain) (total a b : ℕ) → a ≤ b → place_of grain total a ≤ place_of grain total b
 place_order Group total a b below = omega (arith, below)
 place_order Chunk total a b below = omega (arith, below)
-
--- a unit of a blob begins within it, or is the first
-pub unit_begins : (grain : Grain) (total u : ℕ) → u < units_in grain total → (1024 * (unit_chunks grain * u) < total) ⊎ (u ≡ 0)
-unit_begins Group total u below = elim (cases_lt 0 u) [
-  | inl later ↦ inl (omega (arith, below, later))
-  | inr first ↦ inr (omega (arith, first))
-]
-unit_begins Chunk total u below = elim (cases_lt 0 u) [
-  | inl later ↦ inl (omega (arith, below, later))
-  | inr first ↦ inr (omega (arith, first))
-]
-
--- what is shown, where there is room for one more, and where there is none
-pub shown_more : (most : ℕ) (spans : List Span) (part : Span) (shown : List Span) → shown ≡ take most spans → length shown < most
-    → shown ++ part ∷ [] ≡ take most (spans ++ part ∷ [])
-shown_more most spans part shown is room =
-    let size : length shown ≡ min most (length spans) = ap (λ (s : List Span). length s) is ∙ length-take most spans in
-    let short : length spans < most = omega (arith, size, room) in
-    let one : length (spans ++ part ∷ []) ≡ length spans + 1 = length_push spans part in
-    ap (λ (s : List Span). s ++ part ∷ []) (is ∙ take_all most spans (omega (arith, short))) ∙ sym (take_all most (spans ++ part ∷ []) (omega (arith, one, short)))
-
-pub shown_same : (most : ℕ) (spans : List Span) (part : Span) (shown : List Span) → shown ≡ take most spans → most ≤ length shown
-    → shown ≡ take most (spans ++ part ∷ [])
-shown_same most spans part shown is full =
-    let size : length shown ≡ min most (length spans) = ap (λ (s : List Span). length s) is ∙ length-take most spans in
-    is ∙ sym (take-append-le most spans (part ∷ []) (omega (arith, size, full)))
-
--- one part more is told
-pub tells_more : (most : ℕ) (old new : MissingParts) (part : Span) → ((spans : List Span) → old.shown.items ≡ take most spans → new.shown.items ≡ take most (spans ++ part ∷ []))
-    → new.count ≡ old.count + 1 → new.bytes ≡ old.bytes + span_len part → (spans : List Span) → Tells most old spans → Tells most new (spans ++ part ∷ [])
-tells_more most old new part shown count bytes spans p = record {
-  shown = shown spans p.shown;
-  count = count ∙ ap (λ (n : ℕ). n + 1) p.count ∙ sym (length_push spans part);
-  bytes = bytes ∙ ap (λ (n : ℕ). n + span_len part) p.bytes ∙ sym (sum_by_push span_len spans part);
-}
 
 -- what is told of a gap more, where what was told before ends no later than the gap begins
 pub bytes_more : (grain : Grain) (total from first end bytes : ℕ) → bytes ≤ place_of grain total from → from ≤ first → first ≤ end

@@ -1,5 +1,5 @@
 -- What is made of what sources give, in the one form and in the other.
-use Rattle.std.proofs.Common.{◌≡◌, ◌⊎◌, ℕ, ◌+◌, ◌-◌, ◌*◌, ◌/◌, ◌%◌, ◌^◌, ◌<◌, ◌≤◌, min, List, length, Option, Some, slice_get, ◌∙◌, sym, ap, subst, arith, inl, inr, refl}
+use Rattle.std.proofs.Common.{◌≡◌, ℕ, ◌+◌, ◌-◌, ◌*◌, ◌/◌, ◌%◌, ◌^◌, ◌<◌, ◌≤◌, min, List, length, Option, Some, slice_get, ◌∙◌, sym, ap, subst, arith, inl, inr, refl}
 use Rattle.b3tree.specs.declared.mode.Mode.{Mode}
 use Rattle.b3tree.specs.Pieces.{piece as part}
 use Rattle.b3tree.specs.Valid.{AreBytes, IsKeyed}
@@ -19,11 +19,10 @@ use Rattle.gather.specs.Forms.{AreSlices, IsLengthOf}
 use Rattle.gather.specs.Lists.{IsFromSource, part_gives, source_gives}
 use Rattle.gather.specs.Places.{IsCutAt, IsPartAt}
 use Rattle.store_core.specs.declared.history.Piece.{Piece}
-use Rattle.store_core.specs.Pieces.{EndsBlob}
 use Rattle.bao_windows.proofs.Owning.{own_makes}
 use Rattle.bao_windows.proofs.Served.{the_slice}
 use Rattle.bao_windows.specs.declared.wanted.Wanted.{Wanted}
-use Rattle.bao_windows.specs.Available.{GaveEnd, HasNot, HasRefused, IsAcceptedAs, IsFitting, IsOfRoot, IsWithin, end_span, end_start, gives_in, slice_in, slice_piece, span_in}
+use Rattle.bao_windows.specs.Available.{GaveEnd, HasNot, HasRefused, IsFitting, IsOfRoot, IsWithin, end_span, end_start, gives_in, slice_in, slice_piece, span_in}
 use Rattle.bao_windows.specs.Copies.{HasPart, HaveCopies, IsOwn, IsOwnOutline, IsPartBy}
 use Rattle.bao_windows.specs.Windows.{IsBeside}
 

@@ -1,5 +1,5 @@
 -- Bytes of a blob that are known at places, one after another.
-use Rattle.std.proofs.Common.{◌≡◌, ◌⊎◌, ℕ, ◌+◌, ◌-◌, ◌*◌, ◌<◌, ◌≤◌, nat_lt, List, [], ◌++◌, length, take, drop, get_or, Some, slice_get, slice_index, ◌∙◌, sym, ap, subst, arith, inl, inr, refl, append-nil, append_assoc, min, ◌%◌, length-append, length-drop, length-take, length-take-le}
+use Rattle.std.proofs.Common.{◌≡◌, ◌⊎◌, ℕ, ◌+◌, ◌-◌, ◌*◌, ◌<◌, ◌≤◌, nat_lt, List, ◌++◌, length, take, drop, get_or, Some, slice_get, slice_index, ◌∙◌, sym, ap, subst, arith, inl, inr, refl, append_assoc, min, ◌%◌, length-append, length-drop, length-take, length-take-le}
 use Rattle.std.proofs.lemmas.Bool.{cases_order}
 use Rattle.std.proofs.lemmas.List.{get_or-drop, get_or-take, get_or_append_left, get_or-append_right}
 use Rattle.std.proofs.lemmas.Option.{cond_some, slice_get-get_or}
@@ -78,9 +78,6 @@ both_at handed fixed at xs ys first second blob is = both blob (HasCollision han
 
 pub first_at : (handed : Piece → Type 0) (fixed : Fixed) (at n : ℕ) (bytes : List ℕ) → n ≤ length bytes → AreBytesAt handed fixed at bytes → AreBytesAt handed fixed at (take n bytes)
 first_at handed fixed at n bytes within each blob is = first_of blob (HasCollision handed fixed blob) at n bytes within (each blob is)
-
-pub adds_none : (handed : Piece → Type 0) (fixed : Fixed) (at : ℕ) (old : List ℕ) → Adds handed fixed at 0 old old
-adds_none handed fixed at old = record { bytes = []; is = sym (append-nil old); size = refl; each = none_at handed fixed at [] refl }
 
 -- and more follow
 pub adds_more : (handed : Piece → Type 0) (fixed : Fixed) (at m n : ℕ) (old mid new : List ℕ) → Adds handed fixed at m old mid → Adds handed fixed (at + m) n mid new

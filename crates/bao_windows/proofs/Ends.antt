@@ -7,7 +7,7 @@ use Rattle.gather.specs.Places.{IsLost, OfBytes}
 use Rattle.store_core.specs.declared.history.Piece.{Piece}
 use Rattle.store_core.specs.Pieces.{EndsBlob, length_of}
 use Rattle.bao_windows.specs.declared.wanted.Wanted.{Wanted}
-use Rattle.bao_windows.specs.Available.{AreSound, CertifiesEnd, HasNoEnd, IsAcceptedAs, IsEndOf, IsFirstEnd, RefusesEnd, end_span, end_start, gives_in, slice_in}
+use Rattle.bao_windows.specs.Available.{AreSound, CertifiesEnd, HasNoEnd, IsAcceptedAs, IsFirstEnd, RefusesEnd, end_span, end_start, gives_in, slice_in}
 
 of_known : (contents : Option (List ℕ)) (P : List ℕ → Type 0) (bytes : List ℕ) → contents ≡ Some bytes → length bytes < 2 ^ 64 → OfBytes contents P → P bytes
 of_known None P bytes is few given = cc

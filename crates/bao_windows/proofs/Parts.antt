@@ -32,10 +32,6 @@ pub if_ok : {T E : Type 0} (r : Result T E) (P Q : T → Type 0) → ((x : T) �
 if_ok (Ok x) P Q f p = f x p
 if_ok (Err e) P Q f p = tt
 
-pub all_ok : {T E : Type 0} (r : Result T E) (P : T → Type 0) → ((x : T) → P x) → IfOk r P
-all_ok (Ok x) P f = f x
-all_ok (Err e) P f = tt
-
 -- a checked piece, and what it carries
 pub sound_of : (piece : Checked) (mode : Mode) (root : Hash) (start len : ℕ) (text : List ℕ) → IsPiece piece mode root.0 start len text → AreBytes (piece_text piece)
     → IsAccepted (piece_mode piece) (piece_root piece) (piece_text piece) (piece_nodes piece) → IsSound piece mode root

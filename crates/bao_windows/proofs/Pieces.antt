@@ -1,5 +1,5 @@
 -- Bytes that are taken from checked pieces.
-use Rattle.std.proofs.Common.{◌≡◌, ◌⊎◌, ℕ, ◌+◌, ◌-◌, ◌*◌, ◌/◌, ◌%◌, ◌<◌, min, Bool, true, false, List, [], ◌++◌, length, None, Some, slice_get, ◌∙◌, sym, ap, subst, arith, inl, inr, refl, append-nil, append_assoc, length-append}
+use Rattle.std.proofs.Common.{◌≡◌, ◌⊎◌, ℕ, ◌+◌, ◌-◌, ◌*◌, ◌/◌, ◌%◌, ◌<◌, min, Bool, true, false, List, ◌++◌, length, None, Some, slice_get, ◌∙◌, sym, ap, subst, arith, inl, inr, refl, append_assoc, length-append}
 use Rattle.b3tree.specs.declared.mode.Mode.{Mode}
 use Rattle.b3tree.specs.declared.values.Hash.{Hash}
 use Rattle.b3tree.specs.Hashing.{hash}
@@ -33,9 +33,6 @@ of_chunk piece at c bytes same binds blob valid is i below = elim (binds blob va
   | inl here ↦ inl (ap (λ (q : ℕ). slice_get blob (q + i)) same ∙ chunk_byte blob bytes c i here.0 below)
   | inr named ↦ inr named
 ]
-
-pub adds_none_of : (piece : Checked) (at : ℕ) (old : List ℕ) → AddsOf piece at 0 old old
-adds_none_of piece at old = record { bytes = []; is = sym (append-nil old); size = refl; each = λ blob valid is i less. absurd (omega (arith, less)) }
 
 -- and more follow
 pub adds_more_of : (piece : Checked) (at m n : ℕ) (old mid new bytes : List ℕ) → AddsOf piece at m old mid → new ≡ mid ++ bytes → length bytes ≡ n → AreOfPiece piece (at + m) bytes

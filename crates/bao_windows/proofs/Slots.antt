@@ -1,7 +1,7 @@
 -- The bytes of a window's slots.
-use Rattle.std.proofs.Common.{◌≡◌, ℕ, ◌+◌, ◌-◌, ◌*◌, ◌<◌, ◌≤◌, min, suc, List, [], ◌∷◌, ◌++◌, length, take, take_at, drop, get_or, slice_index_or, ◌∙◌, sym, ap, subst, arith, inl, inr, refl, Option, None, Some, IfErr, IfSome, OnOk, Result, Ok, Err, append-nil, length-append, ◌⊎◌}
+use Rattle.std.proofs.Common.{◌≡◌, ℕ, ◌+◌, ◌-◌, ◌*◌, ◌<◌, ◌≤◌, min, suc, List, [], ◌∷◌, ◌++◌, length, take, take_at, drop, get_or, slice_index_or, ◌∙◌, sym, ap, subst, arith, inl, inr, refl, Option, None, Some, IfErr, IfSome, OnOk, Result, Ok, Err, length-append, ◌⊎◌}
 use Rattle.std.proofs.lemmas.Grind.{flat_map-append}
-use Rattle.std.proofs.lemmas.List.{drop_more, take-append-drop, take_more}
+use Rattle.std.proofs.lemmas.List.{drop_more, take-append-drop}
 use Rattle.gather.specs.declared.fault.GatherFault.{GatherFault}
 use Rattle.gather.specs.declared.fault.GatherFault.TheVariants.{Starved, Unfinished}
 use Rattle.store_core.specs.declared.fixed.Fixed.{Fixed}
@@ -44,12 +44,6 @@ parted_at window i slot within is =
     ap window_bytes (sym (take-append-drop i window))
     ∙ flat_map-append (λ (s : Slot). s.bytes.items) (take i window) (drop i window)
     ∙ ap (λ (ss : List Slot). window_bytes (take i window) ++ window_bytes ss) rest
-
--- those before a slot, and its own
-pub with_next : (window : List Slot) (i : ℕ) (slot : Slot) → i < length window → slot ≡ get_or window i slot → window_bytes (take (i + 1) window) ≡ window_bytes (take i window) ++ slot.bytes.items
-with_next window i slot within is =
-    ap window_bytes (take_more window i slot within ∙ ap (λ (s : Slot). take i window ++ s ∷ []) (sym is))
-    ∙ (flat_map-append (λ (s : Slot). s.bytes.items) (take i window) (slot ∷ []) ∙ ap (λ (xs : List ℕ). window_bytes (take i window) ++ xs) (append-nil slot.bytes.items))
 
 -- what is so of all slots without a fault
 pub none_faulty : (window : List Slot) (P : ℕ → Slot → Type 0) → ((i : ℕ) (d : Slot) → i < length window → (slice_index_or window i d).fault ≡ None)

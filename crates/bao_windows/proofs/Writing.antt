@@ -1,5 +1,5 @@
 -- Parts of a blob that are written one after another.
-use Rattle.std.proofs.Common.{◌≡◌, ℕ, ◌+◌, ◌-◌, ◌*◌, ◌^◌, ◌<◌, ◌≤◌, min, List, [], ◌++◌, length, take, take_at, IsErr, Result, Err, Option, ◌∙◌, sym, ap, subst, arith, refl, append_assoc, append-nil, length-append}
+use Rattle.std.proofs.Common.{◌≡◌, ℕ, ◌+◌, ◌-◌, ◌^◌, ◌<◌, ◌≤◌, List, [], ◌++◌, length, take, take_at, IsErr, Result, Err, Option, ◌∙◌, sym, ap, subst, arith, refl, append_assoc, append-nil, length-append}
 use Rattle.std.proofs.KnownBytes.{Appends-kept, Appends-nil, Appends-trans}
 use Rattle.std.specs.Io.KnownBytes.{Appends}
 use Rattle.std.proofs.Math.Seq.{take-append-add}
@@ -12,10 +12,9 @@ use Rattle.b3tree.specs.declared.mode.Mode.{Mode}
 use Rattle.b3tree.specs.Taken.{Holds}
 use Rattle.store_core.specs.declared.fixed.Fixed.{Fixed}
 use Rattle.store_core.specs.declared.history.Piece.{Piece}
-use Rattle.bao_windows.proofs.Bytes.{both_at, first_at, none_at}
-use Rattle.bao_windows.specs.declared.window.Slot.{Slot}
-use Rattle.bao_windows.specs.Windows.{AreBytesAt, AreOfWindow, window_bytes}
-use Rattle.bao_windows.specs.Written.{HasRoomFor, IsBegun, TookIn, WroteBeginning, WroteOf}
+use Rattle.bao_windows.proofs.Bytes.{both_at, none_at}
+use Rattle.bao_windows.specs.Windows.{AreBytesAt}
+use Rattle.bao_windows.specs.Written.{HasRoomFor, IsBegun, WroteBeginning, WroteOf}
 
 pub nothing : (handed : Piece → Type 0) (fixed : Fixed) (at : ℕ) (out : Option (List ℕ)) (hasher : Hasher) → WroteOf handed fixed at 0 out out hasher hasher
 nothing handed fixed at out hasher = (
@@ -58,10 +57,6 @@ begun_more handed fixed at m a b c h i first second =
     let next : AreBytesAt handed fixed (at + length xs) second.0 = subst (λ (k : ℕ). AreBytesAt handed fixed (at + k) second.0) (sym first.1) second.1 in
     (xs ++ second.0, both_at handed fixed at xs second.0 first.2.each next, Appends-trans a b c xs second.0 first.2.wrote second.2)
 
--- of known bytes a writer took a beginning
-pub begun_of : (handed : Piece → Type 0) (fixed : Fixed) (at : ℕ) (bytes : List ℕ) (a b : Option (List ℕ)) → AreBytesAt handed fixed at bytes → WroteBeginning a b bytes → IsBegun handed fixed at a b
-begun_of handed fixed at bytes a b each wrote = (take wrote.0 bytes, first_at handed fixed at wrote.0 bytes wrote.1 each, wrote.2)
-
 -- the hasher that has taken in what was written has room for what is left
 pub room_left : (handed : Piece → Type 0) (fixed : Fixed) (at rest : ℕ) (a b : Option (List ℕ)) (h i : Hasher) (mode : Mode) → Holds h mode [] → WroteOf handed fixed 0 at a b h i → at + rest < 2 ^ 64
     → HasRoomFor i rest
@@ -71,20 +66,10 @@ room_left handed fixed at rest a b h i mode holds wrote fits =
 pub fewer : (hasher : Hasher) (m n : ℕ) → HasRoomFor hasher m → n ≤ m → HasRoomFor hasher n
 fewer hasher m n room less = record { mode = room.mode; taken = room.taken; holds = room.holds; fits = omega (arith, room.fits, less) }
 
--- more was taken in
-pub took_more : (h i j : Hasher) (done bytes : List ℕ) → TookIn h i done → ((mode : Mode) (s : List ℕ) → Holds i mode s → Holds j mode (s ++ bytes)) → TookIn h j (done ++ bytes)
-took_more h i j done bytes first then mode s holds = subst (λ (t : List ℕ). Holds j mode t) (append_assoc s done bytes) (then mode (s ++ done) (first mode s holds))
-
 -- and none of it was too long
 pub never_long : (s done bytes rest all : List ℕ) → length s + length all < 2 ^ 64 → all ≡ done ++ (bytes ++ rest) → 2 ^ 64 - 1 < length (s ++ done) + length bytes → ⊥
 never_long s done bytes rest all fits is long =
     omega (arith, fits, long, ap (λ (xs : List ℕ). length xs) is, length-append done (bytes ++ rest), length-append bytes rest, length-append s done)
-
--- a window that was put
-pub put_wrote : (handed : Piece → Type 0) (fixed : Fixed) (at total end : ℕ) (window : List Slot) (a b : Option (List ℕ)) (h i : Hasher) → end ≡ at + min (65536 * length window) (total - at)
-    → AreOfWindow handed fixed at total window → TookIn h i (window_bytes window) → Appends a b (window_bytes window) → WroteOf handed fixed at (end - at) a b h i
-put_wrote handed fixed at total end window a b h i is whole took wrote =
-    (window_bytes window, omega (arith, whole.size, is), record { each = whole.each; wrote = wrote; took = took })
 
 -- of a part of them a writer took a beginning
 pub part_written : (old mid new : Option (List ℕ)) (done bytes rest all : List ℕ) (fault : WriteFault) → all ≡ done ++ (bytes ++ rest) → Appends old mid done → WroteOnly mid new bytes fault

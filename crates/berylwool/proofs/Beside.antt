@@ -127,14 +127,7 @@ parents_are text start len head new is_head is =
     is ∙ ap (λ (xs : List ℕ). xs ++ bytes) is_head
     ∙ ap (λ (xs : List ℕ). take 8 text ++ xs) (sym (append-nil bytes) ∙ ap (λ (xs : List ℕ). bytes ++ xs) (sym rest))
 
--- what is so of an outline is so of what it is kept as
-pub kept_as : (P : Mode → List ℕ → List ℕ → Type 0) (outline : Outline) (mode : Mode) (root text : List ℕ) → IsOutline outline mode root text
-    → P (outline_mode outline) (outline_root outline) (outline_text outline) → P mode root text
-kept_as P outline mode root text is it =
-    subst (λ (s : List ℕ). P mode root s) is.text_is
-    (subst (λ (r : List ℕ). P mode r (outline_text outline)) is.root_is (subst (λ (m : Mode). P m (outline_root outline) (outline_text outline)) is.mode_is it))
-
--- and the other way round
+-- what is so of what an outline is kept as is so of the outline
 pub kept_of : (P : Mode → List ℕ → List ℕ → Type 0) (outline : Outline) (mode : Mode) (root text : List ℕ) → IsOutline outline mode root text
     → P mode root text → P (outline_mode outline) (outline_root outline) (outline_text outline)
 kept_of P outline mode root text is it =

@@ -4,12 +4,7 @@ use Rattle.std.specs.Prelude.{IsNone}
 use Rattle.bao_check.specs.declared.checking.Checking.{Checking}
 use Rattle.berylwool.specs.declared.held.Held.{Held}
 use Rattle.berylwool.specs.declared.held.Held.TheVariants.{Feed}
-use Rattle.berylwool.specs.Feeds.{size_told}
 use Rattle.berylwool.specs.Handles.{HasFeed}
-
-pub told_is : (wanted : Option ℕ) → unwrap_or wanted 0 ≡ size_told wanted
-told_is None = refl
-told_is (Some size) = refl
 
 -- it is 0 exactly where nothing is wanted
 pub told_done : (wanted : Option ℕ) (P : Type 0) → IfSome wanted (λ size. (1 ≤ size) × (size ≤ 1024)) → (IsNone wanted ↔ P) → unwrap_or wanted 0 ≡ 0 ↔ P
