@@ -1,8 +1,6 @@
 use crate::bytes::{InPieces, blob};
 use b3tree::{Hasher, Mode};
-use bao_read::{
-    Open, ParFault, ReadFault, combined_source, hash_join, hash_pool, hash_source, outboard_source,
-};
+use bao_read::{Open, combined_source, hash_join, hash_pool, hash_source, outboard_source};
 use std::test::Fail;
 
 // The hash of the bytes i mod 251, 102,400 of them: by `b3sum` 1.2.0.
@@ -25,31 +23,24 @@ const OUTBOARD_HASH: [u8; 32] = [
     0x64, 0x58, 0x8c, 0x19, 0x93, 0x6c, 0x2f, 0x20, 0x38, 0xbd, 0x4d, 0x94, 0x63, 0xba, 0x86, 0x52,
 ];
 
-// Where memory is refused, the pool says so, and a second call has the hash. `hash_join` always has it.
+// Where memory is refused, the pool says so. `hash_join` always has the hash.
 #[test]
 fn hashes_of_bytes(rt: HostRuntime) -> Result<(), Fail> {
     let mode = Mode::hash();
     let bytes = blob(rt.alloc(), 102_400)?;
     let bytes = bytes.as_slice();
     assert_eq!(rt; hash_join(&rt, &mode, bytes, 16).0, HASH);
-    let pooled = match hash_pool(&rt, rt.alloc(), &mode, bytes, 2, &Open) {
-        Err(ParFault::Memory) => hash_pool(&rt, rt.alloc(), &mode, bytes, 2, &Open)?,
-        Ok(pooled) => pooled,
-    };
-    assert_eq!(rt; pooled.0, HASH);
+    assert_eq!(rt; hash_pool(&rt, rt.alloc(), &mode, bytes, 2, &Open)?.0, HASH);
     Ok(())
 }
 
-// The same of what is read by position, by two threads.
+// The same of what is read by position, by two threads. These calls leave nothing behind, so none is made a second time.
 #[test]
 fn hash_of_a_source(rt: HostRuntime) -> Result<(), Fail> {
     let mode = Mode::hash();
     let bytes = blob(rt.alloc(), LONG)?;
     let source = InPieces(bytes.as_slice());
-    let hash = match hash_source(&rt, rt.alloc(), &mode, &source, LONG as u64, 2) {
-        Err(ReadFault::Memory) => hash_source(&rt, rt.alloc(), &mode, &source, LONG as u64, 2)?,
-        hash => hash?,
-    };
+    let hash = hash_source(&rt, rt.alloc(), &mode, &source, LONG as u64, 2)?;
     assert_eq!(rt; hash.0, LONG_HASH);
     Ok(())
 }
@@ -59,10 +50,7 @@ fn outboard_of_a_source(rt: HostRuntime) -> Result<(), Fail> {
     let mode = Mode::hash();
     let bytes = blob(rt.alloc(), 102_400)?;
     let source = InPieces(bytes.as_slice());
-    let (hash, texts) = match outboard_source(&rt, rt.alloc(), &mode, &source, 102_400, 2) {
-        Err(ReadFault::Memory) => outboard_source(&rt, rt.alloc(), &mode, &source, 102_400, 2)?,
-        made => made?,
-    };
+    let (hash, texts) = outboard_source(&rt, rt.alloc(), &mode, &source, 102_400, 2)?;
     assert_eq!(rt; hash.0, HASH);
     let mut hasher = Hasher::new(&mode);
     for text in texts.as_slice() {
@@ -78,12 +66,7 @@ fn combined_of_a_source(rt: HostRuntime) -> Result<(), Fail> {
     let mode = Mode::hash();
     let bytes = blob(rt.alloc(), LONG)?;
     let source = InPieces(bytes.as_slice());
-    let (hash, texts) = match combined_source(&rt, rt.alloc(), &mode, &source, LONG as u64, 2) {
-        Err(ReadFault::Memory) => {
-            combined_source(&rt, rt.alloc(), &mode, &source, LONG as u64, 2)?
-        }
-        made => made?,
-    };
+    let (hash, texts) = combined_source(&rt, rt.alloc(), &mode, &source, LONG as u64, 2)?;
     assert_eq!(rt; hash.0, LONG_HASH);
     let mut len = 0usize;
     for text in texts.as_slice() {
