@@ -1,7 +1,7 @@
 #!/usr/bin/env python3
 """Builds bw-fetch in several ways and runs its tests on each.
 
-    all.py [DRAWN]        DRAWN fetches from drawn mirrors; 10000 where it is left out
+    all.py [DRAWN]        DRAWN fetches from drawn mirrors; 4000 where it is left out
 
 At the top of the repository, after the C library was built. Needs cc and libcurl with its headers. With clang and the sanitizers of cc it does more, and names
 what isn't installed; with BERYLWOOL_CI in the environment nothing of these may be missing. Its last line is 'bw-fetch passed'.
@@ -71,7 +71,7 @@ def compare_manual(program):
         sys.exit(f"all.py: fetch/bw-fetch.1 has the statuses {statuses}")
 
 
-def main(drawn="10000"):
+def main(drawn="4000"):
     OUT.mkdir(parents=True, exist_ok=True)
     sources, missing = sorted((ROOT / "fetch").glob("*.c")), []
     plain = build("cc", "plain", [], sources)
@@ -92,7 +92,7 @@ def main(drawn="10000"):
             continue
         program = build("cc", name, [flag, *NARROW], sources)
         run(sys.executable, HERE / "hostile.py", program, mkbao, *(f"-{it}" for it in (*LARGE, "near ranges")))
-        run(sys.executable, HERE / "drawn.py", program, mkbao, int(drawn) // 25 + 1)
+        run(sys.executable, HERE / "drawn.py", program, mkbao, int(drawn) // 10 + 1)
     for name in missing:
         print(f"not run, since it isn't here: {name}")
     if missing and os.environ.get("BERYLWOOL_CI"):
