@@ -457,7 +457,7 @@ WHY = {
     ratio_name("several threads", COMMITS_ONE, COMMITS_FOUR): "starting four threads takes up to 4 ms, beside 13 of work",
     ratio_name("several threads", ENCODE, HASH_ONE): "more than half of its time is the kernel's, for fresh pages of what is written",
     ratio_name("several threads", READS_ONE, READS_FOUR): "other work beside it; of 64 MiB with nothing else at work 2.63 was measured, and 2.58 of commits",
-    ratio_name("one thread", C_FEED_SMALL, C_HASH_FIRST): "a piece takes 8 turns of the lanes, of which 7.5 would be full, 11 parents one by one, and a copy of its chunks",
+    ratio_name("one thread", C_FEED_SMALL, C_HASH_FIRST): "of 1 MiB, which stays in the processor's cache, 1.29 was measured; a piece has a copy of its chunks, 8 turns of the lanes where 7.5 would be full, and 11 parents one by one, and its lanes wait for memory more than those of the hash",
     "a shared store keeps, MB": "4.2 of it are for parents",
     "a shared store takes at most, MB": "the list of zeros and the table's copy of it",
 }
