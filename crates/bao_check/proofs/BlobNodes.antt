@@ -20,7 +20,8 @@ use Rattle.bao_text.specs.NodeNames.{boundary}
 use Rattle.bao_check.specs.Parents.{find_parent, is_parent_at, parent_of}
 use Rattle.bao_check.specs.Pieces.{chunk_of}
 use Rattle.bao_check.proofs.Lists.{All-append, All-from_members, All-member, Contains-head, Contains-tail}
-use Rattle.bao_check.proofs.Parenting.{IsInside, boundaries_inside, not_parent_at}
+use Rattle.bao_check.proofs.Locating.{IsInside, boundaries_inside}
+use Rattle.bao_check.proofs.Parenting.{not_parent_at}
 use Rattle.bao_check.proofs.Walking.{leaf_nodes, leaf_without}
 
 find_parent-first : (xs ys : List TreeNode) (m : ℕ) (node : TreeNode) → find_parent xs m ≡ Some node → find_parent (xs ++ ys) m ≡ Some node

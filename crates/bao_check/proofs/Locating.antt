@@ -8,6 +8,7 @@ use Rattle.std.proofs.lemmas.Bool.Decides.{eqb_tells}
 use Rattle.b3tree.specs.Tree.{left_len}
 use Rattle.bao_text.specs.declared.choice.Choice.{Choice}
 use Rattle.bao_text.specs.Choice.{chunk_count, wants}
+use Rattle.bao_text.specs.NodeNames.{boundary}
 use Rattle.bao_text.specs.Nodes.{TreeNode, Side, left, placed_nodes, right, size, subtree_nodes, subtree_size}
 use Rattle.bao_text.proofs.SubtreeNodes.{subtree_nodes-parent, subtree_nodes-unwanted}
 use Rattle.bao_text.proofs.SubtreeText.{Parts, left_len-Parts}
@@ -18,23 +19,6 @@ use Rattle.bao_check.proofs.Lists.{All-append, All-from_members, All-member, nod
 use Rattle.bao_check.proofs.Parts.{placed_nodes-All, placed_nodes-parent}
 use Rattle.bao_check.proofs.Walking.{leaf_nodes, leaf_without}
 
--- the nodes' chunk numbers lie in the subtree
-abbrev pub IsWithin : ℕ → ℕ → TreeNode → Type 0
-IsWithin number count node = (number ≤ node.number) × (node.number < number + count)
-
-numbers_small : (choice : Choice) (number n : ℕ) (sides : List Side) (source : ℕ) → n ≤ 1024
-    → AllByRecursion (IsWithin number (chunk_count n)) (subtree_nodes choice number n sides source)
-numbers_small choice number n sides source one =
-    let P : List TreeNode → Type 0 = AllByRecursion (IsWithin number (chunk_count n)) in
-    elim (cases_Bool (wants choice (1024 * number) n)) [
-      | inr skipped ↦ subst P (sym (subtree_nodes-unwanted choice number n sides source skipped)) tt
-      | inl wanted ↦
-          elim (cases_Bool choice.chunks) [
-            | inl there ↦ subst P (sym (leaf_nodes choice number n sides source wanted one there)) ((omega arith, omega arith), tt)
-            | inr gone ↦ subst P (sym (leaf_without choice number n sides source wanted one gone)) tt
-          ]
-    ]
-
 -- the chunks of the two parts
 count_left : (n : ℕ) → 1024 < n → chunk_count (left_len n) ≡ left_len n / 1024
 count_left n more = let parts : Parts n (left_len n) = left_len-Parts n more in omega (arith, parts.whole, parts.some)
@@ -42,13 +26,45 @@ count_left n more = let parts : Parts n (left_len n) = left_len-Parts n more in 
 pub count_parts : (n : ℕ) → 1024 < n → chunk_count n ≡ left_len n / 1024 + chunk_count (n - left_len n)
 count_parts n more = let parts : Parts n (left_len n) = left_len-Parts n more in omega (arith, parts.whole, parts.some, parts.below)
 
-numbers_levels : (levels : ℕ) (choice : Choice) (number n : ℕ) (sides : List Side) (source : ℕ) → n ≤ 1024 * levels + 1024
-    → AllByRecursion (IsWithin number (chunk_count n)) (subtree_nodes choice number n sides source)
-numbers_levels zero choice number n sides source hn = numbers_small choice number n sides source (omega arith)
-numbers_levels (suc levels) choice number n sides source hn = elim (cases_lt 1024 n) [
-  | inr one ↦ numbers_small choice number n sides source one
+-- the nodes' chunk numbers lie in the subtree
+abbrev pub IsWithin : ℕ → ℕ → TreeNode → Type 0
+IsWithin number count node = (number ≤ node.number) × (node.number < number + count)
+
+-- a parent's right part begins within the subtree, and not at its start
+abbrev pub IsInside : ℕ → ℕ → TreeNode → Type 0
+IsInside number count node = node.is_chunk ≡ false → (number < boundary node) × (boundary node < number + count)
+
+abbrev IsAmong : ℕ → ℕ → TreeNode → Type 0
+IsAmong number count node = IsWithin number count node × IsInside number count node
+
+-- so do those of a part
+among_part : (number count part parts : ℕ) → number ≤ part → part + parts ≤ number + count → (nodes : List TreeNode) → AllByRecursion (IsAmong part parts) nodes
+    → AllByRecursion (IsAmong number count) nodes
+among_part number count part parts first last nodes all =
+    All-from_members (IsAmong number count) nodes (λ x h.
+    let w : IsAmong part parts x = All-member (IsAmong part parts) nodes all x h in
+    ((omega (arith, first, w.0.0), omega (arith, last, w.0.1)), (λ parent. let inside = w.1 parent in (omega (arith, first, inside.0), omega (arith, last, inside.1)))))
+
+among_small : (choice : Choice) (number n : ℕ) (sides : List Side) (source : ℕ) → n ≤ 1024
+    → AllByRecursion (IsAmong number (chunk_count n)) (subtree_nodes choice number n sides source)
+among_small choice number n sides source one =
+    let P : List TreeNode → Type 0 = AllByRecursion (IsAmong number (chunk_count n)) in
+    elim (cases_Bool (wants choice (1024 * number) n)) [
+      | inr skipped ↦ subst P (sym (subtree_nodes-unwanted choice number n sides source skipped)) tt
+      | inl wanted ↦
+          elim (cases_Bool choice.chunks) [
+            | inl there ↦ subst P (sym (leaf_nodes choice number n sides source wanted one there)) (((omega arith, omega arith), (λ e. let bad : true ≡ false = e in cc)), tt)
+            | inr gone ↦ subst P (sym (leaf_without choice number n sides source wanted one gone)) tt
+          ]
+    ]
+
+among_levels : (levels : ℕ) (choice : Choice) (number n : ℕ) (sides : List Side) (source : ℕ) → n ≤ 1024 * levels + 1024
+    → AllByRecursion (IsAmong number (chunk_count n)) (subtree_nodes choice number n sides source)
+among_levels zero choice number n sides source hn = among_small choice number n sides source (omega arith)
+among_levels (suc levels) choice number n sides source hn = elim (cases_lt 1024 n) [
+  | inr one ↦ among_small choice number n sides source one
   | inl more ↦
-      let P : List TreeNode → Type 0 = AllByRecursion (IsWithin number (chunk_count n)) in
+      let P : List TreeNode → Type 0 = AllByRecursion (IsAmong number (chunk_count n)) in
       elim (cases_Bool (wants choice (1024 * number) n)) [
         | inr skipped ↦ subst P (sym (subtree_nodes-unwanted choice number n sides source skipped)) tt
         | inl wanted ↦
@@ -56,25 +72,29 @@ numbers_levels (suc levels) choice number n sides source hn = elim (cases_lt 102
             let parts : Parts n l = left_len-Parts n more in
             let near : List TreeNode = subtree_nodes choice number l (sides ++ left ∷ []) (source + 64) in
             let far : List TreeNode = subtree_nodes choice (number + l / 1024) (n - l) (sides ++ right ∷ []) (source + 64 + subtree_size l) in
-            let in_near = numbers_levels levels choice number l (sides ++ left ∷ []) (source + 64) (omega (arith, parts.whole, parts.below)) in
-            let in_far = numbers_levels levels choice (number + l / 1024) (n - l) (sides ++ right ∷ []) (source + 64 + subtree_size l) (omega (arith, parts.some)) in
+            let in_near = among_levels levels choice number l (sides ++ left ∷ []) (source + 64) (omega (arith, parts.whole, parts.below)) in
+            let in_far = among_levels levels choice (number + l / 1024) (n - l) (sides ++ right ∷ []) (source + 64 + subtree_size l) (omega (arith, parts.some)) in
             let near_count : chunk_count l ≡ l / 1024 = count_left n more in
             let all : chunk_count n ≡ l / 1024 + chunk_count (n - l) = count_parts n more in
-            let some : 0 < chunk_count n = omega arith in
-            let far_some : 0 < chunk_count (n - l) = omega arith in
-            let near_all = All-from_members (IsWithin number (chunk_count n)) near
-            (λ x h. let w : IsWithin number (chunk_count l) x = All-member (IsWithin number (chunk_count l)) near in_near x h in
-            let low : number ≤ x.number = w.0 in let high : x.number < number + chunk_count l = w.1 in (low, omega arith)) in
-            let far_all = All-from_members (IsWithin number (chunk_count n)) far
-            (λ x h. let w : IsWithin (number + l / 1024) (chunk_count (n - l)) x = All-member (IsWithin (number + l / 1024) (chunk_count (n - l))) far in_far x h in
-            let low : number + l / 1024 ≤ x.number = w.0 in let high : x.number < number + l / 1024 + chunk_count (n - l) = w.1 in (omega arith, omega arith)) in
+            let near_all = among_part number (chunk_count n) number (chunk_count l) (omega arith) (omega (arith, near_count, all)) near in_near in
+            let far_all = among_part number (chunk_count n) (number + l / 1024) (chunk_count (n - l)) (omega arith) (omega (arith, all)) far in_far in
             subst P (sym (subtree_nodes-parent choice number n sides source wanted more))
-            ((omega arith, omega arith), All-append (IsWithin number (chunk_count n)) near far near_all far_all)
+            (((omega arith, omega arith), (λ _. (omega (arith, parts.whole, parts.some), omega (arith, all)))), All-append (IsAmong number (chunk_count n)) near far near_all far_all)
       ]
 ]
 
+among : (choice : Choice) (number n : ℕ) (sides : List Side) (source : ℕ) → AllByRecursion (IsAmong number (chunk_count n)) (subtree_nodes choice number n sides source)
+among choice number n sides source = among_levels n choice number n sides source (omega arith)
+
 pub numbers_within : (choice : Choice) (number n : ℕ) (sides : List Side) (source : ℕ) → AllByRecursion (IsWithin number (chunk_count n)) (subtree_nodes choice number n sides source)
-numbers_within choice number n sides source = numbers_levels n choice number n sides source (omega arith)
+numbers_within choice number n sides source =
+    let nodes : List TreeNode = subtree_nodes choice number n sides source in
+    All-from_members (IsWithin number (chunk_count n)) nodes (λ x h. (All-member (IsAmong number (chunk_count n)) nodes (among choice number n sides source) x h).0)
+
+pub boundaries_inside : (choice : Choice) (number n : ℕ) (sides : List Side) (source : ℕ) → AllByRecursion (IsInside number (chunk_count n)) (subtree_nodes choice number n sides source)
+boundaries_inside choice number n sides source =
+    let nodes : List TreeNode = subtree_nodes choice number n sides source in
+    All-from_members (IsInside number (chunk_count n)) nodes (λ x h. (All-member (IsAmong number (chunk_count n)) nodes (among choice number n sides source) x h).1)
 
 -- a chunk that isn't among the places
 not_same : (a b : ℕ) → a ≢ b → (a == b) ≡ false
@@ -89,7 +109,7 @@ same_is a = elim (eqb_tells a a) [
   | inr other ↦ absurd (other.1 refl)
 ]
 
-and_false : (b : Bool) → (b && false) ≡ false
+pub and_false : (b : Bool) → (b && false) ≡ false
 and_false true = refl
 and_false false = refl
 
@@ -111,25 +131,23 @@ pub chunk_place-second : (xs ys : List (ℕ × TreeNode)) (i : ℕ) → AllByRec
 chunk_place-second [] ys i all = refl
 chunk_place-second (x ∷ xs) ys i all = skip_place x (xs ++ ys) i all.0 ∙ chunk_place-second xs ys i all.1
 
+-- no chunk outside a subtree is among its places
+others : (choice : Choice) (number n i at source : ℕ) (sides : List Side) → ((number ≤ i) × (i < number + chunk_count n) → ⊥)
+    → AllByRecursion (λ place. place.1.number ≢ i) (placed_nodes at (subtree_nodes choice number n sides source))
+others choice number n i at source sides outside =
+    let nodes : List TreeNode = subtree_nodes choice number n sides source in
+    placed_nodes-All (λ node. node.number ≢ i) at nodes
+    (All-from_members (λ node. node.number ≢ i) nodes
+    (λ x h same.
+    let w : IsWithin number (chunk_count n) x = All-member (IsWithin number (chunk_count n)) nodes (numbers_within choice number n sides source) x h in
+    outside (omega (arith, same, w.0), omega (arith, same, w.1))))
+
+pub chunk_place-outside : (choice : Choice) (number n : ℕ) (sides : List Side) (source at i : ℕ) → ((number ≤ i) × (i < number + chunk_count n) → ⊥)
+    → chunk_place (placed_nodes at (subtree_nodes choice number n sides source)) i ≡ None
+chunk_place-outside choice number n sides source at i outside =
+    chunk_place-none (placed_nodes at (subtree_nodes choice number n sides source)) i (others choice number n i at source sides outside)
+
 -- chunk i in a subtree of more than one chunk: in its left part, or in its right part
-others_left : (choice : Choice) (number n i at source : ℕ) (sides : List Side) → number + chunk_count n ≤ i
-    → AllByRecursion (λ place. place.1.number ≢ i) (placed_nodes at (subtree_nodes choice number n sides source))
-others_left choice number n i at source sides beyond =
-    placed_nodes-All (λ node. node.number ≢ i) at (subtree_nodes choice number n sides source)
-    (All-from_members (λ node. node.number ≢ i) (subtree_nodes choice number n sides source)
-    (λ x h same.
-    let w : IsWithin number (chunk_count n) x = All-member (IsWithin number (chunk_count n)) (subtree_nodes choice number n sides source) (numbers_within choice number n sides source) x h in
-    let high : x.number < number + chunk_count n = w.1 in absurd (omega arith)))
-
-others_right : (choice : Choice) (number n i at source : ℕ) (sides : List Side) → i < number
-    → AllByRecursion (λ place. place.1.number ≢ i) (placed_nodes at (subtree_nodes choice number n sides source))
-others_right choice number n i at source sides before =
-    placed_nodes-All (λ node. node.number ≢ i) at (subtree_nodes choice number n sides source)
-    (All-from_members (λ node. node.number ≢ i) (subtree_nodes choice number n sides source)
-    (λ x h same.
-    let w : IsWithin number (chunk_count n) x = All-member (IsWithin number (chunk_count n)) (subtree_nodes choice number n sides source) (numbers_within choice number n sides source) x h in
-    let low : number ≤ x.number = w.0 in absurd (omega arith)))
-
 module _ (choice : Choice) (number n : ℕ) (sides : List Side) (source at i : ℕ) (wanted : wants choice (1024 * number) n ≡ true) (more : 1024 < n) where
   abbrev near_nodes : List TreeNode
   near_nodes = subtree_nodes choice number (left_len n) (sides ++ left ∷ []) (source + 64)
@@ -142,7 +160,7 @@ module _ (choice : Choice) (number n : ℕ) (sides : List Side) (source at i : �
       let far_at : ℕ = at + 64 + nodes_size near_nodes in
       ap (λ (ps : List (ℕ × TreeNode)). chunk_place ps i) (placed_nodes-parent choice number n sides source at wanted more)
       ∙ chunk_place-first (placed_nodes (at + 64) near_nodes) (placed_nodes far_at far_nodes) i
-      (others_right choice (number + left_len n / 1024) (n - left_len n) i far_at (source + 64 + subtree_size (left_len n)) (sides ++ right ∷ []) before)
+      (others choice (number + left_len n / 1024) (n - left_len n) i far_at (source + 64 + subtree_size (left_len n)) (sides ++ right ∷ []) (λ h. omega (arith, h.0, before)))
 
   pub chunk_place-far : number + left_len n / 1024 ≤ i
       → chunk_place (placed_nodes at (subtree_nodes choice number n sides source)) i ≡ chunk_place (placed_nodes (at + 64 + nodes_size near_nodes) far_nodes) i
@@ -151,7 +169,7 @@ module _ (choice : Choice) (number n : ℕ) (sides : List Side) (source at i : �
       let count : chunk_count (left_len n) ≡ left_len n / 1024 = count_left n more in
       ap (λ (ps : List (ℕ × TreeNode)). chunk_place ps i) (placed_nodes-parent choice number n sides source at wanted more)
       ∙ chunk_place-second (placed_nodes (at + 64) near_nodes) (placed_nodes far_at far_nodes) i
-      (others_left choice number (left_len n) i (at + 64) (source + 64) (sides ++ left ∷ []) (omega arith))
+      (others choice number (left_len n) i (at + 64) (source + 64) (sides ++ left ∷ []) (λ h. omega (arith, h.1, count, after)))
 
 pub chunk_place-unwanted : (choice : Choice) (number n : ℕ) (sides : List Side) (source at i : ℕ) → wants choice (1024 * number) n ≡ false
     → chunk_place (placed_nodes at (subtree_nodes choice number n sides source)) i ≡ None
@@ -162,17 +180,6 @@ pub chunk_place-leaf : (choice : Choice) (number n : ℕ) (sides : List Side) (s
     → chunk_place (placed_nodes at (subtree_nodes choice number n sides source)) number ≡ Some (record { at = at; len = n })
 chunk_place-leaf choice number n sides source at wanted one there =
     ap (λ (nodes : List TreeNode). chunk_place (placed_nodes at nodes) number) (leaf_nodes choice number n sides source wanted one there) ∙ rw (same_is number) refl
-
-pub chunk_place-other : (choice : Choice) (number n : ℕ) (sides : List Side) (source at i : ℕ) → n ≤ 1024 → number ≢ i
-    → chunk_place (placed_nodes at (subtree_nodes choice number n sides source)) i ≡ None
-chunk_place-other choice number n sides source at i one differ =
-    chunk_place-none (placed_nodes at (subtree_nodes choice number n sides source)) i
-    (placed_nodes-All (λ node. node.number ≢ i) at (subtree_nodes choice number n sides source)
-    (All-from_members (λ node. node.number ≢ i) (subtree_nodes choice number n sides source)
-    (λ x h same.
-    let w : IsWithin number (chunk_count n) x = All-member (IsWithin number (chunk_count n)) (subtree_nodes choice number n sides source) (numbers_within choice number n sides source) x h in
-    let low : number ≤ x.number = w.0 in let high : x.number < number + chunk_count n = w.1 in
-    differ (omega arith))))
 
 pub chunk_place-without : (choice : Choice) (number n : ℕ) (sides : List Side) (source at i : ℕ) → wants choice (1024 * number) n ≡ true → n ≤ 1024 → choice.chunks ≡ false
     → chunk_place (placed_nodes at (subtree_nodes choice number n sides source)) i ≡ None

@@ -1,74 +1,22 @@
 -- Where the nodes of a subtree have a parent.
-use Rattle.std.proofs.Common.{◌≡◌, ◌≢◌, ℕ, zero, suc, ◌+◌, ◌-◌, ◌*◌, ◌/◌, ◌<◌, ◌≤◌, List, [], ◌∷◌, ◌++◌, take, drop, true, false, None, Some, Option, is_some, IfSome, refl, sym, ap, subst, ◌∙◌, arith, inl, inr}
+use Rattle.std.proofs.Common.{◌≡◌, ◌≢◌, ℕ, ◌+◌, ◌-◌, ◌*◌, ◌/◌, ◌<◌, ◌≤◌, List, [], ◌∷◌, ◌++◌, take, drop, true, false, None, Some, Option, is_some, IfSome, refl, ap, ◌∙◌, arith, inl, inr}
 use Rattle.std.specs.List.{AllByRecursion}
 use Rattle.std.specs.Option.{option_map}
 use Rattle.std.specs.Prelude.{◌==◌}
-use Rattle.std.proofs.lemmas.Bool.{cases_Bool, cases_lt}
+use Rattle.std.proofs.lemmas.Bool.{cases_Bool}
 use Rattle.std.proofs.lemmas.Bool.Decides.{eqb_tells}
 use Rattle.b3tree.specs.Tree.{left_len}
 use Rattle.bao_text.specs.declared.choice.Choice.{Choice}
 use Rattle.bao_text.specs.Choice.{chunk_count, wants}
 use Rattle.bao_text.specs.Nodes.{TreeNode, Side, left, placed_nodes, right, subtree_nodes, subtree_size}
-use Rattle.bao_text.proofs.SubtreeNodes.{subtree_nodes-parent, subtree_nodes-unwanted}
+use Rattle.bao_text.proofs.SubtreeNodes.{subtree_nodes-unwanted}
 use Rattle.bao_text.proofs.SubtreeText.{Parts, left_len-Parts}
 use Rattle.bao_check.specs.Accepted.{end_of}
 use Rattle.bao_text.specs.NodeNames.{boundary}
 use Rattle.bao_check.specs.Parents.{is_parent_at, parent_in, parent_place}
-use Rattle.bao_check.proofs.Lists.{All-append, All-from_members, All-member, nodes_size}
-use Rattle.bao_check.proofs.Locating.{count_parts}
+use Rattle.bao_check.proofs.Lists.{All-from_members, All-member, nodes_size}
+use Rattle.bao_check.proofs.Locating.{IsInside, boundaries_inside}
 use Rattle.bao_check.proofs.Parts.{placed_nodes-All, placed_nodes-parent}
-use Rattle.bao_check.proofs.Walking.{leaf_nodes, leaf_without}
-
--- a parent's right part begins within the subtree, and not at its start
-abbrev pub IsInside : ℕ → ℕ → TreeNode → Type 0
-IsInside number count node = node.is_chunk ≡ false → (number < boundary node) × (boundary node < number + count)
-
-inside_small : (choice : Choice) (number n : ℕ) (sides : List Side) (source : ℕ) → n ≤ 1024
-    → AllByRecursion (IsInside number (chunk_count n)) (subtree_nodes choice number n sides source)
-inside_small choice number n sides source one =
-    let P : List TreeNode → Type 0 = AllByRecursion (IsInside number (chunk_count n)) in
-    elim (cases_Bool (wants choice (1024 * number) n)) [
-      | inr skipped ↦ subst P (sym (subtree_nodes-unwanted choice number n sides source skipped)) tt
-      | inl wanted ↦
-          elim (cases_Bool choice.chunks) [
-            | inl there ↦ subst P (sym (leaf_nodes choice number n sides source wanted one there)) ((λ e. let bad : true ≡ false = e in cc), tt)
-            | inr gone ↦ subst P (sym (leaf_without choice number n sides source wanted one gone)) tt
-          ]
-    ]
-
-inside_levels : (levels : ℕ) (choice : Choice) (number n : ℕ) (sides : List Side) (source : ℕ) → n ≤ 1024 * levels + 1024
-    → AllByRecursion (IsInside number (chunk_count n)) (subtree_nodes choice number n sides source)
-inside_levels zero choice number n sides source hn = inside_small choice number n sides source (omega arith)
-inside_levels (suc levels) choice number n sides source hn = elim (cases_lt 1024 n) [
-  | inr one ↦ inside_small choice number n sides source one
-  | inl more ↦
-      let P : List TreeNode → Type 0 = AllByRecursion (IsInside number (chunk_count n)) in
-      elim (cases_Bool (wants choice (1024 * number) n)) [
-        | inr skipped ↦ subst P (sym (subtree_nodes-unwanted choice number n sides source skipped)) tt
-        | inl wanted ↦
-            let l : ℕ = left_len n in
-            let parts : Parts n l = left_len-Parts n more in
-            let near : List TreeNode = subtree_nodes choice number l (sides ++ left ∷ []) (source + 64) in
-            let far : List TreeNode = subtree_nodes choice (number + l / 1024) (n - l) (sides ++ right ∷ []) (source + 64 + subtree_size l) in
-            let in_near = inside_levels levels choice number l (sides ++ left ∷ []) (source + 64) (omega (arith, parts.whole, parts.below)) in
-            let in_far = inside_levels levels choice (number + l / 1024) (n - l) (sides ++ right ∷ []) (source + 64 + subtree_size l) (omega (arith, parts.some)) in
-            let near_count : chunk_count l ≡ l / 1024 = omega (arith, parts.whole, parts.some) in
-            let all : chunk_count n ≡ l / 1024 + chunk_count (n - l) = count_parts n more in
-            let far_some : 0 < chunk_count (n - l) = omega arith in
-            let near_some : 0 < l / 1024 = omega (arith, parts.whole, parts.some) in
-            let near_all = All-from_members (IsInside number (chunk_count n)) near
-            (λ x h parent. let w = All-member (IsInside number (chunk_count l)) near in_near x h parent in
-            let low : number < boundary x = w.0 in let high : boundary x < number + chunk_count l = w.1 in (low, omega arith)) in
-            let far_all = All-from_members (IsInside number (chunk_count n)) far
-            (λ x h parent. let w = All-member (IsInside (number + l / 1024) (chunk_count (n - l))) far in_far x h parent in
-            let low : number + l / 1024 < boundary x = w.0 in let high : boundary x < number + l / 1024 + chunk_count (n - l) = w.1 in (omega arith, omega arith)) in
-            subst P (sym (subtree_nodes-parent choice number n sides source wanted more))
-            ((λ _. (omega arith, omega arith)), All-append (IsInside number (chunk_count n)) near far near_all far_all)
-      ]
-]
-
-pub boundaries_inside : (choice : Choice) (number n : ℕ) (sides : List Side) (source : ℕ) → AllByRecursion (IsInside number (chunk_count n)) (subtree_nodes choice number n sides source)
-boundaries_inside choice number n sides source = inside_levels n choice number n sides source (omega arith)
 
 -- a node that isn't that parent
 pub not_parent_at : (m : ℕ) (node : TreeNode) → (node.is_chunk ≡ false → boundary node ≢ m) → is_parent_at m node ≡ false

@@ -1,16 +1,17 @@
--- Which chunks an encoding has.
-use Rattle.std.proofs.Common.{ltb, ◌&&◌, ◌≡◌, ℕ, zero, suc, ◌+◌, ◌-◌, ◌*◌, ◌/◌, ◌<◌, ◌≤◌, ◌↔◌, min, max, List, [], ◌∷◌, ◌++◌, Bool, true, false, None, Some, Option, IsSome, refl, sym, ap, subst, ◌∙◌, arith, inl, inr}
+-- Which chunks an encoding has, and in which part of a subtree.
+use Rattle.std.proofs.Common.{ltb, ◌&&◌, ◌≡◌, ℕ, zero, suc, ◌+◌, ◌-◌, ◌*◌, ◌/◌, ◌<◌, ◌≤◌, ◌↔◌, min, max, List, [], ◌∷◌, ◌++◌, Bool, true, false, None, Option, IsSome, is_some, refl, sym, ap, ◌∙◌, arith, inl, inr}
 use Rattle.std.proofs.lemmas.Bool.{and_from, cases_Bool, cases_lt, lt-ltb, ltb-true}
-use Rattle.std.proofs.lemmas.Bool.Decides.{eqb_tells}
 use Rattle.b3tree.specs.Tree.{left_len}
 use Rattle.bao_text.specs.declared.choice.Choice.{Choice}
 use Rattle.bao_text.specs.Choice.{chunk_count, of_slice, slice_end, slice_start, wants}
 use Rattle.bao_text.specs.Nodes.{TreeNode, Side, left, nodes, placed_nodes, right, subtree_nodes, subtree_size}
 use Rattle.bao_text.proofs.SubtreeText.{Parts, left_len-Parts}
 use Rattle.bao_check.specs.declared.locate.Span.{Span}
+use Rattle.bao_check.specs.Parents.{parent_place}
 use Rattle.bao_check.specs.Spans.{chunk_place}
 use Rattle.bao_check.proofs.Lists.{nodes_size}
-use Rattle.bao_check.proofs.Locating.{chunk_place-far, chunk_place-leaf, chunk_place-near, chunk_place-other, chunk_place-unwanted, count_parts}
+use Rattle.bao_check.proofs.Locating.{chunk_place-far, chunk_place-leaf, chunk_place-near, chunk_place-outside, chunk_place-unwanted, count_parts}
+use Rattle.bao_check.proofs.Parenting.{parent_place-far, parent_place-near, parent_place-unwanted}
 
 -- some bytes of the n from `at` on are wanted
 pub record Meets (choice : Choice) (at n : ℕ) : Type 0 where
@@ -34,110 +35,107 @@ Meets-from_wants choice at n h = record {
 pub wants-from_Meets : (choice : Choice) (at n : ℕ) → Meets choice at n → wants choice at n ≡ true
 wants-from_Meets choice at n h = and_from _ _ (lt-ltb at choice.end h.before) (lt-ltb choice.start (at + max n 1) h.after)
 
--- how many bytes chunk i has, of a subtree of n bytes from chunk `number` on
-abbrev pub chunk_len : ℕ → ℕ → ℕ → ℕ
-chunk_len number n i = min 1024 (1024 * number + n - 1024 * i)
-
--- chunk i is one of the subtree's, and is wanted
-pub record IsThere (choice : Choice) (number n i : ℕ) : Type 0 where
-  pub first : number ≤ i
-  pub last : i < number + chunk_count n
-  pub meets : Meets choice (1024 * i) (chunk_len number n i)
-
--- nothing is there where it isn't wanted
-none_there : (choice : Choice) (number n i : ℕ) → wants choice (1024 * number) n ≡ false → IsThere choice number n i → ⊥
-none_there choice number n i skipped h =
-    let before : 1024 * i < choice.end = h.meets.before in
-    let after : choice.start < 1024 * i + max (chunk_len number n i) 1 = h.meets.after in
-    let wanted : wants choice (1024 * number) n ≡ true = wants-from_Meets choice (1024 * number) n (record { before = omega (arith, h.first); after = omega (arith, h.first, h.last) }) in
-    let bad : false ≡ true = sym skipped ∙ wanted in cc
-
-not_some : {X : Type 0} (o : Option X) → o ≡ None → IsSome o → ⊥
-not_some None e h = cc
-not_some (Some x) e h = cc
-
-some_is : {X : Type 0} (o : Option X) (x : X) → o ≡ Some x → IsSome o
-some_is None x e = cc
-some_is (Some y) x e = refl
-
-abbrev pub Present : Choice → ℕ → ℕ → List Side → ℕ → ℕ → ℕ → Type 0
-Present choice number n sides source at i = IsSome (chunk_place (placed_nodes at (subtree_nodes choice number n sides source)) i) ↔ IsThere choice number n i
-
-present_unwanted : (choice : Choice) (number n : ℕ) (sides : List Side) (source at i : ℕ) → wants choice (1024 * number) n ≡ false → Present choice number n sides source at i
-present_unwanted choice number n sides source at i skipped = (
-  λ some. absurd (not_some _ (chunk_place-unwanted choice number n sides source at i skipped) some),
-  λ there. absurd (none_there choice number n i skipped there),
-)
-
-present_small : (choice : Choice) (number n : ℕ) (sides : List Side) (source at i : ℕ) → choice.chunks ≡ true → n ≤ 1024 → Present choice number n sides source at i
-present_small choice number n sides source at i chunks one = elim (cases_Bool (wants choice (1024 * number) n)) [
-  | inr skipped ↦ present_unwanted choice number n sides source at i skipped
+-- a subtree that isn't wanted has no part that is
+unwanted_part : (choice : Choice) (number n part len : ℕ) → wants choice (1024 * number) n ≡ false → number ≤ part → 1024 * part + max len 1 ≤ 1024 * number + max n 1
+    → wants choice (1024 * part) len ≡ false
+unwanted_part choice number n part len skipped first within = elim (cases_Bool (wants choice (1024 * part) len)) [
+  | inr lacks ↦ lacks
   | inl wanted ↦
-      elim (eqb_tells number i) [
-        | inl same ↦
-            let meets : Meets choice (1024 * number) n = Meets-from_wants choice (1024 * number) n wanted in
-            let is : number ≡ i = same.1 in
-            let before : 1024 * number < choice.end = meets.before in
-            let after : choice.start < 1024 * number + max n 1 = meets.after in (
-              λ _. record { first = omega arith; last = omega arith; meets = record { before = omega arith; after = omega arith } },
-              λ _. some_is _ _ (ap (chunk_place (placed_nodes at (subtree_nodes choice number n sides source))) (sym is) ∙ chunk_place-leaf choice number n sides source at wanted one chunks),
-            )
-        | inr differ ↦ (
-          λ some. absurd (not_some _ (chunk_place-other choice number n sides source at i one differ.1) some),
-          λ there. let low : number ≤ i = there.first in let high : i < number + chunk_count n = there.last in absurd (differ.1 (omega arith)),
-        )
-      ]
+      let meets : Meets choice (1024 * part) len = Meets-from_wants choice (1024 * part) len wanted in
+      let whole : wants choice (1024 * number) n ≡ true = wants-from_Meets choice (1024 * number) n (record { before = omega (arith, meets.before); after = omega (arith, meets.after) }) in
+      let bad : false ≡ true = sym skipped ∙ whole in cc
 ]
 
--- a chunk of the left part is there in the whole as it is in the part
-there_near : (choice : Choice) (number n i : ℕ) → 1024 < n → i < number + left_len n / 1024 → IsThere choice number (left_len n) i ↔ IsThere choice number n i
-there_near choice number n i more before =
-    let l : ℕ = left_len n in
-    let parts : Parts n l = left_len-Parts n more in
-    let len : number ≤ i → chunk_len number l i ≡ chunk_len number n i = λ low. omega (arith, parts.whole, parts.below) in (
-      λ h. record { first = h.first; last = omega (arith, parts.whole, parts.some, parts.below, h.last); meets = subst (Meets choice (1024 * i)) (len h.first) h.meets },
-      λ h. record { first = h.first; last = omega (arith, parts.whole, parts.some); meets = subst (Meets choice (1024 * i)) (sym (len h.first)) h.meets },
-    )
+-- The two parts of a subtree of more than one chunk, whether it is wanted or not: what is looked for in one of them stands where that
+-- part has it.
+module _ (choice : Choice) (number n : ℕ) (sides : List Side) (source at : ℕ) (more : 1024 < n) where
+  abbrev pub near : List TreeNode
+  near = subtree_nodes choice number (left_len n) (sides ++ left ∷ []) (source + 64)
 
-there_far : (choice : Choice) (number n i : ℕ) → 1024 < n → number + left_len n / 1024 ≤ i
-    → IsThere choice (number + left_len n / 1024) (n - left_len n) i ↔ IsThere choice number n i
-there_far choice number n i more after =
-    let l : ℕ = left_len n in
-    let parts : Parts n l = left_len-Parts n more in
-    let count : chunk_count n ≡ l / 1024 + chunk_count (n - l) = count_parts n more in
-    let len : chunk_len (number + l / 1024) (n - l) i ≡ chunk_len number n i = omega (arith, parts.whole, parts.below) in (
-      λ h. record { first = omega arith; last = omega (arith, h.last); meets = subst (Meets choice (1024 * i)) len h.meets },
-      λ h. record { first = after; last = omega (arith, h.last); meets = subst (Meets choice (1024 * i)) (sym len) h.meets },
-    )
+  abbrev pub far : List TreeNode
+  far = subtree_nodes choice (number + left_len n / 1024) (n - left_len n) (sides ++ right ∷ []) (source + 64 + subtree_size (left_len n))
 
-pub present_levels : (levels : ℕ) (choice : Choice) (number n : ℕ) (sides : List Side) (source at i : ℕ) → n ≤ 1024 * levels + 1024 → choice.chunks ≡ true
-    → Present choice number n sides source at i
-present_levels zero choice number n sides source at i hn chunks = present_small choice number n sides source at i chunks (omega arith)
-present_levels (suc levels) choice number n sides source at i hn chunks = elim (cases_lt 1024 n) [
-  | inr one ↦ present_small choice number n sides source at i chunks one
+  near_unwanted : wants choice (1024 * number) n ≡ false → wants choice (1024 * number) (left_len n) ≡ false
+  near_unwanted skipped = let parts : Parts n (left_len n) = left_len-Parts n more in
+      unwanted_part choice number n number (left_len n) skipped (omega arith) (omega (arith, parts.some, parts.below))
+
+  far_unwanted : wants choice (1024 * number) n ≡ false → wants choice (1024 * (number + left_len n / 1024)) (n - left_len n) ≡ false
+  far_unwanted skipped = let parts : Parts n (left_len n) = left_len-Parts n more in
+      unwanted_part choice number n (number + left_len n / 1024) (n - left_len n) skipped (omega arith) (omega (arith, parts.whole, parts.below))
+
+  pub chunk_near : (i : ℕ) → i < number + left_len n / 1024 → chunk_place (placed_nodes at (subtree_nodes choice number n sides source)) i ≡ chunk_place (placed_nodes (at + 64) near) i
+  chunk_near i before = elim (cases_Bool (wants choice (1024 * number) n)) [
+    | inl wanted ↦ chunk_place-near choice number n sides source at i wanted more before
+    | inr skipped ↦
+        chunk_place-unwanted choice number n sides source at i skipped
+        ∙ sym (chunk_place-unwanted choice number (left_len n) (sides ++ left ∷ []) (source + 64) (at + 64) i (near_unwanted skipped))
+  ]
+
+  pub chunk_far : (i : ℕ) → number + left_len n / 1024 ≤ i
+      → chunk_place (placed_nodes at (subtree_nodes choice number n sides source)) i ≡ chunk_place (placed_nodes (at + 64 + nodes_size near) far) i
+  chunk_far i after = elim (cases_Bool (wants choice (1024 * number) n)) [
+    | inl wanted ↦ chunk_place-far choice number n sides source at i wanted more after
+    | inr skipped ↦
+        chunk_place-unwanted choice number n sides source at i skipped
+        ∙ sym (chunk_place-unwanted choice (number + left_len n / 1024) (n - left_len n) (sides ++ right ∷ []) (source + 64 + subtree_size (left_len n)) (at + 64 + nodes_size near) i (far_unwanted skipped))
+  ]
+
+  pub parent_near : (m : ℕ) → m < number + left_len n / 1024 → parent_place (placed_nodes at (subtree_nodes choice number n sides source)) m ≡ parent_place (placed_nodes (at + 64) near) m
+  parent_near m before = elim (cases_Bool (wants choice (1024 * number) n)) [
+    | inl wanted ↦ parent_place-near choice number n sides source at m wanted more before
+    | inr skipped ↦
+        parent_place-unwanted choice number n sides source at m skipped
+        ∙ sym (parent_place-unwanted choice number (left_len n) (sides ++ left ∷ []) (source + 64) (at + 64) m (near_unwanted skipped))
+  ]
+
+  pub parent_far : (m : ℕ) → number + left_len n / 1024 < m
+      → parent_place (placed_nodes at (subtree_nodes choice number n sides source)) m ≡ parent_place (placed_nodes (at + 64 + nodes_size near) far) m
+  parent_far m after = elim (cases_Bool (wants choice (1024 * number) n)) [
+    | inl wanted ↦ parent_place-far choice number n sides source at m wanted more after
+    | inr skipped ↦
+        parent_place-unwanted choice number n sides source at m skipped
+        ∙ sym (parent_place-unwanted choice (number + left_len n / 1024) (n - left_len n) (sides ++ right ∷ []) (source + 64 + subtree_size (left_len n)) (at + 64 + nodes_size near) m (far_unwanted skipped))
+  ]
+
+-- how many bytes chunk i has, of a subtree of n bytes from chunk `number` on
+abbrev chunk_len : ℕ → ℕ → ℕ → ℕ
+chunk_len number n i = min 1024 (1024 * number + n - 1024 * i)
+
+-- an encoding with chunks has those that are wanted
+abbrev IsPresent : Choice → ℕ → ℕ → List Side → ℕ → ℕ → ℕ → Type 0
+IsPresent choice number n sides source at i = is_some (chunk_place (placed_nodes at (subtree_nodes choice number n sides source)) i) ≡ wants choice (1024 * i) (chunk_len number n i)
+
+present_alone : (choice : Choice) (number n : ℕ) (sides : List Side) (source at i : ℕ) → choice.chunks ≡ true → n ≤ 1024 → number ≡ i → IsPresent choice number n sides source at i
+present_alone choice number n sides source at i chunks one same =
+    let len : n ≡ chunk_len number n i = omega (arith, one, same) in
+    let asked : wants choice (1024 * number) n ≡ wants choice (1024 * i) (chunk_len number n i) = (λ j. wants choice (1024 * same j) (len j)) in
+    let there : Option Span → Bool = λ o. is_some o in
+    elim (cases_Bool (wants choice (1024 * number) n)) [
+      | inr skipped ↦ ap there (chunk_place-unwanted choice number n sides source at i skipped) ∙ sym (sym asked ∙ skipped)
+      | inl wanted ↦
+          ap (λ (k : ℕ). there (chunk_place (placed_nodes at (subtree_nodes choice number n sides source)) k)) (sym same)
+          ∙ ap there (chunk_place-leaf choice number n sides source at wanted one chunks) ∙ sym (sym asked ∙ wanted)
+    ]
+
+present_levels : (levels : ℕ) (choice : Choice) (number n : ℕ) (sides : List Side) (source at i : ℕ) → n ≤ 1024 * levels + 1024 → choice.chunks ≡ true → number ≤ i → i < number + chunk_count n
+    → IsPresent choice number n sides source at i
+present_levels zero choice number n sides source at i hn chunks first last = present_alone choice number n sides source at i chunks (omega (arith, hn)) (omega (arith, hn, first, last))
+present_levels (suc levels) choice number n sides source at i hn chunks first last = elim (cases_lt 1024 n) [
+  | inr one ↦ present_alone choice number n sides source at i chunks one (omega (arith, one, first, last))
   | inl more ↦
-      elim (cases_Bool (wants choice (1024 * number) n)) [
-        | inr skipped ↦ present_unwanted choice number n sides source at i skipped
-        | inl wanted ↦
-            let l : ℕ = left_len n in
-            let parts : Parts n l = left_len-Parts n more in
-            let near : List TreeNode = subtree_nodes choice number l (sides ++ left ∷ []) (source + 64) in
-            elim (cases_lt i (number + l / 1024)) [
-              | inl before ↦
-                  let same = chunk_place-near choice number n sides source at i wanted more before in
-                  let ih = present_levels levels choice number l (sides ++ left ∷ []) (source + 64) (at + 64) i (omega (arith, parts.whole, parts.below)) chunks in
-                  let there = there_near choice number n i more before in (
-                    λ some. there.0 (ih.0 (subst (λ (o : Option Span). IsSome o) same some)),
-                    λ h. subst (λ (o : Option Span). IsSome o) (sym same) (ih.1 (there.1 h)),
-                  )
-              | inr after ↦
-                  let same = chunk_place-far choice number n sides source at i wanted more after in
-                  let ih = present_levels levels choice (number + l / 1024) (n - l) (sides ++ right ∷ []) (source + 64 + subtree_size l) (at + 64 + nodes_size near) i (omega (arith, parts.some)) chunks in
-                  let there = there_far choice number n i more after in (
-                    λ some. there.0 (ih.0 (subst (λ (o : Option Span). IsSome o) same some)),
-                    λ h. subst (λ (o : Option Span). IsSome o) (sym same) (ih.1 (there.1 h)),
-                  )
-            ]
+      let l : ℕ = left_len n in
+      let parts : Parts n l = left_len-Parts n more in
+      let there : Option Span → Bool = λ o. is_some o in
+      elim (cases_lt i (number + l / 1024)) [
+        | inl before ↦
+            ap there (chunk_near choice number n sides source at more i before)
+            ∙ present_levels levels choice number l (sides ++ left ∷ []) (source + 64) (at + 64) i (omega (arith, hn, parts.whole, parts.below)) chunks first (omega (arith, before, parts.whole))
+            ∙ ap (wants choice (1024 * i)) (omega (arith, before, first, parts.whole, parts.below))
+        | inr after ↦
+            ap there (chunk_far choice number n sides source at more i after)
+            ∙ present_levels levels choice (number + l / 1024) (n - l) (sides ++ right ∷ []) (source + 64 + subtree_size l) (at + 64 + nodes_size (near choice number n sides source at more)) i
+            (omega (arith, hn, parts.some)) chunks after (omega (arith, last, count_parts n more))
+            ∙ ap (wants choice (1024 * i)) (omega (arith, parts.whole, parts.below))
       ]
 ]
 
@@ -147,19 +145,21 @@ pub slice_present : (total start len at i : ℕ)
     ↔ ((slice_start total start / 1024 ≤ i) × (i < (slice_end total start len + 1023) / 1024))
 slice_present total start len at i =
     let choice : Choice = of_slice total start len in
-    let all = present_levels total choice 0 total [] 8 at i (omega arith) refl in
     let first : ℕ = slice_start total start in
     let end : ℕ = slice_end total start len in
     let low : first ≤ max total 1 - 1 = omega arith in
     let high : end ≤ max total 1 = omega arith in
-    let some : first < end = omega arith in (
-      λ h. let there : IsThere choice 0 total i = all.0 h in
-          let before : 1024 * i < end = there.meets.before in
-          let after : first < 1024 * i + max (chunk_len 0 total i) 1 = there.meets.after in
-          (omega arith, omega arith),
-      λ h. all.1 (record {
-        first = omega arith;
-        last = omega (arith, h.1);
-        meets = record { before = omega (arith, h.1); after = omega (arith, h.0, h.1) };
-      }),
+    let some : first < end = omega arith in
+    let present : i < chunk_count total → IsPresent choice 0 total [] 8 at i = λ inside. present_levels total choice 0 total [] 8 at i (omega arith) refl (omega arith) (omega (arith, inside)) in (
+      λ h. elim (cases_lt i (chunk_count total)) [
+        | inl inside ↦
+            let meets : Meets choice (1024 * i) (chunk_len 0 total i) = Meets-from_wants choice (1024 * i) (chunk_len 0 total i) (sym (present inside) ∙ h) in
+            (omega (arith, meets.after, inside), omega (arith, meets.before))
+        | inr past ↦
+            let none : chunk_place (placed_nodes at (nodes total start len)) i ≡ None = chunk_place-outside choice 0 total [] 8 at i (λ w. omega (arith, w.1, past)) in
+            let bad : false ≡ true = ap (λ (o : Option Span). is_some o) (sym none) ∙ h in cc
+      ],
+      λ h.
+          let inside : i < chunk_count total = omega (arith, h.1, high) in
+          present inside ∙ wants-from_Meets choice (1024 * i) (chunk_len 0 total i) (record { before = omega (arith, h.1); after = omega (arith, h.0, h.1, inside) }),
     )

@@ -23,6 +23,10 @@ abbrev pub parent_place : List (ℕ × TreeNode) → ℕ → Option ℕ
 parent_place [] m = None
 parent_place (place ∷ places) m = if is_parent_at m place.1 then Some place.0 else parent_place places m
 
+-- bit i of the mask is set exactly where the places have the parent whose right part begins at chunk 64 * group + i
+abbrev pub IsBoundaryMask : List (ℕ × TreeNode) → ℕ → ℕ → Type 0
+IsBoundaryMask places group mask = (i : ℕ) → i < 64 → (bit_at mask i == 1) ≡ is_some (parent_place places (64 * group + i))
+
 -- bit i of the mask is set exactly where the encoding has the parent whose right part begins at chunk 64 * group + i
 abbrev pub IsParentMask : List ℕ → List (ℕ × TreeNode) → ℕ → ℕ → Type 0
 IsParentMask text places group mask = (i : ℕ) → i < 64 → (bit_at mask i == 1) ≡ is_some (parent_in text places (64 * group + i))

@@ -1,10 +1,10 @@
-ghost use Rattle.std.specs.Prelude.{◌≡◌, ℕ, ◌+◌, ◌-◌, ◌*◌, ◌^◌, ◌<◌, ◌≤◌, List, length, min, take, drop, bit_xor, sum_by};
-ghost use Rattle.bao_text.specs.Choice.{chunk_count};
+ghost use Rattle.std.specs.Prelude.{◌≡◌, ℕ, ◌+◌, ◌-◌, ◌*◌, ◌^◌, ◌<◌, ◌≤◌, List, length, take, drop, sum_by};
+ghost use Rattle.std.specs.Int.{IsPowerOfTwo};
 ghost use Rattle.bao_text.specs.Nodes.{Side, placed_nodes, size, subtree_nodes, subtree_size};
-ghost use Rattle.bao_check.specs.Spans.{Counts, HasDigits, bytes_before, chunk_place, first_wanted};
+ghost use Rattle.bao_check.specs.Spans.{chunk_place};
 
 use b3tree::{CHUNK_LEN, left_len};
-use bao_text::{Choice, chunk_count, encoded_len, outboard_len};
+use bao_text::{Choice, encoded_len, outboard_len};
 
 // Bytes of the length at an encoding's start, for places.
 pub(crate) const LENGTH_LEN: u128 = bao_text::LENGTH_LEN as u128;
@@ -60,63 +60,63 @@ pub(crate) fn nodes_size(choice: &Choice, number: u64, n: u64) -> u128
     PARENT_LEN + left + right
 }
 
-// How many parents stand before chunk `k`, where chunk `last` is the last, and `first` the first that is wanted of k and
-// those before it: those whose right part begins after `first` and not after k, those to whose right part chunk
-// `first` belongs, one for each digit 1 of it, and those to whose left part k belongs, one for each digit 0 below
-// the first in which it and `last` differ.
-fn parents_before(last: u64, first: u64, k: u64) -> u64
-    requires { (first ≤ k) × (k ≤ last) × (last < 2 ^ 54) }
-    ensures { (t : ℕ) → HasDigits (bit_xor last k) t → Counts k t first result }
+// The same, sooner told where none of them is wanted: so it is of most parts on the way to a slice.
+pub(crate) fn size_before(choice: &Choice, number: u64, n: u64) -> u128
+    requires { 1024 * number + n ≤ 2 ^ 64 - 1 }
+    ensures value { (sides : List Side) (from : ℕ) → result ≡ sum_by size (subtree_nodes choice.now number n sides from) }
+    ensures bound { result ≤ subtree_size n }
 {
-    let digits = u64::BITS - (last ^ k).leading_zeros();
-    let low = k & ((1 << digits) - 1);
-    k - first + u64::from(first.count_ones()) + u64::from(digits) - u64::from(low.count_ones())
-}
-
-/// What stands in an encoding before the place of a chunk, which may be one that isn't wanted.
-#[derive(Clone, Copy)]
-pub(crate) struct Before {
-    /// How many bytes of chunks.
-    pub(crate) bytes: u64,
-    /// How many parents.
-    pub(crate) parents: u64,
-}
-
-impl Before {
-    // Before chunk `k` of the subtree over `n` bytes from chunk `number` on.
-    pub(crate) fn of(choice: &Choice, number: u64, n: u64, k: u64) -> Before
-        requires { k < chunk_count n }
-        ensures bytes { result.bytes ≡ bytes_before choice.now number k }
-        ensures parents { (t : ℕ) → HasDigits (bit_xor (chunk_count n - 1) k) t → Counts k t (min (first_wanted choice.now number) k) result.parents }
-    {
-        let wanted = choice.start() / CHUNK_LEN as u64;
-        let first = wanted.saturating_sub(number).min(k);
-        let bytes = if choice.has_chunks() {
-            CHUNK_LEN as u64 * (k - first)
-        } else {
-            0
-        };
-        let parents = parents_before(chunk_count(n) - 1, first, k);
-        Before { bytes, parents }
+    if choice.wants(CHUNK_LEN as u64 * number, n) {
+        nodes_size(choice, number, n)
+    } else {
+        0
     }
 }
 
-// Where chunk `i` is in an encoding, of which the wanted nodes of the subtree over `n` bytes from chunk `number`
-// on begin at `at`.
+// Where chunk `i` is, one of the left part of a parent at `at`: `count` chunks from chunk `number` on, a power of two of them,
+// of which none lies before the wanted positions. So all that stands before it is there.
+fn chunk_of_left(choice: &Choice, number: u64, count: u64, at: u128, i: u64) -> Option<Span>
+    requires power { IsPowerOfTwo count }
+    requires chunk { (number ≤ i) × (i < number + count) }
+    requires start { choice.now.start ≤ 1024 * number }
+    requires range { 1024 * (number + count) ≤ 2 ^ 64 - 1 }
+    requires room { at + 64 + subtree_size (1024 * count) < 2 ^ 128 }
+    ensures { (sides : List Side) (from : ℕ) → result ≡ chunk_place (placed_nodes (at + 64) (subtree_nodes choice.now number (1024 * count) sides from)) i }
+{
+    // So many chunks stand before it, and parents: one fewer than these for the parts that end before it, and those to whose left
+    // part it belongs, one for each digit 0 of `k`.
+    let k = i - number;
+    let parents = 1 + k + u64::from((count - 1 - k).count_ones());
+    let at = at + u128::from(CHUNK_LEN as u64 * k) + PARENT_LEN * u128::from(parents);
+    let len = CHUNK_LEN as u64;
+    let there = choice.has_chunks() && choice.wants(len * i, len);
+    there.then_some(Span { at, len })
+}
+
+// Where chunk `i`, which isn't before chunk `number`, is in an encoding, of which the wanted nodes of the subtree over `n` bytes
+// from chunk `number` on begin at `at`. It goes down to the first parent in whose left part the chunk is, and all of that part is
+// wanted before it.
 pub(crate) fn find_chunk(choice: &Choice, number: u64, n: u64, at: u128, i: u64) -> Option<Span>
     requires range { 1024 * number + n ≤ 2 ^ 64 - 1 }
     requires room { at + subtree_size n < 2 ^ 128 }
+    requires first { number ≤ i }
     ensures { (sides : List Side) (from : ℕ) → result ≡ chunk_place (placed_nodes at (subtree_nodes choice.now number n sides from)) i }
 {
-    if !choice.has_chunks() || i < number || i - number >= chunk_count(n) {
-        return None;
+    let start = CHUNK_LEN as u64 * number;
+    if n <= CHUNK_LEN as u64 {
+        if i != number || !choice.has_chunks() || !choice.wants(start, n) {
+            return None;
+        }
+        return Some(Span { at, len: n });
     }
-    let k = i - number;
-    let len = (n - CHUNK_LEN as u64 * k).min(CHUNK_LEN as u64);
-    if !choice.wants(CHUNK_LEN as u64 * i, len) {
-        return None;
+    let left_len = left_len(n);
+    let count = left_len / CHUNK_LEN as u64;
+    if i >= number + count {
+        let at = at + PARENT_LEN + size_before(choice, number, left_len);
+        return find_chunk(choice, number + count, n - left_len, at, i);
     }
-    let before = Before::of(choice, number, n, k);
-    let at = at + u128::from(before.bytes) + PARENT_LEN * u128::from(before.parents);
-    Some(Span { at, len })
+    if choice.start() > start {
+        return find_chunk(choice, number, left_len, at + PARENT_LEN, i);
+    }
+    chunk_of_left(choice, number, count, at, i)
 }

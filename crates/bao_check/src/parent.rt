@@ -1,15 +1,15 @@
-ghost use Rattle.std.specs.Prelude.{◌≡◌, ℕ, ◌+◌, ◌-◌, ◌*◌, ◌^◌, ◌≤◌, ◌<◌, List, length, max, min, is_some, IfSome};
+ghost use Rattle.std.specs.Prelude.{◌≡◌, ℕ, ◌+◌, ◌-◌, ◌*◌, ◌^◌, ◌≤◌, ◌<◌, List, length, is_some, IfSome};
+ghost use Rattle.std.specs.Int.{IsPowerOfTwo};
 ghost use Rattle.std.specs.Option.{option_copied};
-ghost use Rattle.bao_text.specs.Choice.{chunk_count};
-ghost use Rattle.bao_text.specs.Nodes.{Side, chosen_nodes, placed_nodes, subtree_nodes, subtree_size};
+ghost use Rattle.bao_text.specs.Nodes.{Side, placed_nodes, subtree_nodes, subtree_size};
 ghost use Rattle.bao_check.specs.Accepted.{places_of};
-ghost use Rattle.bao_check.specs.Parents.{IsParentMask, parent_in, parent_place};
+ghost use Rattle.bao_check.specs.Parents.{IsBoundaryMask, IsParentMask, parent_in, parent_place};
 
 use crate::checked::{Body, Checked};
-use crate::locate::{Before, LENGTH_LEN, PARENT_LEN, bytes_from};
+use crate::locate::{LENGTH_LEN, PARENT_LEN, bytes_from, size_before};
 use crate::outline::Outline;
-use b3tree::CHUNK_LEN;
-use bao_text::{Choice, chunk_count};
+use b3tree::{CHUNK_LEN, left_len};
+use bao_text::Choice;
 
 /// How many chunks a group has, and boundaries before them.
 pub const GROUP_LEN: u64 = 64;
@@ -17,84 +17,77 @@ pub const GROUP_LEN: u64 = 64;
 /// How many bytes a group's chunks have.
 pub const GROUP_BYTES: u64 = GROUP_LEN * CHUNK_LEN as u64;
 
-// How many of `n` bytes a parent's subtree has that begins with chunk `k` and has `half` chunks on the left.
-fn parent_len(n: u64, half: u64, k: u64) -> u64
-    requires { (half ≤ 2 ^ 53) × (1024 * k ≤ n) }
-    ensures { result ≡ min (1024 * (2 * half)) (n - 1024 * k) }
+// Where the parent whose right part begins at chunk `m` is, one of the left part of a parent at `at`: `count` chunks from chunk
+// `number` on, a power of two of them, of which none lies before the wanted positions. So all that stands before it is there.
+fn parent_of_left(choice: &Choice, number: u64, count: u64, at: u128, m: u64) -> Option<u128>
+    requires power { IsPowerOfTwo count }
+    requires boundary { (number < m) × (m < number + count) }
+    requires start { choice.now.start ≤ 1024 * number }
+    requires range { (1024 * (number + count) ≤ 2 ^ 64 - 1) × (2048 * count ≤ 2 ^ 64) }
+    requires room { at + 64 + subtree_size (1024 * count) < 2 ^ 128 }
+    ensures { (sides : List Side) (from : ℕ) → result ≡ parent_place (placed_nodes (at + 64) (subtree_nodes choice.now number (1024 * count) sides from)) m }
 {
-    let len = n - CHUNK_LEN as u64 * k;
-    let left = CHUNK_LEN as u64 * half;
-    if len / 2 < left { len } else { 2 * left }
+    // Its subtree begins with chunk `k` of them, and has as many chunks on the left as its boundary's lowest digit 1 says.
+    let boundary = m - number;
+    let k = boundary & (boundary - 1);
+    let bytes = if choice.has_chunks() {
+        CHUNK_LEN as u64 * k
+    } else {
+        0
+    };
+    let parents = k + u64::from((count - boundary).count_ones());
+    let at = at + u128::from(bytes) + PARENT_LEN * u128::from(parents);
+    let len = 2 * CHUNK_LEN as u64 * (boundary - k);
+    choice
+        .wants(CHUNK_LEN as u64 * (number + k), len)
+        .then_some(at)
 }
 
-// Whether the wanted nodes of the subtree over `n` bytes from chunk `number` on have the parent whose right part begins
-// at chunk `m`: there is one over these chunks, and some of its bytes are wanted.
-fn wants_parent(choice: &Choice, number: u64, n: u64, m: u64) -> bool
-    requires { 1024 * number + n ≤ 2 ^ 64 - 1 }
-    ensures { (sides : List Side) (from at : ℕ) → result ≡ is_some (parent_place (placed_nodes at (subtree_nodes choice.now number n sides from)) m) }
-{
-    if m <= number || m - number >= chunk_count(n) {
-        return false;
-    }
-    let half = 1 << (m - number).trailing_zeros();
-    let start = m - half;
-    choice.wants(
-        CHUNK_LEN as u64 * start,
-        parent_len(n, half, start - number),
-    )
-}
-
-// Where the parent whose right part begins at chunk `m` is in an encoding, of which the wanted nodes of the
-// subtree over `n` bytes from chunk `number` on begin at `at`.
+// Where the parent whose right part begins at chunk `m` is in an encoding, of which the wanted nodes of the subtree over `n` bytes
+// from chunk `number` on begin at `at`. It goes down as `find_chunk` does.
 fn find_parent(choice: &Choice, number: u64, n: u64, at: u128, m: u64) -> Option<u128>
     requires range { 1024 * number + n ≤ 2 ^ 64 - 1 }
     requires room { at + subtree_size n < 2 ^ 128 }
     ensures { (sides : List Side) (from : ℕ) → result ≡ parent_place (placed_nodes at (subtree_nodes choice.now number n sides from)) m }
 {
-    if !wants_parent(choice, number, n, m) {
+    if n <= CHUNK_LEN as u64 || m <= number {
         return None;
     }
-    // The parent's subtree begins with chunk k, and so many parents stand between the two.
-    let levels = (m - number).trailing_zeros();
-    let half = 1 << levels;
-    let k = m - number - half;
-    let before = Before::of(choice, number, n, k);
-    let parents = before.parents - u64::from(levels) - 1;
-    Some(at + u128::from(before.bytes) + PARENT_LEN * u128::from(parents))
-}
-
-// The mask of a group's boundaries at which the wanted nodes of `n` bytes have a parent, each of them asked.
-fn parents_asked(choice: &Choice, n: u64, group: u64) -> u64
-    requires { 64 * group < chunk_count n }
-    ensures { (text : List ℕ) → IsParentMask text (places_of (chosen_nodes choice.now n)) group result }
-{
-    let mut mask = 0;
-    for i in 0..GROUP_LEN {
-        if wants_parent(choice, 0, n, GROUP_LEN * group + i) {
-            mask |= 1 << i;
-        }
+    let start = CHUNK_LEN as u64 * number;
+    let left_len = left_len(n);
+    let count = left_len / CHUNK_LEN as u64;
+    if m == number + count {
+        return choice.wants(start, n).then_some(at);
     }
-    mask
+    if m > number + count {
+        let at = at + PARENT_LEN + size_before(choice, number, left_len);
+        return find_parent(choice, number + count, n - left_len, at, m);
+    }
+    if choice.start() > start {
+        return find_parent(choice, number, left_len, at + PARENT_LEN, m);
+    }
+    parent_of_left(choice, number, count, at, m)
 }
 
-// The same mask of any group. Each of its parents but the first one is over chunks of the group alone: so where none of
-// these is wanted only the first can be there, and where all are, each is.
-fn parents_in(choice: &Choice, n: u64, group: u64) -> u64
-    requires { choice.now.end ≤ max n 1 }
-    ensures { (text : List ℕ) → IsParentMask text (places_of (chosen_nodes choice.now n)) group result }
+// The mask of a group's boundaries at which the wanted nodes of the subtree over `n` bytes from chunk `number` on have a parent.
+fn parents_in(choice: &Choice, number: u64, n: u64, group: u64) -> u64
+    requires { 1024 * number + n ≤ 2 ^ 64 - 1 }
+    ensures { (sides : List Side) (from at : ℕ) → IsBoundaryMask (placed_nodes at (subtree_nodes choice.now number n sides from)) group result }
 {
-    if group > (chunk_count(n) - 1) / GROUP_LEN {
+    if n <= CHUNK_LEN as u64 || !choice.wants(CHUNK_LEN as u64 * number, n) {
         return 0;
     }
-    let first = GROUP_LEN * group;
-    let at = CHUNK_LEN as u64 * first;
-    if !choice.wants(at, GROUP_BYTES) {
-        return u64::from(wants_parent(choice, 0, n, first));
+    let left_len = left_len(n);
+    let middle = number + left_len / CHUNK_LEN as u64;
+    if middle / GROUP_LEN < group {
+        return parents_in(choice, middle, n - left_len, group);
     }
-    if group > 0 && choice.covers(at, GROUP_BYTES) {
-        return u64::MAX;
+    if middle / GROUP_LEN > group {
+        return parents_in(choice, number, left_len, group);
     }
-    parents_asked(choice, n, group)
+    let left = parents_in(choice, number, left_len, group);
+    let right = parents_in(choice, middle, n - left_len, group);
+    (left | right) | (1 << (middle % GROUP_LEN))
 }
 
 impl<'a> Checked<'a> {
@@ -120,7 +113,7 @@ impl<'a> Checked<'a> {
     pub fn parents_of(&self, group: u64) -> u64
         ensures { IsParentMask (piece_text self.now) (piece_places self.now) group result }
     {
-        parents_in(&self.choice(), self.claimed(), group)
+        parents_in(&self.choice(), 0, self.claimed(), group)
     }
 
     /// The 64 bytes of the parent whose right part begins at chunk `m`, where they stand: the chaining

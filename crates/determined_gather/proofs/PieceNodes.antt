@@ -1,5 +1,5 @@
 -- Which nodes a piece has: those of the slice that it is of, and all of them where it is of the whole blob.
-use Rattle.std.proofs.Common.{◌≡◌, ℕ, ◌+◌, ◌-◌, ◌*◌, ◌^◌, ◌<◌, ◌≤◌, ◌==◌, ◌&&◌, min, true, List, [], ◌∷◌, map, Option, IsSome, None, Some, is_some, option_map, inl, inr, refl, sym, subst, ◌∙◌, arith, eq-eqb}
+use Rattle.std.proofs.Common.{◌≡◌, ℕ, ◌+◌, ◌<◌, ◌≤◌, ◌==◌, ◌&&◌, true, List, [], ◌∷◌, map, Option, IsSome, None, Some, is_some, option_map, inl, inr, refl, sym, subst, ◌∙◌, arith, eq-eqb}
 use Rattle.std.specs.Prelude.{Contains}
 use Rattle.std.proofs.lemmas.Bool.{cases_Bool}
 use Rattle.bao_text.specs.declared.choice.Choice.{Choice}
@@ -10,11 +10,11 @@ use Rattle.bao_text.specs.NodeNames.{boundary, name}
 use Rattle.bao_text.specs.Nodes.{TreeNode, nodes, placed_nodes, size}
 use Rattle.bao_check.specs.Parents.{is_parent_at, parent_in}
 use Rattle.bao_check.specs.Pieces.{chunk_in}
-use Rattle.bao_check.proofs.Finding.{half, is_there, lowest_of}
+use Rattle.bao_check.proofs.Descents.{parent_wanted}
 use Rattle.bao_check.proofs.Lists.{All-member, Contains-cons_cases, Contains-head, Contains-tail}
-use Rattle.bao_check.proofs.Locating.{IsWithin, chunk_in-place, numbers_within}
-use Rattle.bao_check.proofs.Parenting.{IsInside, boundaries_inside, parent_in-some}
-use Rattle.bao_check.proofs.Presence.{Meets, slice_present, wants-from_Meets}
+use Rattle.bao_check.proofs.Locating.{IsInside, IsWithin, boundaries_inside, chunk_in-place, numbers_within}
+use Rattle.bao_check.proofs.Parenting.{parent_in-some}
+use Rattle.bao_check.proofs.Presence.{slice_present}
 use Rattle.store_core.specs.declared.history.Piece.{Piece}
 use Rattle.store_core.specs.Pieces.{length_of, nodes_of, places_in}
 use Rattle.determined_gather.specs.Serves.{HasNode, HasSliceOf}
@@ -71,7 +71,7 @@ some_mapped f None is = is
 some_mapped f (Some x) is = refl
 
 -- all of a blob's nodes are of the slice of everything
-module _ (text : List ℕ) (n len : ℕ) (range : n ≤ 2 ^ 64 - 1) (all : n ≤ len) where
+module _ (text : List ℕ) (n len : ℕ) (all : n ≤ len) where
   abbrev whole : Choice
   whole = of_slice n 0 len
 
@@ -82,15 +82,8 @@ module _ (text : List ℕ) (n len : ℕ) (range : n ≤ 2 ^ 64 - 1) (all : n ≤
 
   parent_of_whole : (m : ℕ) → 0 < m → m < chunk_count n → is_some (parent_in text (placed_nodes 8 (nodes n 0 len)) m) ≡ true
   parent_of_whole m low high =
-      let above : m - 0 < chunk_count n = omega (arith, high) in
-      let split = lowest_of whole 0 n 8 m low above range in
-      let h : ℕ = half whole 0 n 8 m low above range in
-      let fits : h ≤ m = omega (arith, split.1, split.2.1) in
-      let meets : Meets whole (1024 * (0 + (m - 0 - h))) (min (1024 * (2 * h)) (n - 1024 * (m - 0 - h))) = record {
-        before = omega (arith, low, high, all, fits);
-        after = omega arith;
-      } in
-      parent_in-some text (placed_nodes 8 (nodes n 0 len)) m ∙ is_there whole 0 n 8 m low above range (wants-from_Meets whole _ _ meets) [] 8
+      parent_in-some text (placed_nodes 8 (nodes n 0 len)) m
+      ∙ parent_wanted whole 0 n [] 8 8 m low (omega (arith, high)) (record { before = omega (arith, low, high, all); after = omega arith })
 
   node_of_whole : (start some : ℕ) (node : TreeNode) → Contains (nodes n start some) node → HasIn text 8 (nodes n 0 len) (name node)
   node_of_whole start some node there =
@@ -103,11 +96,11 @@ module _ (text : List ℕ) (n len : ℕ) (range : n ≤ 2 ^ 64 - 1) (all : n ≤
       ]
 
 -- each slice
-pub every_slice : (piece : Piece) → piece.base ≡ 0 → piece.start ≡ 0 → length_of piece ≤ piece.len → length_of piece ≤ 2 ^ 64 - 1 → (start len : ℕ) → HasSliceOf piece start len
-every_slice piece first begin all range start len x there =
+pub every_slice : (piece : Piece) → piece.base ≡ 0 → piece.start ≡ 0 → length_of piece ≤ piece.len → (start len : ℕ) → HasSliceOf piece start len
+every_slice piece first begin all start len x there =
     let found = unnamed (nodes (length_of piece) start len) x there in
     let own : HasIn piece.text 8 (nodes (length_of piece) 0 piece.len) (name found.0) =
-    node_of_whole piece.text (length_of piece) piece.len range all start len found.0 found.1.0 in
+    node_of_whole piece.text (length_of piece) piece.len all start len found.0 found.1.0 in
     has_node piece first x
     (subst (λ (from : ℕ). HasIn piece.text 8 (nodes (length_of piece) from piece.len) x) (sym begin)
     (subst (λ (y : Node). HasIn piece.text 8 (nodes (length_of piece) 0 piece.len) y) (sym found.1.1) own))

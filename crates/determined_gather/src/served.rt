@@ -160,7 +160,5 @@ pub fn every_slice_is_served(
     requires whole { (piece_start piece.now ≡ 0) × (piece_claimed piece.now ≤ piece_len piece.now) }
     ensures { IfErr result (λ fault. fault ≡ ServeFault.Memory) }
 {
-    // For the prover alone: a length is of 64 bits.
-    let _claimed = piece.claimed();
     stored_is_served(a, seat, piece, start, len)
 }

@@ -7,7 +7,7 @@ use Rattle.std.proofs.Math.Dec.{eqb}
 use Rattle.std.proofs.lemmas.Bool.{and_parts, and_right, eqb-true}
 use Rattle.std.proofs.lemmas.Nat.Bits.{bit_at-trailing_zeros}
 use Rattle.bao_text.specs.Choice.{of_slice}
-use Rattle.bao_check.proofs.Finding.{parent_outside}
+use Rattle.bao_check.proofs.Descents.{parent_outside}
 use Rattle.bao_check.proofs.Parenting.{parent_in-some}
 use Rattle.bao_check.specs.declared.checked.Checked.{Checked}
 use Rattle.store_core.specs.declared.fault.StoreFault.{StoreFault}

@@ -1,4 +1,3 @@
-use Rattle.std.proofs.Common.{arith}
 use Rattle.store_core.specs.declared.history.Piece.{Piece}
 use Rattle.store_core.specs.Pieces.{piece_of}
 use Rattle.store_shared.specs.Seats.{fixed_of}
@@ -9,5 +8,4 @@ use Rattle.determined_gather.proofs.served.every_slice_is_served.Goals as goal
 pub stored_is_served-requires-clause-has : goal.stored_is_served-requires-clause-has
 stored_is_served-requires-clause-has c =
     let piece : Piece = piece_of (fixed_of c.args.a.now).base c.args.piece.now in
-    every_slice piece (begins c.args.a.now c.args.seat.now piece c.requires.of c.requires.ready) c.requires.whole.0 c.requires.whole.1
-    (omega (arith, c.claimed-claimed.ensures, c.claimed-claimed.type_inv)) c.args.start c.args.len
+    every_slice piece (begins c.args.a.now c.args.seat.now piece c.requires.of c.requires.ready) c.requires.whole.0 c.requires.whole.1 c.args.start c.args.len
