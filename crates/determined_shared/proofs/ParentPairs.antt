@@ -50,17 +50,50 @@ other_length : (old new later : SeatView) (group : ℕ) (piece : Piece) → AreA
     → (state_after old.seen).recorded ≢ Some (length_of piece)
 other_length old new later group piece alike did looked = (called_alone old new later (Parents group piece OtherLength) alike.alone did looked).right.1
 
+-- the mask that an answer has
+abbrev of_storing : Storing → ℕ
+of_storing OtherLength = 0
+of_storing (Stored m) = m
+
+-- parents that lone grips store
+module _ (one new one' other next other' : SeatView) (group : ℕ) (piece : Piece) (alike : AreAlike one other) (looked : LooksRound new one') (round : LooksRound next other') where
+  past_same : state_after other.seen ≡ state_after one.seen
+  past_same = ap (λ (h : List Event). state_after h) alike.seen_are
+
+  itself : (view : SeatView) → IsAlone view → AreAlike view view
+  itself view alone = record { alone = alone; fixed_are = refl; names_are = refl; seen_are = refl }
+
+  storings_one : (r s : Storing) → Called (Parents group piece r) one new → (AreAllNames one.names → AreAllParents one group piece r)
+      → Called (Parents group piece s) other next → (AreAllNames other.names → AreAllParents other group piece s) → (r ≡ s) × AreAlike one' other'
+  storings_one OtherLength OtherLength did all too also =
+      (refl, same_after one new one' other next other' (Parents group piece OtherLength) (Parents group piece OtherLength) alike did looked too round refl)
+  storings_one OtherLength (Stored n) did all too also =
+      absurd (other_length one new one' group piece (itself one alike.alone) did looked
+      (ap (λ (s : State). s.recorded) (sym past_same) ∙ stored_length other next other' group n piece (itself other (other_alone one other alike)) too round))
+  storings_one (Stored m) OtherLength did all too also =
+      absurd (other_length other next other' group piece (itself other (other_alone one other alike)) too round
+      (ap (λ (s : State). s.recorded) past_same ∙ stored_length one new one' group m piece (itself one alike.alone) did looked))
+  storings_one (Stored m) (Stored n) did all too also =
+      let is : m ≡ n = one_mask group m n piece (state_after one.seen).parents (state_after other.seen).parents (ap (λ (s : State). s.parents) past_same) (all alike.alone.all)
+      (also (other_alone one other alike).all) in (
+        ap (λ (k : ℕ). Stored k) is,
+        same_after one new one' other next other' (Parents group piece (Stored m)) (Parents group piece (Stored n)) alike did looked too round
+            (ap (λ (k : ℕ). Parents group piece (Stored k)) is),
+      )
+
+  -- the second's piece is the first's
+  pub storings_alike : (its : Piece) (r s : Storing) → its ≡ piece → Called (Parents group piece r) one new → (AreAllNames one.names → AreAllParents one group piece r)
+      → Called (Parents group its s) other next → (AreAllNames other.names → AreAllParents other group its s) → (r ≡ s) × AreAlike one' other'
+  storings_alike its r s same did all too also =
+      storings_one r s did all (subst (λ (p : Piece). Called (Parents group p s) other next) same too)
+      (subst (λ (p : Piece). AreAllNames other.names → AreAllParents other group p s) same also)
+
 -- Two lone seats.
 module _ (a b : Fixed) (one new : Gripped) (one' : SeatView) (other next : Gripped) (other' : SeatView) (group : ℕ) (piece : Checked) (alike : AreAlike one.view other.view)
     (same : a ≡ b) (looked : LooksRound new.view one') (round : LooksRound next.view other') where
-  seen_same : state_after other.view.seen ≡ state_after one.view.seen
-  seen_same = ap (λ (h : List Event). state_after h) alike.seen_are
-
-  self : AreAlike one.view one.view
-  self = record { alone = alike.alone; fixed_are = refl; names_are = refl; seen_are = refl }
-
-  self_other : AreAlike other.view other.view
-  self_other = record { alone = other_alone one.view other.view alike; fixed_are = refl; names_are = refl; seen_are = refl }
+  storings : (r s : Storing) → Called (Parents group (piece_of a.base piece) r) one.view new.view → (AreAllNames one.view.names → AreAllParents one.view group (piece_of a.base piece) r)
+      → Called (Parents group (piece_of a.base piece) s) other.view next.view → (AreAllNames other.view.names → AreAllParents other.view group (piece_of a.base piece) s) → (r ≡ s) × AreAlike one' other'
+  storings = storings_one one.view new.view one' other.view next.view other' group (piece_of a.base piece) alike looked round
 
   -- both stores have the same root, mode and first chunk
   parents_one : (r s : Result ℕ ParentsFault) → (r ≡ Err unstored.OtherRoot ↔ (¬ IsOf a piece)) → (s ≡ Err unstored.OtherRoot ↔ (¬ IsOf a piece))
@@ -69,29 +102,19 @@ module _ (a b : Fixed) (one new : Gripped) (one' : SeatView) (other next : Gripp
       → IfOk s (λ m. Called (Parents group (piece_of a.base piece) (Stored m)) other.view next.view) → IfErr s (λ e. SeatIsUnstored a group piece e other next)
       → (AreAllNames other.view.names → IfOk s (λ m. AreAllParents other.view group (piece_of a.base piece) (Stored m))) → (r ≡ s) × AreAlike one' other'
   parents_one (Ok m) (Ok n) p q did kept all too stays also =
-      let is : m ≡ n = one_mask group m n (piece_of a.base piece) (state_after one.view.seen).parents (state_after other.view.seen).parents (ap (λ (s : State). s.parents) seen_same)
-      (all alike.alone.all) (also (other_alone one.view other.view alike).all) in (
-        ap (λ (k : ℕ). Ok k) is,
-        same_after one.view new.view one' other.view next.view other' (Parents group (piece_of a.base piece) (Stored m)) (Parents group (piece_of a.base piece) (Stored n)) alike did looked too
-            round (ap (λ (k : ℕ). Parents group (piece_of a.base piece) (Stored k)) is),
-      )
+      let t = storings (Stored m) (Stored n) did all too also in (ap (λ (r : Storing). Ok (of_storing r)) t.0, t.1)
   parents_one (Ok m) (Err unstored.OtherRoot) p q did kept all too stays also =
       let never : Ok m ≡ Err unstored.OtherRoot = p.1 (q.0 refl) in cc
   parents_one (Ok m) (Err unstored.OtherLength) p q did kept all too stays also =
-      absurd (other_length other.view next.view other' group (piece_of a.base piece) self_other stays round
-      (ap (λ (s : State). s.recorded) seen_same ∙ stored_length one.view new.view one' group m (piece_of a.base piece) self did looked))
+      let never : Stored m ≡ OtherLength = (storings (Stored m) OtherLength did all stays (λ every. tt)).0 in cc
   parents_one (Err unstored.OtherRoot) (Ok n) p q none did all too stays also =
       let never : Ok n ≡ Err unstored.OtherRoot = q.1 (p.0 refl) in cc
   parents_one (Err unstored.OtherLength) (Ok n) p q none did all too stays also =
-      absurd (other_length one.view new.view one' group (piece_of a.base piece) self did looked
-      (ap (λ (s : State). s.recorded) (sym seen_same) ∙ stored_length other.view next.view other' group n (piece_of a.base piece) self_other too round))
+      let never : OtherLength ≡ Stored n = (storings OtherLength (Stored n) did (λ every. tt) too also).0 in cc
   parents_one (Err unstored.OtherRoot) (Err unstored.OtherRoot) p q none did all nobody too also =
       (refl, neither one.view one' other.view other' alike (stayed one new one' did looked) (stayed other next other' too round))
-  parents_one (Err unstored.OtherLength) (Err unstored.OtherLength) p q none did all nobody too also = (
-    refl,
-    same_after one.view new.view one' other.view next.view other' (Parents group (piece_of a.base piece) OtherLength) (Parents group (piece_of a.base piece) OtherLength) alike did looked too
-        round refl,
-  )
+  parents_one (Err unstored.OtherLength) (Err unstored.OtherLength) p q none did all nobody too also =
+      (refl, (storings OtherLength OtherLength did (λ every. tt) too (λ every. tt)).1)
   parents_one (Err unstored.OtherRoot) (Err unstored.OtherLength) p q none did all nobody too also =
       let never : Err unstored.OtherLength ≡ Err unstored.OtherRoot = q.1 (p.0 refl) in cc
   parents_one (Err unstored.OtherLength) (Err unstored.OtherRoot) p q none did all nobody too also =
@@ -203,36 +226,3 @@ claims_alike one new other next group want m n a b alike same did too all also =
           (subst (λ (v : SeatView). AreAlike (record one { storing = record { group = group; mask = m } ∷ [] }) v) (sym too) after),
       ap (λ (v : SeatView). v.storing) did ∙ ap (λ (k : ℕ). record { group = group; mask = k } ∷ []) is ∙ ap (λ (v : SeatView). v.storing) (sym too),
     )
-
--- parents that lone grips store
-module _ (one new one' other next other' : SeatView) (group : ℕ) (piece : Piece) (alike : AreAlike one other) (looked : LooksRound new one') (round : LooksRound next other') where
-  past_same : state_after other.seen ≡ state_after one.seen
-  past_same = ap (λ (h : List Event). state_after h) alike.seen_are
-
-  itself : (view : SeatView) → IsAlone view → AreAlike view view
-  itself view alone = record { alone = alone; fixed_are = refl; names_are = refl; seen_are = refl }
-
-  storings_one : (r s : Storing) → Called (Parents group piece r) one new → (AreAllNames one.names → AreAllParents one group piece r)
-      → Called (Parents group piece s) other next → (AreAllNames other.names → AreAllParents other group piece s) → (r ≡ s) × AreAlike one' other'
-  storings_one OtherLength OtherLength did all too also =
-      (refl, same_after one new one' other next other' (Parents group piece OtherLength) (Parents group piece OtherLength) alike did looked too round refl)
-  storings_one OtherLength (Stored n) did all too also =
-      absurd (other_length one new one' group piece (itself one alike.alone) did looked
-      (ap (λ (s : State). s.recorded) (sym past_same) ∙ stored_length other next other' group n piece (itself other (other_alone one other alike)) too round))
-  storings_one (Stored m) OtherLength did all too also =
-      absurd (other_length other next other' group piece (itself other (other_alone one other alike)) too round
-      (ap (λ (s : State). s.recorded) past_same ∙ stored_length one new one' group m piece (itself one alike.alone) did looked))
-  storings_one (Stored m) (Stored n) did all too also =
-      let is : m ≡ n = one_mask group m n piece (state_after one.seen).parents (state_after other.seen).parents (ap (λ (s : State). s.parents) past_same) (all alike.alone.all)
-      (also (other_alone one other alike).all) in (
-        ap (λ (k : ℕ). Stored k) is,
-        same_after one new one' other next other' (Parents group piece (Stored m)) (Parents group piece (Stored n)) alike did looked too round
-            (ap (λ (k : ℕ). Parents group piece (Stored k)) is),
-      )
-
-  -- the second's piece is the first's
-  pub storings_alike : (its : Piece) (r s : Storing) → its ≡ piece → Called (Parents group piece r) one new → (AreAllNames one.names → AreAllParents one group piece r)
-      → Called (Parents group its s) other next → (AreAllNames other.names → AreAllParents other group its s) → (r ≡ s) × AreAlike one' other'
-  storings_alike its r s same did all too also =
-      storings_one r s did all (subst (λ (p : Piece). Called (Parents group p s) other next) same too)
-      (subst (λ (p : Piece). AreAllNames other.names → AreAllParents other group p s) same also)

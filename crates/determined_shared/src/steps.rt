@@ -12,15 +12,16 @@ ghost use Rattle.store_core.specs.Histories.{state_after};
 ghost use Rattle.store_core.specs.Masks.{IsMaskOf};
 ghost use Rattle.store_core.specs.Pieces.{length_of, piece_of};
 ghost use Rattle.store_core.specs.Stores.{IsOf};
-ghost use Rattle.store_core.specs.Views.{is_storing, seat_claims};
+ghost use Rattle.store_core.specs.Views.{seat_claims};
 ghost use Rattle.store_steps.specs.Asks.{AreClaimed, AreHeldClaims, AreParentsWritten, AreWordsStored};
+ghost use Rattle.store_steps.specs.Kinds.{Owns, chunk_kind, held_in, width};
 
 use b3tree::{Hash, Mode};
 use bao_check::{Checked, Tail};
 use std::alloc::Global;
 use store_calls::{commit, commit_parents, read, serve_slice};
 use store_core::{Fixed, Missing, ServeFault, Settling, Storing};
-use store_steps::{Grip, NewFault, Words};
+use store_steps::{Grip, Item, NewFault, Words};
 
 pub fn words_new_determined(
     alloc: Global,
@@ -115,87 +116,47 @@ pub fn words_length_alone(
     (ours, theirs)
 }
 
-pub fn words_store_determined(
+pub fn words_store_determined<K: Item>(
     a: &Words,
     b: &Words,
     first: &mut Grip,
     second: &mut Grip,
-    chunk: u32,
+    item: u32,
     word: u8,
     value: u64,
 )
     requires first { IsGripOf a.now first.old }
     requires second { IsGripOf b.now second.old }
     requires same { first.old.view ≡ second.old.view }
-    requires claimed { (seat_claims first.old.view chunk ≡ true) × (seat_claims second.old.view chunk ≡ true) }
-    requires word { word < 129 }
+    requires own { Owns K.kind first.old.view item × Owns K.kind second.old.view item }
+    requires word { word < width K.kind }
     ensures { first.new.view ≡ second.new.view }
 {
-    a.store(first, chunk, word, value);
-    b.store(second, chunk, word, value);
+    a.store::<K>(first, item, word, value);
+    b.store::<K>(second, item, word, value);
 }
 
-// A word of a cell that the grip has not seen held is whatever a store may be writing there.
-pub fn words_copy_determined(
+// A word of an item that the grip has not seen held is whatever a store may be writing there.
+pub fn words_copy_determined<K: Item>(
     a: &Words,
     b: &Words,
     first: &mut Grip,
     second: &mut Grip,
-    chunk: u32,
+    item: u32,
     word: u8,
 ) -> (u64, u64)
     requires first { IsGripOf a.now first.old }
     requires second { IsGripOf b.now second.old }
     requires same { first.old.view ≡ second.old.view }
-    requires chunk { (chunk < (fixed_of a.now).capacity) × (chunk < (fixed_of b.now).capacity) }
-    requires word { word < 129 }
-    requires held { is_some ((state_after first.old.view.seen).held chunk) ≡ true }
-    ensures { result.0 ≡ result.1 }
-{
-    (a.copy(first, chunk, word), b.copy(second, chunk, word))
-}
-
-pub fn words_copy_parent_determined(
-    a: &Words,
-    b: &Words,
-    first: &mut Grip,
-    second: &mut Grip,
-    boundary: u32,
-    word: u8,
-) -> (u64, u64)
-    requires first { IsGripOf a.now first.old }
-    requires second { IsGripOf b.now second.old }
-    requires same { first.old.view ≡ second.old.view }
-    requires boundary { (boundary < (fixed_of a.now).capacity) × (boundary < (fixed_of b.now).capacity) }
-    requires word { word < 8 }
-    requires held { is_some ((state_after first.old.view.seen).parents boundary) ≡ true }
+    requires item { (item < (fixed_of a.now).capacity) × (item < (fixed_of b.now).capacity) }
+    requires word { word < width K.kind }
+    requires held { is_some (held_in K.kind (state_after first.old.view.seen) item) ≡ true }
     ensures { result.0 ≡ result.1 }
 {
     (
-        a.copy_parent(first, boundary, word),
-        b.copy_parent(second, boundary, word),
+        a.copy::<K>(first, item, word),
+        b.copy::<K>(second, item, word),
     )
-}
-
-pub fn words_store_parent_determined(
-    a: &Words,
-    b: &Words,
-    first: &mut Grip,
-    second: &mut Grip,
-    boundary: u32,
-    word: u8,
-    value: u64,
-)
-    requires first { IsGripOf a.now first.old }
-    requires second { IsGripOf b.now second.old }
-    requires same { first.old.view ≡ second.old.view }
-    requires storing { (is_storing first.old.view boundary ≡ true) × (is_storing second.old.view boundary ≡ true) }
-    requires boundary { (boundary < (fixed_of a.now).capacity) × (boundary < (fixed_of b.now).capacity) }
-    requires word { word < 8 }
-    ensures { first.new.view ≡ second.new.view }
-{
-    a.store_parent(first, boundary, word, value);
-    b.store_parent(second, boundary, word, value);
 }
 
 pub fn words_give_alone(
@@ -255,7 +216,7 @@ pub fn words_publish_alone(
     requires groups { CoversGroup a.now group × CoversGroup b.now group }
     requires piece { IsOf (fixed_of a.now) piece.now × IsOf (fixed_of b.now) piece.now }
     requires mask { AreHeldClaims first.old.view group (piece_of (fixed_of a.now).base piece.now) mask × AreHeldClaims second.old.view group (piece_of (fixed_of b.now).base piece.now) mask }
-    requires written { AreWordsStored first.old.view.written group mask (piece_of (fixed_of a.now).base piece.now) × AreWordsStored second.old.view.written group mask (piece_of (fixed_of b.now).base piece.now) }
+    requires written { AreWordsStored chunk_kind first.old.view group mask (piece_of (fixed_of a.now).base piece.now) × AreWordsStored chunk_kind second.old.view group mask (piece_of (fixed_of b.now).base piece.now) }
     ensures { AreAlike first.new.view second.new.view }
 {
     a.publish(first, group, piece, mask);

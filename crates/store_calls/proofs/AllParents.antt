@@ -1,7 +1,7 @@
 -- A seat with all names stores all parents that the piece holds and that it has not seen held.
 use Rattle.std.proofs.Common.{◌≡◌, ℕ, ◌+◌, ◌*◌, ◌/◌, ◌%◌, ◌≤◌, nat_lt, true, false, Bool, not, ◌&&◌, List, [], ◌∷◌, ◌++◌, filter, length, Option, is_some, lit<, refl, sym, ap, ◌∙◌, arith, inl, inr, append-nil, length-append, ltb-false}
 use Rattle.std.proofs.lemmas.Bool.{cases_Bool}
-use Rattle.bao_check.proofs.Finding.{parent_outside}
+use Rattle.bao_check.proofs.Descents.{parent_outside}
 use Rattle.bao_check.proofs.Parenting.{parent_in-some}
 use Rattle.bao_text.specs.Choice.{of_slice}
 use Rattle.store_core.specs.declared.history.Event.{Event}

@@ -1,15 +1,17 @@
 -- Which chunks a commit stores.
-use Rattle.std.proofs.Common.{◌≡◌, ◌↔◌, ℕ, ◌+◌, ◌*◌, ◌%◌, ◌<◌, ◌≤◌, nat_lt, Bool, true, false, not, ◌&&◌, List, Option, None, Some, is_some, IsSome, Bor, refl, sym, ap, ◌∙◌, arith, inl, inr}
+use Rattle.std.proofs.Common.{◌≡◌, ◌↔◌, ℕ, ◌%◌, ◌<◌, ◌≤◌, nat_lt, Bool, true, false, not, ◌&&◌, sym, ap, ◌∙◌, arith, inl, inr}
 use Rattle.std.specs.Int.{w64, bit_not}
 use Rattle.std.specs.Int.Bits.{bit_and}
-use Rattle.std.specs.Option.{option_copied}
-use Rattle.std.proofs.lemmas.Bool.{and_parts, cases_lt, false≢true, false_from_ne_true, le-ltb, lt-ltb}
+use Rattle.std.proofs.lemmas.Bool.{and_parts, cases_lt, false_from_ne_true, le-ltb, lt-ltb}
 use Rattle.store_core.specs.declared.history.Piece.{Piece}
 use Rattle.store_core.specs.declared.view.SeatView.{SeatView}
-use Rattle.store_core.specs.Masks.{IsMaskOf, has_bit}
+use Rattle.store_core.specs.Masks.{IsMaskOf, has_bit, in_mask}
 use Rattle.store_core.specs.Pieces.{holds_chunk}
 use Rattle.store_core.specs.Views.{seat_claims}
 use Rattle.store_steps.specs.Asks.{AreHeldClaims}
+use Rattle.store_core.proofs.Tells.{masked}
+use Rattle.store_steps.specs.Kinds.{chunk_kind}
+use Rattle.store_calls.specs.StoredCells.{AreOwnItems}
 use Rattle.store_core.proofs.Bits.{and_small, has_bit-and, has_bit-not}
 
 -- the group's chunks from number `first` on and below `after`: those below `after`, but not below `first`
@@ -36,25 +38,17 @@ span_mask group first after below_after below_first test spans until before = re
       ];
 }
 
--- the claims of which the piece has the chunk
-pub held_claims : (view : SeatView) (group claimed held : ℕ) (piece : Piece) → IsMaskOf group claimed (λ c. seat_claims view c)
-    → IsMaskOf group held (λ c. holds_chunk piece c) → AreHeldClaims view group piece (bit_and claimed held)
-held_claims view group claimed held piece ours has = record {
-  small = and_small claimed held ours.small;
-  bits = λ c at.
-      has_bit-and claimed held (c % 64) ∙ ap (λ (b : Bool). b && has_bit held (c % 64)) (ours.bits c at)
-      ∙ ap (λ (b : Bool). seat_claims view c && b) (has.bits c at);
+-- the items of two masks
+pub both_masks : (group one other : ℕ) (first second : ℕ → Bool) → IsMaskOf group one first → IsMaskOf group other second
+    → IsMaskOf group (bit_and one other) (λ n. first n && second n)
+both_masks group one other first second is also = record {
+  small = and_small one other is.small;
+  bits = λ n at. has_bit-and one other (n % 64) ∙ (λ i. is.bits n at i && also.bits n at i);
 }
 
--- a chunk of the mask is claimed, and the piece has it
-pub claimed_held : (view : SeatView) (group mask : ℕ) (piece : Piece) (j chunk : ℕ) → AreHeldClaims view group piece mask → chunk ≡ 64 * group + j → j < 64
-    → has_bit mask j ≡ true → (seat_claims view chunk ≡ true) × (holds_chunk piece chunk ≡ true)
-claimed_held view group mask piece j chunk k at below bit =
-    let place : chunk % 64 ≡ j = omega (arith, at, below) in
-    and_parts (seat_claims view chunk) (holds_chunk piece chunk)
-    (sym (k.bits chunk (omega (arith, at, below))) ∙ ap (λ (i : ℕ). has_bit mask i) place ∙ bit)
-
--- what is copied from an option is there where the option has something
-pub there : (o : Option (Bor (List ℕ))) (bytes : Option (List ℕ)) → option_copied o ≡ bytes → is_some bytes ≡ true → IsSome o
-there None bytes is some = absurd (false≢true (ap (λ (b : Option (List ℕ)). is_some b) is ∙ some))
-there (Some x) bytes is some = refl
+-- the seat may store these chunks, and the piece has them
+pub own_chunks : (view : SeatView) (group mask : ℕ) (piece : Piece) → AreHeldClaims view group piece mask → AreOwnItems chunk_kind view group mask piece
+own_chunks view group mask piece k =
+    let both : (c : ℕ) → in_mask group mask c ≡ true → (seat_claims view c ≡ true) × (holds_chunk piece c ≡ true) = λ c hit.
+    and_parts (seat_claims view c) (holds_chunk piece c) (masked group mask (λ d. seat_claims view d && holds_chunk piece d) c k hit) in
+    record { own = λ c hit. (both c hit).0; has = λ c hit. (both c hit).1 }

@@ -1,5 +1,5 @@
 -- The steps of a call that stores parents are one event.
-use Rattle.std.proofs.Common.{◌≡◌, ℕ, ◌==◌, nat_lt, true, false, Bool, not, if◌then◌else◌, List, [], ◌∷◌, ◌++◌, Option, None, Some, refl, sym, ap, subst, ◌∙◌, arith, eq-eqb}
+use Rattle.std.proofs.Common.{◌≡◌, ℕ, ◌==◌, nat_lt, true, false, Bool, not, if◌then◌else◌, List, [], ◌∷◌, ◌++◌, Option, None, Some, refl, sym, ap, subst, ◌∙◌, eq-eqb}
 use Rattle.std.specs.Option.{option_eq}
 use Rattle.std.proofs.Math.Dec.{eqb}
 use Rattle.b3tree.specs.Valid.{IsKeyed}
@@ -24,8 +24,10 @@ use Rattle.store_core.specs.Knowledge.{Called, EndsStoring, Looked, Sees, event_
 use Rattle.store_steps.specs.Words.{IsGripOf, fixed_of}
 use Rattle.store_steps.specs.declared.words.Words.{Words}
 use Rattle.store_core.proofs.Going.{called_then, sees_none, sees_then, stored_then}
-use Rattle.store_calls.specs.Parents.{AreParentsOf, SeatParentsBind}
-use Rattle.store_calls.specs.StoredCells.{HaveWords, parent_kind}
+use Rattle.store_calls.specs.Parents.{SeatParentsBind}
+use Rattle.store_steps.specs.Kinds.{parent_kind}
+use Rattle.store_calls.specs.StoredCells.{AreOwnItems, HaveWords}
+use Rattle.store_calls.proofs.Storing.{all_stored}
 
 -- what the seat has seen held is the blob's
 pub parents_bind : (words : Words) (grip : Gripped) → IsKeyed (fixed_of words).mode → IsGripOf words grip → SeatParentsBind grip.view
@@ -49,11 +51,11 @@ module _ (group mask : ℕ) (piece : Piece) (view claimed words : SeatView) (sto
   pub length_stays : (state_after words.seen).recorded ≡ (state_after view.seen).recorded
   length_stays = ap (λ (v : SeatView). (state_after v.seen).recorded) words_are
 
-  pub words_written : (fixed : Fixed) → AreParentsOf fixed group mask piece → AreParentsWritten words group mask piece
-  words_written fixed among = record {
+  pub words_written : AreOwnItems parent_kind claimed group mask piece → AreParentsWritten words group mask piece
+  words_written own = record {
     only = ap (λ (v : SeatView). v.storing) words_are;
-    held = among.held;
-    words = λ m w bytes hit holds h. has.words m w bytes hit (omega arith) holds h;
+    held = own.has;
+    words = all_stored parent_kind group mask piece claimed words has;
   }
 
 either_recorded : (s : State) (b : Bool) (some other : List Event) → (run s some).recorded ≡ s.recorded → (run s other).recorded ≡ s.recorded

@@ -13,8 +13,7 @@ use Rattle.bao_text.specs.Nodes.{TreeNode, nodes}
 use Rattle.bao_text.specs.Texts.{length_text}
 use Rattle.bao_text.proofs.NodeNaming.{names-anywhere, names-chunk, names-parent}
 use Rattle.bao_check.proofs.Lists.{All-from_members, All-member}
-use Rattle.bao_check.proofs.Locating.{IsWithin, numbers_within}
-use Rattle.bao_check.proofs.Parenting.{IsInside, boundaries_inside}
+use Rattle.bao_check.proofs.Locating.{IsInside, IsWithin, boundaries_inside, numbers_within}
 use Rattle.store_core.specs.declared.fixed.Fixed.{Fixed}
 use Rattle.store_core.specs.declared.history.Call.{Call}
 use Rattle.store_core.specs.declared.history.Call.TheVariants.{Serve}

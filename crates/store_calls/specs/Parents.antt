@@ -1,21 +1,15 @@
 -- Parents on the way, and what those are that a seat has seen held.
-use Rattle.std.specs.Prelude.{◌≡◌, ◌⊎◌, ℕ, ◌<◌, true, not, ◌&&◌, List, Some, is_some}
+use Rattle.std.specs.Prelude.{◌≡◌, ◌⊎◌, ℕ, not, ◌&&◌, List, Some, is_some}
 use Rattle.bao_text.specs.declared.walk.Node.TheVariants.{Parent}
 use Rattle.bao_check.specs.Parents.{parent_of}
-use Rattle.store_core.specs.declared.fixed.Fixed.{Fixed}
 use Rattle.store_core.specs.declared.history.Piece.{Piece}
 use Rattle.store_core.specs.declared.history.Storing.{Storing}
 use Rattle.store_core.specs.declared.history.Storing.TheVariants.{OtherLength, Stored}
 use Rattle.store_core.specs.declared.view.SeatView.{SeatView}
 use Rattle.store_core.specs.Histories.{state_after}
 use Rattle.store_core.specs.Laws.{IsBlob, CollisionOf}
-use Rattle.store_core.specs.Masks.{IsMaskOf, in_mask}
+use Rattle.store_core.specs.Masks.{IsMaskOf}
 use Rattle.store_core.specs.Pieces.{holds_parent}
-
--- the boundaries of the mask are below the capacity, and the piece holds their parents
-pub record AreParentsOf (fixed : Fixed) (group mask : ℕ) (piece : Piece) : Type 0 where
-  pub below : (m : ℕ) → in_mask group mask m ≡ true → m < fixed.capacity
-  pub held : (m : ℕ) → in_mask group mask m ≡ true → holds_parent piece m ≡ true
 
 -- Where a seat with all names that there are stores parents, they are all that the piece holds at boundaries of the group
 -- and that the seat has not seen held.

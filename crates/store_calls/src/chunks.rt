@@ -7,7 +7,7 @@ ghost use Rattle.store_steps.specs.Words.{IsGripOf};
 use crate::cell::WORD_LEN;
 use b3tree::CHUNK_LEN;
 use store_core::put_bytes;
-use store_steps::{Grip, Words};
+use store_steps::{ChunkKind, Grip, Words};
 
 // Copies `count` bytes of one word of a held chunk, or none: from the position of the buffer's index `from` on.
 fn copy_part(words: &Words, grip: &mut Grip, at: u64, out: &mut [u8], from: usize, count: usize)
@@ -25,7 +25,7 @@ fn copy_part(words: &Words, grip: &mut Grip, at: u64, out: &mut [u8], from: usiz
     let position = at as usize + from;
     let chunk = (position / CHUNK_LEN) as u32;
     let word = (position % CHUNK_LEN / WORD_LEN + 1) as u8;
-    let bytes = words.copy(grip, chunk, word).to_le_bytes();
+    let bytes = words.copy::<ChunkKind>(grip, chunk, word).to_le_bytes();
     let skip = position % WORD_LEN;
     put_bytes(out, from, &bytes[skip..skip + count]);
 }
@@ -44,7 +44,9 @@ fn copy_words(words: &Words, grip: &mut Grip, at: u64, out: &mut [u8], from: usi
     let chunk = (position / CHUNK_LEN) as u32;
     let first = position % CHUNK_LEN / WORD_LEN + 1;
     'words: for i in 0..count {
-        let bytes = words.copy(grip, chunk, (first + i) as u8).to_le_bytes();
+        let bytes = words
+            .copy::<ChunkKind>(grip, chunk, (first + i) as u8)
+            .to_le_bytes();
         put_bytes(out, from + WORD_LEN * i, &bytes);
     }
 }
@@ -69,7 +71,7 @@ pub(crate) fn copy_chunk(
     let position = at as usize + from;
     let chunk = (position / CHUNK_LEN) as u32;
     let within = position % CHUNK_LEN;
-    let size = words.copy(grip, chunk, 0) as usize;
+    let size = words.copy::<ChunkKind>(grip, chunk, 0) as usize;
     if size <= within {
         return from;
     }

@@ -12,6 +12,7 @@ mod cell;
 mod chunks;
 mod committing;
 mod groups;
+mod items;
 mod nodes;
 mod parents;
 mod reading;

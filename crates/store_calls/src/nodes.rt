@@ -13,7 +13,7 @@ use b3tree::CHUNK_LEN;
 use bao_text::{Node, PARENT_LEN};
 use std::alloc::AllocError;
 use store_core::{PARENT_WORDS, put_bytes};
-use store_steps::{Grip, Words};
+use store_steps::{Grip, ParentKind, Words};
 
 // How many bytes a node has at most.
 fn room_of(node: &Node) -> usize
@@ -36,7 +36,7 @@ fn copy_parent(words: &Words, grip: &mut Grip, boundary: u32, out: &mut [u8])
     ensures room { length out.new ≡ length out.old }
 {
     'words: for word in 0..PARENT_WORDS {
-        let bytes = words.copy_parent(grip, boundary, word).to_le_bytes();
+        let bytes = words.copy::<ParentKind>(grip, boundary, word).to_le_bytes();
         put_bytes(out, WORD_LEN * usize::from(word), &bytes);
     }
 }

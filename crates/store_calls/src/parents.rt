@@ -1,59 +1,23 @@
-ghost use Rattle.std.specs.Prelude.{◌≡◌, ◌⊎◌, ◌&&◌, ◌<◌, ℕ, [], ◌∷◌, length, nat_lt, true};
+ghost use Rattle.std.specs.Prelude.{◌≡◌, ◌⊎◌, ◌&&◌, ℕ, [], nat_lt};
 ghost use Rattle.store_core.specs.declared.history.Call.TheVariants.{Parents};
 ghost use Rattle.store_core.specs.declared.history.Storing.TheVariants.{OtherLength, Stored};
 ghost use Rattle.store_core.specs.Masks.{IsMaskOf};
 ghost use Rattle.store_core.specs.Pieces.{holds_parent, piece_of};
 ghost use Rattle.store_core.specs.Stores.{IsOf};
-ghost use Rattle.store_core.specs.Views.{is_storing};
-ghost use Rattle.store_calls.specs.Parents.{AreAllParents, AreParentsOf, SeatParentsBind};
-ghost use Rattle.store_calls.specs.StoredCells.{HasWords, HaveWords, parent_kind};
+ghost use Rattle.store_calls.specs.Parents.{AreAllParents, SeatParentsBind};
 ghost use Rattle.store_core.specs.Knowledge.{AreAllNames, Called};
 ghost use Rattle.store_steps.specs.Words.{CoversGroup, IsGripOf, fixed_of};
 
-use crate::cell::{WORD_LEN, whole_word};
+use crate::items::store_items;
 use bao_check::Checked;
-use store_core::{GROUP_LEN, PARENT_WORDS, Storing, has_bit, mask_below};
-use store_steps::{Grip, Words};
+use store_core::{GROUP_LEN, Storing, mask_below};
+use store_steps::{Grip, ParentKind, Words};
 
 // The mask of the group's boundaries below the capacity of which the piece holds the parent.
 fn parents_in(piece: &Checked<'_>, group: u32, capacity: u32) -> u64
     ensures { IsMaskOf group result (λ m. nat_lt m capacity && holds_parent (piece_of 0 piece.now) m) }
 {
     mask_below(group, u64::from(capacity)) & piece.parents_of(u64::from(group))
-}
-
-// Stores the parent at a boundary that the grip is storing, with these bytes.
-fn store_parent(words: &Words, grip: &mut Grip, boundary: u32, bytes: &[u8])
-    requires of { IsGripOf words.now grip.old }
-    requires storing { is_storing grip.old.view boundary ≡ true }
-    requires boundary { boundary < (fixed_of words.now).capacity }
-    requires bytes { length bytes.now ≡ 64 }
-    ensures of { IsGripOf words.now grip.new }
-    ensures stored { HasWords parent_kind boundary bytes.now 8 grip.old.view grip.new.view }
-{
-    for word in 0..PARENT_WORDS {
-        let value = whole_word(bytes, WORD_LEN * usize::from(word));
-        words.store_parent(grip, boundary, word, value);
-    }
-}
-
-// Stores the parents at the group's boundaries of the mask, which the grip is storing.
-fn store_parents(words: &Words, grip: &mut Grip, group: u32, piece: &Checked<'_>, mask: u64)
-    requires of { IsGripOf words.now grip.old }
-    requires group { CoversGroup words.now group }
-    requires storing { grip.old.view.storing ≡ record { group = group; mask = mask } ∷ [] }
-    requires mask { AreParentsOf (fixed_of words.now) group mask (piece_of (fixed_of words.now).base piece.now) }
-    ensures of { IsGripOf words.now grip.new }
-    ensures stored { HaveWords parent_kind group mask (piece_of (fixed_of words.now).base piece.now) 64 grip.old.view grip.new.view }
-{
-    let start = GROUP_LEN as u64 * u64::from(group);
-    for j in 0..GROUP_LEN {
-        if has_bit(mask, j) {
-            let boundary = start + j as u64;
-            let bytes = piece.parent(boundary).unwrap();
-            store_parent(words, grip, boundary as u32, bytes);
-        }
-    }
 }
 
 /// Stores parents of a group of boundaries, those that the piece holds, and answers their mask: bit j stands for boundary
@@ -90,7 +54,7 @@ pub fn commit_parents(words: &Words, grip: &mut Grip, group: u32, piece: &Checke
     }
     let want = parents_in(piece, group, fixed.capacity);
     let mask = words.claim_parents(grip, group, want);
-    store_parents(words, grip, group, piece, mask);
+    store_items::<ParentKind>(words, grip, group, piece, mask);
     words.publish_parents(grip, group, piece, mask);
     Storing::Stored(mask)
 }

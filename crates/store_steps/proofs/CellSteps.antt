@@ -28,6 +28,7 @@ use Rattle.store_core.proofs.MachineInvariants.{seat_claim}
 use Rattle.store_core.proofs.StepEvents.{shown_or}
 use Rattle.store_core.proofs.Tells.{masked}
 use Rattle.store_steps.specs.Asks.{AreWordsStored}
+use Rattle.store_steps.specs.Kinds.{chunk_kind}
 use Rattle.store_steps.specs.Layout.{cell_at, cell_place, claim_place, held_word, length_place}
 use Rattle.store_steps.specs.Rule.{ViewFits, RuleHolds}
 use Rattle.store_steps.specs.Simulates.{PublishIsPublish, StoreIsWrite}
@@ -133,7 +134,7 @@ publish_is_publish fixed pieces s m id group mask piece view new here there curr
     let both : (c : ℕ) → in_mask group mask c ≡ true → (seat_has m id c ≡ true) × (current_holds (m.seat id).piece c ≡ true) = λ c hit.
     let parts = and_parts (seat_has m id c) (current_holds (m.seat id).piece c) (masked group mask (λ c. seat_has m id c && current_holds (m.seat id).piece c) c right.2 hit) in
     (parts.0, parts.1) in
-    let all_written : AreWordsStored view.written group mask piece = λ c w bytes hit has below.
+    let all_written : AreWordsStored chunk_kind view group mask piece = λ c w bytes hit has below.
     let its = both c hit in
     let of : c / 64 ≡ group = eqb-true (c / 64) group (and_parts (c / 64 == group) (has_bit mask (c % 64)) hit).0 in
     let wrote : (m.seat id).written c w ≡ true = wrote_all c w of its.0 its.1 below in

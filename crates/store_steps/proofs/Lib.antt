@@ -18,7 +18,6 @@ pub mod Parting
 pub mod Meeting
 pub mod Wholes
 pub mod LastLoad
-pub mod OneByte
 pub mod Simulating
 pub mod ClaimSteps
 pub mod CellSteps

@@ -1,5 +1,5 @@
 -- Loads: of a held word, of the length word, and of a word of a chunk's cell or of a parent.
-use Rattle.std.proofs.Common.{ne_eqb, ◌≡◌, ℕ, ◌+◌, ◌*◌, ◌-◌, ◌%◌, ◌<◌, ◌==◌, false, List, [], ◌∷◌, Option, None, Some, slice_index, refl, sym, ap, ◌∙◌, arith, Bool, true, if◌then◌else◌, ◌≢◌, ◌/◌, nat_lt, ◌||◌, is_none, is_some, inl, inr, eq-eqb, eqb-true}
+use Rattle.std.proofs.Common.{ne_eqb, ◌++◌, ◌≡◌, ℕ, ◌+◌, ◌*◌, ◌-◌, ◌%◌, ◌<◌, ◌==◌, false, List, [], ◌∷◌, Option, None, Some, slice_index, refl, sym, ap, ◌∙◌, arith, Bool, true, if◌then◌else◌, ◌≢◌, ◌/◌, nat_lt, ◌||◌, is_none, is_some, inl, inr, eq-eqb, eqb-true}
 use mathlib.Core.Option.{some}
 use lib.ListN.{get_elem?}
 use Rattle.atomic_table.specs.Table.{State as Table}
@@ -7,15 +7,16 @@ use Rattle.store_core.specs.declared.fixed.Fixed.{Fixed}
 use Rattle.store_core.specs.declared.history.Call.TheVariants.{Length, Read, Parents, Serve}
 use Rattle.store_core.specs.declared.history.Event.{Event}
 use Rattle.store_core.specs.declared.view.SeatView.{SeatView}
-use Rattle.store_core.specs.Histories.{AreLegalFrom, run, state_after}
+use Rattle.store_core.specs.Histories.{AreLegalFrom, IsLegal, run, state_after}
 use Rattle.store_core.specs.Machine.{groups}
 use Rattle.store_core.specs.Masks.{has_bit, in_mask}
 use Rattle.store_core.specs.Names.{Name}
 use Rattle.store_core.specs.States.{State, is_held, read_bytes}
 use Rattle.store_core.specs.Views.{names_of}
 use Rattle.store_core.proofs.Lasting.{held_lasts}
-use Rattle.store_steps.specs.Layout.{cell_place, held_word, length_code, length_place, parent_word_place}
-use Rattle.store_steps.specs.Plays.{LoadsLength, CopiesWord, Loads, length_in, CopiesParent, LoadsNode, LoadsToServe, LoadsToStore}
+use Rattle.store_steps.specs.Kinds.{Kind, chunk_kind, held_in, parent_kind, width, word_of, word_place}
+use Rattle.store_steps.specs.Layout.{held_word, length_code, length_place}
+use Rattle.store_steps.specs.Plays.{LoadsLength, CopiesWord, Loads, length_in, LoadsNode, LoadsToServe, LoadsToStore}
 use Rattle.store_steps.specs.Reads.{is_last, read_events}
 use Rattle.store_steps.specs.Rule.{RuleHolds}
 use Rattle.store_core.specs.Knowledge.{event_of}
@@ -80,6 +81,12 @@ none_after group piece s names =
     ap (λ (b : Bool). if b then parent_bytes piece m else s.parents m) (no_boundary group m) in
     λ i. record s { parents = λ m. each m i }
 
+-- an item that is held stays held, with the same bytes
+item_lasts : (kind : Kind) (fixed : Fixed) (history more : List Event) (item : ℕ) (bytes : List ℕ) → IsLegal fixed (history ++ more)
+    → held_in kind (state_after history) item ≡ Some bytes → held_in kind (state_after (history ++ more)) item ≡ Some bytes
+item_lasts chunk_kind fixed history more item bytes legal is = held_lasts fixed history more item bytes legal is
+item_lasts parent_kind fixed history more item bytes legal is = parent_lasts fixed history more item bytes legal is
+
 module _ (fixed : Fixed) (s : Table Unit (List SeatView)) (k : RuleHolds fixed s) (id : ℕ) (view : SeatView) (seat : get_elem? s.views id ≡ some (view ∷ [])) where
   abbrev state : State
   state = state_after k.history
@@ -114,15 +121,22 @@ module _ (fixed : Fixed) (s : Table Unit (List SeatView)) (k : RuleHolds fixed s
         told = record { between = t.told.0.between; goes_on = t.told.0.goes_on; claims_are = t.told.0.claims_are; written_are = t.told.0.written_are; storing_is = t.told.0.storing_is };
       }
 
-  pub copy_steps : (chunk w : ℕ) → w < 129 → Steps fixed s id (cell_place fixed (129 * chunk + w)) (slice_index s.words (cell_place fixed (129 * chunk + w)))
-      (λ new. CopiesWord chunk w (slice_index s.words (cell_place fixed (129 * chunk + w))) view new)
-  copy_steps chunk w below = record {
+  -- what a word of a held item is
+  word_held : (kind : Kind) (item w : ℕ) (bytes : List ℕ) → held_in kind state item ≡ Some bytes → w < width kind
+      → slice_index s.words (word_place kind fixed (width kind * item + w)) ≡ word_of kind bytes w
+  word_held chunk_kind item w bytes held below = k.words.cells item w bytes held below
+  word_held parent_kind item w bytes held below = k.parents.stand.cells item w bytes held below
+
+  pub copy_steps : (kind : Kind) (item w : ℕ) → w < width kind
+      → Steps fixed s id (word_place kind fixed (width kind * item + w)) (slice_index s.words (word_place kind fixed (width kind * item + w)))
+      (λ new. CopiesWord kind item w (slice_index s.words (word_place kind fixed (width kind * item + w))) view new)
+  copy_steps kind item w below = record {
     new = view;
-    kept = still_step fixed s k id view seat (cell_place fixed (129 * chunk + w));
+    kept = still_step fixed s k id view seat (word_place kind fixed (width kind * item + w));
     told = record {
       same = refl;
-      finds = λ bytes held.
-          k.words.cells chunk w bytes (still fixed s k id view seat (λ t. t.held chunk ≡ Some bytes) (λ more legal is. held_lasts fixed view.seen more chunk bytes legal is) held) below;
+      finds = λ bytes held. word_held kind item w bytes
+          (still fixed s k id view seat (λ t. held_in kind t item ≡ Some bytes) (λ more legal is. item_lasts kind fixed view.seen more item bytes legal is) held) below;
     };
   }
 
@@ -186,15 +200,3 @@ module _ (fixed : Fixed) (s : Table Unit (List SeatView)) (k : RuleHolds fixed s
         kept = t.kept;
         told = record { looked = t.told.0; finds = length_found ∙ ap (λ (t : State). t.recorded) (sym t.told.1) };
       }
-
-  pub copy_parent_steps : (m w : ℕ) → w < 8 → Steps fixed s id (parent_word_place fixed (8 * m + w)) (slice_index s.words (parent_word_place fixed (8 * m + w)))
-      (λ new. CopiesParent m w (slice_index s.words (parent_word_place fixed (8 * m + w))) view new)
-  copy_parent_steps m w below = record {
-    new = view;
-    kept = still_step fixed s k id view seat (parent_word_place fixed (8 * m + w));
-    told = record {
-      same = refl;
-      finds = λ bytes held. k.parents.stand.cells m w bytes
-          (still fixed s k id view seat (λ t. t.parents m ≡ Some bytes) (λ more legal is. parent_lasts fixed view.seen more m bytes legal is) held) below;
-    };
-  }

@@ -23,7 +23,7 @@ use Rattle.store_steps.specs.Layout.{cell_at, cell_place, parents_place}
 use Rattle.store_steps.specs.Rule.{AreParentsKept, RuleHolds}
 use Rattle.store_core.specs.Knowledge.{EndsStoring, event_of}
 use Rattle.store_steps.proofs.WrittenWords.{aside_stands, left}
-use Rattle.store_steps.proofs.StepViews.{AreStored, Steps, claims_now, fitting, goes_on, quiet_step, seen_step, seen_then}
+use Rattle.store_steps.proofs.StepViews.{CellsAreStored, Steps, claims_now, fitting, goes_on, quiet_step, seen_step, seen_then}
 
 module _ (fixed : Fixed) (s : Table Unit (List SeatView)) (k : RuleHolds fixed s) (id : ℕ) (view : SeatView) (seat : get_elem? s.views id ≡ some (view ∷ []))
     (i n : ℕ) (high : parents_place fixed ≤ i) where
@@ -39,7 +39,7 @@ module _ (fixed : Fixed) (s : Table Unit (List SeatView)) (k : RuleHolds fixed s
       left s.words i n (cell_place fixed number) (λ e. omega (arith, e, below, high))
 
   -- what the seat stored stands there still
-  stored_aside : AreStored fixed s k id view seat view.written now (set s.words i n)
+  stored_aside : CellsAreStored fixed s k id view seat view.written now (set s.words i n)
   stored_aside number value is =
       let w = (fitting fixed s k id view seat).written number value is in (w.0, cells_aside number (claims-claimed (names_of view) now (number / 129) w.0) ∙ w.1)
 

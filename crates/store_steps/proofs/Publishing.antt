@@ -21,6 +21,7 @@ use Rattle.store_core.specs.States.{State, claims, is_claimed, is_held}
 use Rattle.store_core.specs.Views.{names_of, is_boundary, is_storing}
 use Rattle.store_core.proofs.Tells.{claims-claimed, masked}
 use Rattle.store_steps.specs.Asks.{AreHeldClaims, AreWordsStored, AreParentsWritten}
+use Rattle.store_steps.specs.Kinds.{chunk_kind}
 use Rattle.store_steps.specs.Layout.{cell_at, claim_place, length_place, parent_at, parent_claim_place, parent_held_place, parent_word, parent_word_place}
 use Rattle.store_steps.specs.Plays.{Publishes, PublishesParents}
 use Rattle.store_steps.specs.Rule.{RuleHolds, StandFor, FitsParents, StandForParents, StoresAt}
@@ -38,7 +39,7 @@ use Rattle.store_steps.proofs.Storers.{stores_on}
 
 module _ (fixed : Fixed) (s : Table Unit (List SeatView)) (k : RuleHolds fixed s) (id : ℕ) (view : SeatView) (seat : get_elem? s.views id ≡ some (view ∷ []))
     (group mask : ℕ) (piece : Piece) (there : group < groups fixed) (accepted : IsAcceptedPiece fixed piece) (ours : AreHeldClaims view group piece mask)
-    (written : AreWordsStored view.written group mask piece) where
+    (written : AreWordsStored chunk_kind view group mask piece) where
   abbrev found : ℕ
   found = slice_index s.words group
 

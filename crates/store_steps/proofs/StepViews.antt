@@ -1,5 +1,5 @@
 -- What a step comes to: a new view with which the rule holds, of which the step tells.
-use Rattle.std.proofs.Common.{◌≡◌, ℕ, ◌/◌, ◌^◌, ◌<◌, true, false, List, [], ◌∷◌, ◌++◌, length, Some, slice_index, set, refl, sym, ap, subst, ◌∙◌}
+use Rattle.std.proofs.Common.{◌≡◌, ℕ, ◌/◌, ◌^◌, ◌<◌, true, false, List, [], ◌∷◌, ◌++◌, length, slice_index, set, refl, sym, ap, subst, ◌∙◌}
 use mathlib.Core.Option.{some}
 use lib.ListN.{get_elem?}
 use Rattle.std.proofs.lemmas.List.{append-nil, set-get_or}
@@ -14,14 +14,15 @@ use Rattle.store_core.specs.declared.view.StoredWord.{StoredWord}
 use Rattle.store_core.specs.Events.{IsRightReply, after_call}
 use Rattle.store_core.specs.Histories.{AreLegalFrom, IsLegal, events_of, is_by, run, state_after}
 use Rattle.store_core.specs.States.{State, claims, empty, is_claimed}
-use Rattle.store_core.specs.Views.{mine, names_of, seat_claims, stored, written_after}
+use Rattle.store_core.specs.Views.{mine, names_of, seat_claims, written_after}
 use Rattle.store_core.proofs.Joining.{claims_continued, continued}
 use Rattle.store_core.proofs.Tells.{claims-claimed}
 use Rattle.store_core.proofs.Lasting.{legal_is_sound, legal-join, run-append}
 use Rattle.store_steps.specs.Grips.{first_of}
+use Rattle.store_steps.specs.Kinds.{chunk_kind}
 use Rattle.store_steps.specs.Layout.{cell_at, parents_place}
 use Rattle.store_steps.specs.Plays.{OfOne}
-use Rattle.store_steps.specs.Rule.{AreParentsKept, ViewFits, RuleHolds, StandFor}
+use Rattle.store_steps.specs.Rule.{AreParentsKept, AreStored, ViewFits, RuleHolds, StandFor}
 use Rattle.store_core.specs.Knowledge.{Did, GoesOn, Looked, event_of}
 use Rattle.store_steps.proofs.Calls.{claims_after-same, claims_then, least_among, own_all, shares_itself}
 use Rattle.store_steps.proofs.Keeping.{its, kept_step, parents_kept}
@@ -100,8 +101,8 @@ module _ (fixed : Fixed) (s : Table Unit (List SeatView)) (k : RuleHolds fixed s
   }
 
   -- the words that count as stored are of chunks that it claims in this state, and stand in these words' cells
-  abbrev pub AreStored : List StoredWord → State → List ℕ → Type 0
-  AreStored written t later = (number value : ℕ) → stored written number ≡ Some value → (claims (names_of view) t (number / 129) ≡ true) × (cell_at fixed later number ≡ value)
+  abbrev pub CellsAreStored : List StoredWord → State → List ℕ → Type 0
+  CellsAreStored written t later = AreStored chunk_kind fixed (λ c. claims (names_of view) t c) written later
 
   -- the cells of others' claims are left
   abbrev pub LeavesOthers : List ℕ → Type 0
@@ -110,7 +111,7 @@ module _ (fixed : Fixed) (s : Table Unit (List SeatView)) (k : RuleHolds fixed s
   -- A step with events of its own, which lead from all that happened to a state: the words stand for it.
   pub seen_step : (own : List Event) (t : State) → run now own ≡ t → AreLegalFrom fixed now own → AreBy (names_of view) own
       → (written : List StoredWord) (storing : List Boundaries) (parent_words : List StoredWord) (i n : ℕ) → StandFor fixed (set s.words i n) t
-      → AreStored written t (set s.words i n) → LeavesOthers (set s.words i n)
+      → CellsAreStored written t (set s.words i n) → LeavesOthers (set s.words i n)
       → AreParentsKept fixed (set s.words i n) (set s.views id (seen_then own written storing parent_words ∷ [])) t.parents
       → RuleHolds fixed (stepped s i n id [] (seen_then own written storing parent_words ∷ []) keeps)
   seen_step own t leads legal by written storing parent_words i n words stand cells parents =
@@ -130,7 +131,7 @@ module _ (fixed : Fixed) (s : Table Unit (List SeatView)) (k : RuleHolds fixed s
   -- stand in cells of its claims, and the cells of others' claims are left.
   pub did_step : (call : Call) (i n : ℕ) → i < parents_place fixed → (after_call (names_of view) call now).parents ≡ now.parents → IsRightReply fixed now (names_of view) call
       → StandFor fixed (set s.words i n) (after_call (names_of view) call now)
-      → AreStored (written_after call view.written) (after_call (names_of view) call now) (set s.words i n) → LeavesOthers (set s.words i n)
+      → CellsAreStored (written_after call view.written) (after_call (names_of view) call now) (set s.words i n) → LeavesOthers (set s.words i n)
       → Steps fixed s id i n (λ new. Did call view new)
   did_step call i n low same right words written cells =
       let own : List Event = event_of view call ∷ [] in
@@ -153,7 +154,7 @@ module _ (fixed : Fixed) (s : Table Unit (List SeatView)) (k : RuleHolds fixed s
 
   -- A step with no event: the seat sees nothing new, and what it stored and is storing changes at most.
   pub quiet_step : (written : List StoredWord) (storing : List Boundaries) (parent_words : List StoredWord) (i n : ℕ) → StandFor fixed (set s.words i n) now
-      → AreStored written now (set s.words i n) → LeavesOthers (set s.words i n)
+      → CellsAreStored written now (set s.words i n) → LeavesOthers (set s.words i n)
       → AreParentsKept fixed (set s.words i n) (set s.views id (record view { written = written; storing = storing; parent_words = parent_words } ∷ [])) now.parents
       → RuleHolds fixed (stepped s i n id [] (record view { written = written; storing = storing; parent_words = parent_words } ∷ []) keeps)
   quiet_step written storing parent_words i n words stand cells parents =
@@ -170,7 +171,7 @@ module _ (fixed : Fixed) (s : Table Unit (List SeatView)) (k : RuleHolds fixed s
       (subst (λ (h : List Event). AreParentsKept fixed (set s.words i n) (set s.views id (new ∷ [])) (state_after h).parents) (sym whole) parents)
 
   pub silent_step : (written : List StoredWord) (i n : ℕ) → LeavesParents fixed s.words (set s.words i n) → StandFor fixed (set s.words i n) now
-      → AreStored written now (set s.words i n) → LeavesOthers (set s.words i n) → RuleHolds fixed (stepped s i n id [] (record view { written = written } ∷ []) keeps)
+      → CellsAreStored written now (set s.words i n) → LeavesOthers (set s.words i n) → RuleHolds fixed (stepped s i n id [] (record view { written = written } ∷ []) keeps)
   silent_step written i n leaves words stand cells = quiet_step written view.storing view.parent_words i n words stand cells
       (parents_kept fixed s k id view (record view { written = written }) seat refl (set s.words i n) leaves now.parents refl refl refl)
 

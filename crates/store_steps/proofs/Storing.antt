@@ -6,7 +6,7 @@ use lib.ListN.{get_elem?}
 use Rattle.atomic_table.specs.Table.{State as Table}
 use Rattle.store_core.specs.declared.fixed.Fixed.{Fixed}
 use Rattle.store_core.specs.declared.view.SeatView.{SeatView}
-use Rattle.store_core.specs.Histories.{state_after}
+use Rattle.store_core.specs.Histories.{IsLegal, state_after}
 use Rattle.store_core.specs.Laws.{IsSound}
 use Rattle.store_core.specs.States.{State, claims}
 use Rattle.store_core.specs.Views.{names_of, seat_claims, is_storing}
@@ -18,9 +18,9 @@ use Rattle.store_steps.specs.Rule.{RuleHolds, FitsParents, StandForParents}
 use Rattle.store_steps.proofs.Giving.{not_held}
 use Rattle.store_steps.proofs.ParentsStanding.{leaves_low, same_seat}
 use Rattle.store_steps.proofs.WrittenWords.{cells_stand, left, stored_more, bits_left}
-use Rattle.store_steps.proofs.StepViews.{Steps, fitting, silent_step, claims_now}
+use Rattle.store_steps.proofs.StepViews.{Steps, claimed_low, fitting, silent_step, claims_now}
 use Rattle.store_core.specs.declared.view.StoredWord.{StoredWord}
-use Rattle.store_steps.specs.Plays.{StoresParent}
+use Rattle.store_steps.specs.Kinds.{Kind, Owns, chunk_kind, parent_kind, width, word_place}
 use Rattle.store_steps.proofs.Keeping.{its, parents_then}
 use Rattle.store_steps.proofs.ParentsAside.{aside_step}
 use Rattle.store_steps.proofs.Storers.{stores_on}
@@ -51,8 +51,8 @@ module _ (fixed : Fixed) (s : Table Unit (List SeatView)) (k : RuleHolds fixed s
   stays : (other : ℕ) → other ≢ number → cell_at fixed later other ≡ cell_at fixed s.words other
   stays other differs = left s.words (cell_place fixed number) value (cell_place fixed other) (λ e. differs (omega (arith, e)))
 
-  pub store_steps : Steps fixed s id (cell_place fixed number) value (λ new. Stores chunk w value view new)
-  store_steps = record {
+  chunk_steps : Steps fixed s id (cell_place fixed number) value (λ new. Stores chunk_kind chunk w value view new)
+  chunk_steps = record {
     new = record view { written = record { number = number; value = value } ∷ view.written };
     kept = silent_step fixed s k id view seat (record { number = number; value = value } ∷ view.written) (cell_place fixed number) value
         (leaves_low fixed s.words (cell_place fixed number) value (omega (arith, low)))
@@ -68,11 +68,11 @@ module _ (fixed : Fixed) (s : Table Unit (List SeatView)) (k : RuleHolds fixed s
   abbrev place_number : ℕ
   place_number = 8 * m + w
 
-  abbrev word_place : ℕ
-  word_place = parent_word_place fixed place_number
+  abbrev place : ℕ
+  place = parent_word_place fixed place_number
 
   abbrev words_after : List ℕ
-  words_after = set s.words word_place value
+  words_after = set s.words place value
 
   abbrev parents : ℕ → Option (List ℕ)
   parents = (state_after k.history).parents
@@ -96,12 +96,12 @@ module _ (fixed : Fixed) (s : Table Unit (List SeatView)) (k : RuleHolds fixed s
   of_boundary other e = omega (arith, e, cell)
 
   cells_left : (other : ℕ) → other ≢ place_number → parent_at fixed words_after other ≡ parent_at fixed s.words other
-  cells_left other differs = left s.words word_place value (parent_word_place fixed other) (λ e. differs (omega (arith, e)))
+  cells_left other differs = left s.words place value (parent_word_place fixed other) (λ e. differs (omega (arith, e)))
 
   parents_stand : StandForParents fixed words_after parents k.parents.storer
   parents_stand = record {
-    held = bits_left fixed (parent_held_place fixed) s.words (λ n. is_some (parents n)) word_place value (λ g below e. omega (arith, e, below)) k.parents.stand.held;
-    claimed = bits_left fixed (parent_claim_place fixed) s.words (λ n. is_some (parents n) || is_some (k.parents.storer n)) word_place value
+    held = bits_left fixed (parent_held_place fixed) s.words (λ n. is_some (parents n)) place value (λ g below e. omega (arith, e, below)) k.parents.stand.held;
+    claimed = bits_left fixed (parent_claim_place fixed) s.words (λ n. is_some (parents n) || is_some (k.parents.storer n)) place value
         (λ g below e. omega (arith, e, below)) k.parents.stand.claimed;
     cells = λ n v bytes held below.
         cells_left (8 * n + v) (λ e.
@@ -119,12 +119,23 @@ module _ (fixed : Fixed) (s : Table Unit (List SeatView)) (k : RuleHolds fixed s
         (omega (arith, its_old.low m ours, cell, k.words.count)) (subst (λ (b : ℕ). is_storing view b ≡ true) (sym (of_boundary place_number refl)) ours) its_old.written;
   }
 
-  pub store_parent_steps : Steps fixed s id word_place value (λ new. StoresParent m w value view new)
-  store_parent_steps = record {
+  parent_steps : Steps fixed s id place value (λ new. Stores parent_kind m w value view new)
+  parent_steps = record {
     new = new;
-    kept = aside_step fixed s k id view seat word_place value (omega arith) view.storing words_then
+    kept = aside_step fixed s k id view seat place value (omega arith) view.storing words_then
         (parents_then fixed s k id view new seat refl words_after parents k.parents.storer parents_stand its_fit (λ b i j other is. is)
         (λ n i j other is. cells_left n (λ e. other (same_seat i j id 0 (sym is ∙ ap (λ (b : ℕ). k.parents.storer b) (of_boundary n e) ∙ owner))))
         (λ b i j is. stores_on s.views id view new seat b (λ h. h) i j (k.parents.by b i j is)));
     told = refl;
   }
+
+pub store_steps : (fixed : Fixed) (s : Table Unit (List SeatView)) → RuleHolds fixed s → (id : ℕ) (view : SeatView) → get_elem? s.views id ≡ some (view ∷ [])
+    → (kind : Kind) (item w value : ℕ) → w < width kind → Owns kind view item
+    → Steps fixed s id (word_place kind fixed (width kind * item + w)) value (λ new. Stores kind item w value view new)
+store_steps fixed s k id view seat chunk_kind item w value below own = chunk_steps fixed s k id view seat item w value below own
+store_steps fixed s k id view seat parent_kind item w value below own = parent_steps fixed s k id view seat item w value below own.0
+
+-- what a view may store lies below the capacity
+pub owned_low : (kind : Kind) (view : SeatView) → IsLegal view.fixed view.seen → (item : ℕ) → Owns kind view item → item < view.fixed.capacity
+owned_low chunk_kind view legal item own = claimed_low view legal item own
+owned_low parent_kind view legal item own = own.1

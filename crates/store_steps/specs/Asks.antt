@@ -2,12 +2,10 @@
 use Rattle.std.specs.Prelude.{◌≡◌, ℕ, ◌+◌, ◌*◌, ◌%◌, ◌<◌, true, ◌&&◌, List, [], ◌∷◌, Some}
 use Rattle.store_core.specs.declared.history.Piece.{Piece}
 use Rattle.store_core.specs.declared.view.SeatView.{SeatView}
-use Rattle.store_core.specs.declared.view.StoredWord.{StoredWord}
-use Rattle.store_core.specs.Cells.{cell_word}
 use Rattle.store_core.specs.Masks.{IsMaskOf, has_bit, in_mask}
-use Rattle.store_core.specs.Pieces.{chunk_bytes, holds_chunk, holds_parent, parent_bytes}
+use Rattle.store_core.specs.Pieces.{holds_chunk, holds_parent}
 use Rattle.store_core.specs.Views.{seat_claims, stored}
-use Rattle.store_steps.specs.Layout.{parent_word}
+use Rattle.store_steps.specs.Kinds.{Kind, bytes_in, parent_kind, width, word_of, words_of}
 
 -- the chunks of a mask that the seat claims
 abbrev pub AreClaimed : SeatView → ℕ → ℕ → ℕ → Type 0
@@ -17,14 +15,13 @@ AreClaimed view group mask given = IsMaskOf group given (λ c. has_bit mask (c %
 abbrev pub AreHeldClaims : SeatView → ℕ → Piece → ℕ → Type 0
 AreHeldClaims view group piece mask = IsMaskOf group mask (λ c. seat_claims view c && holds_chunk piece c)
 
+-- of each item of the mask all words were stored, with the piece's bytes
+abbrev pub AreWordsStored : Kind → SeatView → ℕ → ℕ → Piece → Type 0
+AreWordsStored kind view group mask piece = (n w : ℕ) (bytes : List ℕ) → in_mask group mask n ≡ true → bytes_in kind piece n ≡ Some bytes → w < width kind
+    → stored (words_of kind view) (width kind * n + w) ≡ Some (word_of kind bytes w)
+
 -- what the seat is storing are these boundaries of the group, the piece holds their parents, and of each all 8 words were stored
 pub record AreParentsWritten (view : SeatView) (group mask : ℕ) (piece : Piece) : Type 0 where
   pub only : view.storing ≡ record { group = group; mask = mask } ∷ []
   pub held : (m : ℕ) → in_mask group mask m ≡ true → holds_parent piece m ≡ true
-  pub words : (m w : ℕ) (bytes : List ℕ) → in_mask group mask m ≡ true → parent_bytes piece m ≡ Some bytes → w < 8
-      → stored view.parent_words (8 * m + w) ≡ Some (parent_word bytes w)
-
--- of each chunk of the mask all 129 words were stored
-abbrev pub AreWordsStored : List StoredWord → ℕ → ℕ → Piece → Type 0
-AreWordsStored written group mask piece = (c w : ℕ) (bytes : List ℕ) → in_mask group mask c ≡ true → chunk_bytes piece c ≡ Some bytes → w < 129
-    → stored written (129 * c + w) ≡ Some (cell_word bytes w)
+  pub words : AreWordsStored parent_kind view group mask piece

@@ -1,4 +1,5 @@
 pub mod Layout
+pub mod Kinds
 pub mod Rule
 pub mod Grips
 pub mod Tells

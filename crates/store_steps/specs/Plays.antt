@@ -1,5 +1,5 @@
 -- What each kind of step tells, as the table asks it: of the step, the seat before, the number found and the seat after.
-use Rattle.std.specs.Prelude.{◌≡◌, ℕ, ◌+◌, ◌-◌, ◌*◌, ◌/◌, ◌%◌, ◌==◌, Bool, not, ◌&&◌, if◌then◌else◌, List, [], ◌∷◌, Option, None, Some, is_some, bit_and}
+use Rattle.std.specs.Prelude.{◌≡◌, ℕ, ◌-◌, ◌/◌, ◌%◌, ◌==◌, Bool, not, ◌&&◌, if◌then◌else◌, List, [], ◌∷◌, Option, None, Some, is_some, bit_and}
 use Rattle.std.specs.Int.{w64, bit_not}
 use Rattle.atomic_table.specs.Table.{Me}
 use Rattle.bao_text.specs.declared.walk.Node.{Node}
@@ -14,9 +14,10 @@ use Rattle.store_core.specs.Pieces.{length_of}
 use Rattle.store_core.specs.Serves.{node_held}
 use Rattle.store_core.specs.Views.{mine, split_first, split_second}
 use Rattle.store_core.specs.Knowledge.{AreAllNames, AreMet, ArePartsOf, Did, EndsStoring, IsMerged, Looked}
+use Rattle.store_steps.specs.Kinds.{Kind}
 use Rattle.store_steps.specs.Reads.{read_events}
 use Rattle.store_steps.specs.Slices.{node_events, node_number, unserved_events, unstored_events}
-use Rattle.store_steps.specs.Tells.{FindsHeld, FindsParentWord, FindsWord, IsStoringNow}
+use Rattle.store_steps.specs.Tells.{FindsHeld, FindsWord, IsStoringNow}
 
 -- a seat with one view has one afterwards, of which this is told
 abbrev pub OfOne : (SeatView → SeatView → Type 0) → Me Unit (List SeatView) → Me Unit (List SeatView) → Type 0
@@ -41,17 +42,13 @@ pub record Loads (group at len found : ℕ) (old new : SeatView) : Type 0 where
   pub looked : Looked (read_events old group at len) old new
   pub finds : FindsHeld group found new
 
-pub record CopiesWord (chunk w found : ℕ) (old new : SeatView) : Type 0 where
+pub record CopiesWord (kind : Kind) (item w found : ℕ) (old new : SeatView) : Type 0 where
   pub same : new ≡ old
-  pub finds : FindsWord chunk w found old
+  pub finds : FindsWord kind item w found old
 
 pub record LoadsNode (node : Node) (last : Bool) (start len found : ℕ) (old new : SeatView) : Type 0 where
   pub looked : Looked (node_events old node last start len) old new
   pub finds : has_bit found (node_number node % 64) ≡ is_some (node_held (state_after new.seen) node)
-
-pub record CopiesParent (boundary w found : ℕ) (old new : SeatView) : Type 0 where
-  pub same : new ≡ old
-  pub finds : FindsParentWord boundary w found old
 
 -- The seat, which was storing no parents, is storing those of the boundaries asked for whose bit wasn't set. Nothing else
 -- changes. Where it has all names that there are, each call that it has seen is its own, and the bits that were set are those
@@ -61,10 +58,6 @@ pub record ClaimsParents (group asked found : ℕ) (old new : SeatView) : Type 0
   pub own : AreAllNames old.names → mine old ≡ old.seen
   pub free : AreAllNames old.names → (m : ℕ) → m / 64 ≡ group
       → has_bit (bit_and asked (bit_not w64 found)) (m % 64) ≡ (has_bit asked (m % 64) && not (is_some ((state_after old.seen).parents m)))
-
--- word w of the boundary's parent counts as stored
-abbrev pub StoresParent : ℕ → ℕ → ℕ → SeatView → SeatView → Type 0
-StoresParent m w value old new = new ≡ record old { parent_words = record { number = 8 * m + w; value = value } ∷ old.parent_words }
 
 -- Parents of the piece are stored: the seat is storing none afterwards.
 pub record PublishesParents (group : ℕ) (piece : Piece) (mask : ℕ) (old new : SeatView) : Type 0 where

@@ -1,5 +1,5 @@
 -- The rule over the words of a store and all seats' views, which each step keeps.
-use Rattle.std.specs.Prelude.{◌≡◌, ℕ, ◌+◌, ◌*◌, ◌/◌, ◌%◌, ◌<◌, true, ◌||◌, List, [], ◌∷◌, ◌++◌, length, Option, None, Some, is_some, Contains}
+use Rattle.std.specs.Prelude.{◌≡◌, ℕ, ◌+◌, ◌*◌, ◌/◌, ◌%◌, ◌<◌, Bool, true, ◌||◌, List, [], ◌∷◌, ◌++◌, length, Option, None, Some, is_some, slice_index, Contains}
 use mathlib.Core.Option.{some}
 use lib.ListN.{get_elem?}
 use Rattle.atomic_table.specs.Table.{State as Table}
@@ -7,6 +7,7 @@ use Rattle.store_core.specs.declared.fixed.Fixed.{Fixed}
 use Rattle.store_core.specs.declared.history.Event.{Event}
 use Rattle.store_core.specs.declared.view.Named.{Named}
 use Rattle.store_core.specs.declared.view.SeatView.{SeatView}
+use Rattle.store_core.specs.declared.view.StoredWord.{StoredWord}
 use Rattle.store_core.specs.Cells.{cell_word}
 use Rattle.store_core.specs.Histories.{AreOfOthers, IsLegal, state_after}
 use Rattle.store_core.specs.Machine.{groups}
@@ -15,6 +16,7 @@ use Rattle.store_core.specs.Names.{Name, has_name}
 use Rattle.store_core.specs.Orders.{AreInOrder}
 use Rattle.store_core.specs.States.{State, claims, is_claimed, is_held}
 use Rattle.store_core.specs.Views.{Continues, is_storing, names_of, stored}
+use Rattle.store_steps.specs.Kinds.{Kind, chunk_kind, parent_kind, width, word_place}
 use Rattle.store_steps.specs.Layout.{cell_at, claim_word, held_word, length_code, length_word, parent_at, parent_claim_word, parent_held_word, parent_word, word_count}
 
 -- The words stand for a state. A held word has the bits of the chunks that are held, and a claim word those of the
@@ -42,21 +44,24 @@ pub record HasView (views : List (List SeatView)) (seat part : ℕ) (view : Seat
   pub is_seat : get_elem? views seat ≡ some parts
   pub is_part : get_elem? parts part ≡ some view
 
+-- the words that count as stored are of one's own items, and stand at their places
+abbrev pub AreStored : Kind → Fixed → (ℕ → Bool) → List StoredWord → List ℕ → Type 0
+AreStored kind fixed own written words = (number value : ℕ) → stored written number ≡ Some value
+    → (own (number / width kind) ≡ true) × (slice_index words (word_place kind fixed number) ≡ value)
+
 -- A view fits the history: it is of this store, what it has seen begins the history, and all that follows are others'
 -- calls. So its calls in the history are those that it has seen, and the state after the history gives it the claims
 -- that it knows of. The words that it stored stand in the cells of chunks that it claims.
 pub record ViewFits (fixed : Fixed) (history : List Event) (words : List ℕ) (view : SeatView) : Type 0 where
   pub fixed_is : view.fixed ≡ fixed
   pub continues : Continues view history
-  pub written : (number value : ℕ) → stored view.written number ≡ Some value
-      → (claims (names_of view) (state_after history) (number / 129) ≡ true) × (cell_at fixed words number ≡ value)
+  pub written : AreStored chunk_kind fixed (λ c. claims (names_of view) (state_after history) c) view.written words
 
 -- A view at a place fits: what it is storing, no other is, and the words that it stored stand in the cells of these parents.
 pub record FitsParents (fixed : Fixed) (words : List ℕ) (storer : ℕ → Option (ℕ × ℕ)) (seat part : ℕ) (view : SeatView) : Type 0 where
   pub low : (m : ℕ) → is_storing view m ≡ true → m < fixed.capacity
   pub owned : (m : ℕ) → is_storing view m ≡ true → storer m ≡ Some (seat, part)
-  pub written : (number value : ℕ) → stored view.parent_words number ≡ Some value
-      → (is_storing view (number / 8) ≡ true) × (parent_at fixed words number ≡ value)
+  pub written : AreStored parent_kind fixed (λ m. is_storing view m) view.parent_words words
 
 -- the view at a place is storing the parent of a boundary
 pub record StoresAt (views : List (List SeatView)) (seat part m : ℕ) : Type 0 where

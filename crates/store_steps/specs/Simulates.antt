@@ -24,9 +24,10 @@ use Rattle.store_core.specs.States.{State}
 use Rattle.store_core.specs.Views.{seat_claims, split_first, split_second}
 use Rattle.store_steps.specs.Asks.{AreClaimed, AreHeldClaims, AreWordsStored}
 use Rattle.store_core.specs.Knowledge.{Looked, event_of, opening_view}
+use Rattle.store_steps.specs.Kinds.{chunk_kind, parent_kind}
 use Rattle.store_steps.specs.Layout.{cell_at, cell_place, claim_place, claim_word, held_word, length_place, length_word, parent_at, parent_claim_place, parent_claim_word, parent_held_place, parent_held_word, parent_word_place, word_count}
 use Rattle.store_steps.specs.Machines.{IsAtMachine, IsMachineLoad, IsMachineStep, IsReading, StandsForMachine}
-use Rattle.store_steps.specs.Plays.{ClaimsParents, CopiesParent, CopiesWord, Gives, Loads, LoadsLength, PartsInTwo, Publishes, PublishesParents, SettlesLength, StoresParent, TakesChunks, length_in}
+use Rattle.store_steps.specs.Plays.{ClaimsParents, CopiesWord, Gives, Loads, LoadsLength, PartsInTwo, Publishes, PublishesParents, SettlesLength, TakesChunks, length_in}
 use Rattle.store_steps.specs.Reads.{read_events}
 use Rattle.store_steps.specs.Rule.{RuleHolds}
 use Rattle.store_steps.specs.Tells.{Stores}
@@ -51,7 +52,7 @@ GiveIsGiveBack = (fixed : Fixed) (pieces : List Checked) (table : Table Unit (Li
 abbrev pub StoreIsWrite : Type 0
 StoreIsWrite = (fixed : Fixed) (pieces : List Checked) (table : Table Unit (List SeatView)) (m : Machine) (seat c w value : ℕ) (view new : SeatView)
     → IsAtMachine fixed pieces table m seat view → w < 129 → seat_claims view c ≡ true → current_holds (m.seat seat).piece c ≡ true
-    → value ≡ cell_word (current_bytes (m.seat seat).piece c) w → Stores c w value view new
+    → value ≡ cell_word (current_bytes (m.seat seat).piece c) w → Stores chunk_kind c w value view new
     → IsMachineStep fixed pieces table (cell_place fixed (129 * c + w)) value seat new m (Write seat c w) None
 
 -- Publish, of the seat's current piece, all of whose words were written: an or on the held word. So all were stored.
@@ -59,7 +60,7 @@ abbrev pub PublishIsPublish : Type 0
 PublishIsPublish = (fixed : Fixed) (pieces : List Checked) (table : Table Unit (List SeatView)) (m : Machine) (seat group mask : ℕ) (piece : Piece) (view new : SeatView)
     → IsAtMachine fixed pieces table m seat view → group < groups fixed → (m.seat seat).piece ≡ Some piece → IsWritten m seat group
     → AreHeldClaims view group piece mask → Publishes group piece mask view new
-    → AreWordsStored view.written group mask piece
+    → AreWordsStored chunk_kind view group mask piece
     × IsMachineStep fixed pieces table group (bit_or (held_word table.words group) mask) seat new m (Publish seat group) (Some (Committed mask))
 
 -- Settle, by the seat's current piece, whose length the store has room for: an exchange of the length word where it is 0.
@@ -122,7 +123,7 @@ LookIsTooLarge = (fixed : Fixed) (pieces : List Checked) (table : Table Unit (Li
 -- A copy leaves the machine, and finds its word.
 abbrev pub CopyStays : Type 0
 CopyStays = (fixed : Fixed) (pieces : List Checked) (table : Table Unit (List SeatView)) (m : Machine) (seat c w : ℕ) (view new : SeatView)
-    → IsAtMachine fixed pieces table m seat view → c < fixed.capacity → w < 129 → CopiesWord c w (cell_at fixed table.words (129 * c + w)) view new
+    → IsAtMachine fixed pieces table m seat view → c < fixed.capacity → w < 129 → CopiesWord chunk_kind c w (cell_at fixed table.words (129 * c + w)) view new
     → (cell_at fixed table.words (129 * c + w) ≡ m.cell c w) × StandsForMachine fixed (after_load table (cell_place fixed (129 * c + w)) seat new) m
 
 -- So does a load that stands for a give or a commit of a group that isn't there.
@@ -140,7 +141,7 @@ ClaimParentsStays = (fixed : Fixed) (pieces : List Checked) (table : Table Unit 
 -- a store of a word of a parent,
 abbrev pub StoreParentStays : Type 0
 StoreParentStays = (fixed : Fixed) (pieces : List Checked) (table : Table Unit (List SeatView)) (m : Machine) (seat boundary w value : ℕ) (view new : SeatView)
-    → IsAtMachine fixed pieces table m seat view → StoresParent boundary w value view new
+    → IsAtMachine fixed pieces table m seat view → Stores parent_kind boundary w value view new
     → StandsForMachine fixed (stepped table (parent_word_place fixed (8 * boundary + w)) value seat [] (new ∷ []) keeps) m
 
 -- a publish of parents,
@@ -152,7 +153,7 @@ PublishParentsStays = (fixed : Fixed) (pieces : List Checked) (table : Table Uni
 -- and a copy of a word of one.
 abbrev pub CopyParentStays : Type 0
 CopyParentStays = (fixed : Fixed) (pieces : List Checked) (table : Table Unit (List SeatView)) (m : Machine) (seat boundary w : ℕ) (view new : SeatView)
-    → IsAtMachine fixed pieces table m seat view → CopiesParent boundary w (parent_at fixed table.words (8 * boundary + w)) view new
+    → IsAtMachine fixed pieces table m seat view → CopiesWord parent_kind boundary w (parent_at fixed table.words (8 * boundary + w)) view new
     → StandsForMachine fixed (after_load table (parent_word_place fixed (8 * boundary + w)) seat new) m
 
 -- The table after a seat with one view parted: a new seat has the second view.

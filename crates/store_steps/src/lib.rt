@@ -4,6 +4,7 @@
 
 pub use fault::NewFault;
 pub use grip::Grip;
+pub use items::{ChunkKind, Item, ParentKind};
 pub use law::{
     joined_seats_are_renamed, parents_leave_the_machine, side_steps_stay, steps_are_the_machines,
 };
@@ -11,6 +12,7 @@ pub use words::Words;
 
 mod fault;
 mod grip;
+mod items;
 mod joins;
 mod law;
 mod lengths;

@@ -1,14 +1,14 @@
 ghost use Rattle.std.specs.Prelude.{◌≡◌, ◌+◌, ◌*◌, ◌<◌, ◌≤◌, ◌^◌, ◌%◌};
 ghost use Rattle.store_core.specs.Machine.{groups};
 ghost use Rattle.store_core.specs.Masks.{has_bit};
-ghost use Rattle.store_steps.specs.Layout.{cell_place, claim_place, length_place, parent_claim_place, parent_held_place, parent_word_place, word_count};
+ghost use Rattle.store_steps.specs.Layout.{claim_place, length_place, parent_claim_place, parent_held_place, word_count};
 ghost use Rattle.store_steps.specs.Slices.{node_number, node_place};
 
 use bao_text::Node;
 use store_core::{CELL_WORDS, Fixed, PARENT_WORDS, has_bit};
 
 // How many groups a store has.
-fn groups(fixed: &Fixed) -> usize
+pub(crate) fn groups(fixed: &Fixed) -> usize
     ensures count { result ≡ groups fixed.now }
     ensures few { result ≤ 2 ^ 26 }
 {
@@ -47,21 +47,6 @@ pub(crate) fn cells_place(fixed: &Fixed) -> usize
     ensures { result ≡ 2 * groups fixed.now }
 {
     2 * groups(fixed)
-}
-
-// Where a word of a chunk's cell stands, of cells that begin at the place `cells`.
-#[inline(always)]
-pub(crate) fn cell_place(fixed: &Fixed, cells: usize, chunk: u32, word: u8) -> usize
-    requires cells { cells ≡ 2 * groups fixed.now }
-    requires small { cells ≤ 2 ^ 27 }
-    requires chunk { chunk < fixed.now.capacity }
-    requires word { word < 129 }
-    ensures place { result ≡ cell_place fixed.now (129 * chunk + word) }
-    ensures within { result < word_count fixed.now }
-{
-    // So that the contract can speak of it.
-    let _ = fixed;
-    cells + CELL_WORDS as usize * chunk as usize + word as usize
 }
 
 // Where the length word stands.
@@ -111,18 +96,4 @@ pub(crate) fn has_node(held: u64, node: &Node) -> bool
         Node::Chunk(chunk) => has_bit(held, (*chunk % 64) as u32),
         Node::Parent(boundary) => has_bit(held, (*boundary % 64) as u32),
     }
-}
-
-// Where a word of a boundary's parent stands.
-pub(crate) fn parent_place(fixed: &Fixed, boundary: u32, word: u8) -> usize
-    requires boundary { boundary < fixed.now.capacity }
-    requires word { word < 8 }
-    ensures place { result ≡ parent_word_place fixed.now (8 * boundary + word) }
-    ensures within { result < word_count fixed.now }
-{
-    length_place(fixed)
-        + 1
-        + 2 * groups(fixed)
-        + PARENT_WORDS as usize * boundary as usize
-        + word as usize
 }

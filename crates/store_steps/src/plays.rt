@@ -2,6 +2,7 @@ ghost use Rattle.std.specs.Prelude.{ℕ, Bool};
 ghost use Rattle.bao_text.specs.declared.walk.Node.{Node};
 ghost use Rattle.store_core.specs.declared.history.Piece.{Piece};
 
+use crate::items::Item;
 use atomic_table::Play;
 use std::collections::LinkedList;
 use std::marker::{Brand, PhantomData};
@@ -83,16 +84,16 @@ impl<A: Asked> Play<(), LinkedList<SeatView>> for Giving<A> {
     ghost then = { λ step me found later. OfOne (Gives A.group A.first A.second) me later };
 }
 
-// `first` for the chunk and `second` for the word of its cell.
-pub(crate) struct Storing<A> {
-    asked: PhantomData<A>,
+// `first` for the item and `second` for its word.
+pub(crate) struct Storing<K, A> {
+    asked: PhantomData<(K, A)>,
 }
 
-impl<A: Asked> Play<(), LinkedList<SeatView>> for Storing<A> {
+impl<K: Item, A: Asked> Play<(), LinkedList<SeatView>> for Storing<K, A> {
     ghost use Rattle.store_steps.specs.Plays.{OfOne};
     ghost use Rattle.store_steps.specs.Tells.{Stores};
 
-    ghost then = { λ step me found later. OfOne (Stores A.first A.second found) me later };
+    ghost then = { λ step me found later. OfOne (Stores K.kind A.first A.second found) me later };
 }
 
 // `group`, and `piece`.
@@ -117,15 +118,15 @@ impl<A: Asked> Play<(), LinkedList<SeatView>> for Loading<A> {
     ghost then = { λ step me found later. OfOne (Loads A.group A.first A.second found) me later };
 }
 
-// `first` for the chunk and `second` for the word of its cell.
-pub(crate) struct Copying<A> {
-    asked: PhantomData<A>,
+// `first` for the item and `second` for its word.
+pub(crate) struct Copying<K, A> {
+    asked: PhantomData<(K, A)>,
 }
 
-impl<A: Asked> Play<(), LinkedList<SeatView>> for Copying<A> {
+impl<K: Item, A: Asked> Play<(), LinkedList<SeatView>> for Copying<K, A> {
     ghost use Rattle.store_steps.specs.Plays.{OfOne, CopiesWord};
 
-    ghost then = { λ step me found later. OfOne (CopiesWord A.first A.second found) me later };
+    ghost then = { λ step me found later. OfOne (CopiesWord K.kind A.first A.second found) me later };
 }
 
 pub(crate) struct LoadingNode<A> {
@@ -136,17 +137,6 @@ impl<A: AskedNode> Play<(), LinkedList<SeatView>> for LoadingNode<A> {
     ghost use Rattle.store_steps.specs.Plays.{LoadsNode, OfOne};
 
     ghost then = { λ step me found later. OfOne (LoadsNode A.node A.last A.start A.len found) me later };
-}
-
-// `first` for the boundary and `second` for the word of its parent.
-pub(crate) struct CopyingParent<A> {
-    asked: PhantomData<A>,
-}
-
-impl<A: Asked> Play<(), LinkedList<SeatView>> for CopyingParent<A> {
-    ghost use Rattle.store_steps.specs.Plays.{CopiesParent, OfOne};
-
-    ghost then = { λ step me found later. OfOne (CopiesParent A.first A.second found) me later };
 }
 
 // `first` for the start of a slice and `second` for its length.
@@ -191,17 +181,6 @@ impl<A: Asked> Play<(), LinkedList<SeatView>> for ClaimingParents<A> {
     ghost use Rattle.store_steps.specs.Plays.{ClaimsParents, OfOne};
 
     ghost then = { λ step me found later. OfOne (ClaimsParents A.group step.first found) me later };
-}
-
-// `first` for the boundary and `second` for the word of its parent.
-pub(crate) struct StoringParent<A> {
-    asked: PhantomData<A>,
-}
-
-impl<A: Asked> Play<(), LinkedList<SeatView>> for StoringParent<A> {
-    ghost use Rattle.store_steps.specs.Plays.{OfOne, StoresParent};
-
-    ghost then = { λ step me found later. OfOne (StoresParent A.first A.second found) me later };
 }
 
 // `group`, and `piece`.

@@ -4,16 +4,17 @@ ghost use Rattle.store_steps.specs.Layout.{word_count};
 
 use crate::fault::NewFault;
 use crate::grip::Grip;
+use crate::items::Item;
 use crate::joins::{Both, Entering, Leaving, LookingRound, Meeting, Merging, Parting, Parts};
 use crate::lengths::{length_in, settling};
 use crate::places::{
-    cell_place, cells_place, claim_place, has_node, held_place, length_place, node_place,
-    parent_claim_place, parent_held_place, parent_place, word_count,
+    cells_place, claim_place, has_node, held_place, length_place, node_place, parent_claim_place,
+    parent_held_place, word_count,
 };
 use crate::plays::{
-    Answering, Asked, AskedNode, ClaimingParents, Copying, CopyingParent, Giving, Loading,
-    LoadingNode, LoadingToServe, LoadingToStore, Publishing, PublishingParents,
-    Settling as SettlingStep, Storing, StoringParent, Taking,
+    Answering, Asked, AskedNode, ClaimingParents, Copying, Giving, Loading, LoadingNode,
+    LoadingToServe, LoadingToStore, Publishing, PublishingParents, Settling as SettlingStep,
+    Storing, Taking,
 };
 use crate::rule::Law;
 use crate::zeros::{ZEROS_LEN, zeros};
@@ -55,17 +56,17 @@ impl Words {
     ghost use Rattle.store_core.specs.Events.{has_room};
     ghost use Rattle.store_core.specs.Pieces.{length_of, piece_of};
     ghost use Rattle.store_core.specs.Stores.{IsOf};
-    ghost use Rattle.store_core.specs.Views.{is_storing, mine, seat_claims};
+    ghost use Rattle.store_core.specs.Views.{mine};
     ghost use Rattle.store_core.specs.declared.history.Storing.TheVariants.{Stored};
     ghost use Rattle.store_core.specs.Histories.{state_after};
     ghost use Rattle.store_steps.specs.Asks.{AreClaimed, AreHeldClaims, AreParentsWritten, AreWordsStored};
     ghost use Rattle.store_core.specs.Knowledge.{AreAllNames, AreMet, ArePartsOf, Did, EndsStoring, IsMerged, Looked, LooksRound, opening_view};
+    ghost use Rattle.store_steps.specs.Kinds.{Owns, chunk_kind, width};
     ghost use Rattle.store_steps.specs.Reads.{read_events};
     ghost use Rattle.store_core.specs.Serves.{node_held};
     ghost use Rattle.store_steps.specs.Slices.{node_events, node_number, unserved_events, unstored_events};
     ghost use Rattle.store_core.specs.Masks.{IsMaskOf, has_bit};
-    ghost use Rattle.store_steps.specs.Plays.{StoresParent};
-    ghost use Rattle.store_steps.specs.Tells.{FindsHeld, FindsParentWord, FindsWord, IsStoringNow, Stores};
+    ghost use Rattle.store_steps.specs.Tells.{FindsHeld, FindsWord, IsStoringNow, Stores};
     ghost use Rattle.store_steps.specs.Words.{CoversGroup, IsGripOf, fixed_of};
 
     /// Words of which none is held, claimed or recorded, and their first grip, which has seen nothing. They are of `capacity`
@@ -205,30 +206,31 @@ impl Words {
         self.table.shared.load::<Giving<A>>(&mut grip.seat, 0);
     }
 
-    /// Stores a word of the cell of a chunk that the grip claims: word 0 is the chunk's size in bytes, words 1 to 128
-    /// its data. One store, of which no reader learns before the chunk is published.
-    pub fn store(&self, grip: &mut Grip, chunk: u32, word: u8, value: u64)
+    /// Stores a word of an item that the grip may store: of the cell of a chunk that it claims, where word 0 is the chunk's
+    /// size in bytes and words 1 to 128 are its data; or of the parent at a boundary that it is storing, where words 0 to 7
+    /// are its 64 bytes. One store, of which no reader learns before the item is published.
+    pub fn store<K: Item>(&self, grip: &mut Grip, item: u32, word: u8, value: u64)
         requires of { IsGripOf self.now grip.old }
-        requires claimed { seat_claims grip.old.view chunk ≡ true }
-        requires word { word < 129 }
+        requires own { Owns K.kind grip.old.view item }
+        requires word { word < width K.kind }
         ensures of { IsGripOf self.now grip.new }
-        ensures stored { Stores chunk word value grip.old.view grip.new.view }
+        ensures stored { Stores K.kind item word value grip.old.view grip.new.view }
     {
-        self.store_asked::<Brand>(grip, chunk, word, value);
+        self.store_asked::<K, Brand>(grip, item, word, value);
     }
 
-    fn store_asked<A: Asked>(&self, grip: &mut Grip, chunk: u32, word: u8, value: u64)
+    fn store_asked<K: Item, A: Asked>(&self, grip: &mut Grip, item: u32, word: u8, value: u64)
         requires of { IsGripOf self.now grip.old }
-        requires claimed { seat_claims grip.old.view chunk ≡ true }
-        requires word { word < 129 }
-        requires asked { (A.first ≡ chunk) × (A.second ≡ word) }
+        requires own { Owns K.kind grip.old.view item }
+        requires word { word < width K.kind }
+        requires asked { (A.first ≡ item) × (A.second ≡ word) }
         ensures of { IsGripOf self.now grip.new }
-        ensures stored { Stores chunk word value grip.old.view grip.new.view }
+        ensures stored { Stores K.kind item word value grip.old.view grip.new.view }
     {
-        let place = cell_place(&self.fixed, self.cells, chunk, word);
+        let place = K::place(&self.fixed, self.cells, item, word);
         self.table
             .shared
-            .store::<Storing<A>>(&mut grip.seat, place, value);
+            .store::<Storing<K, A>>(&mut grip.seat, place, value);
     }
 
     /// Publishes chunks of a piece of this store's root and mode, all of whose words the grip stored: they are held, and
@@ -239,7 +241,7 @@ impl Words {
         requires group { CoversGroup self.now group }
         requires piece { IsOf (fixed_of self.now) piece.now }
         requires mask { AreHeldClaims grip.old.view group (piece_of (fixed_of self.now).base piece.now) mask }
-        requires written { AreWordsStored grip.old.view.written group mask (piece_of (fixed_of self.now).base piece.now) }
+        requires written { AreWordsStored chunk_kind grip.old.view group mask (piece_of (fixed_of self.now).base piece.now) }
         ensures of { IsGripOf self.now grip.new }
         ensures did { Did (Commit group (piece_of (fixed_of self.now).base piece.now) mask) grip.old.view grip.new.view }
     {
@@ -251,7 +253,7 @@ impl Words {
         requires group { CoversGroup self.now group }
         requires piece { IsOf (fixed_of self.now) piece.now }
         requires mask { AreHeldClaims grip.old.view group (piece_of (fixed_of self.now).base piece.now) mask }
-        requires written { AreWordsStored grip.old.view.written group mask (piece_of (fixed_of self.now).base piece.now) }
+        requires written { AreWordsStored chunk_kind grip.old.view group mask (piece_of (fixed_of self.now).base piece.now) }
         requires asked { (A.group ≡ group) × (A.piece ≡ piece_of (fixed_of self.now).base piece.now) }
         ensures of { IsGripOf self.now grip.new }
         ensures did { Did (Commit group (piece_of (fixed_of self.now).base piece.now) mask) grip.old.view grip.new.view }
@@ -313,28 +315,30 @@ impl Words {
         self.table.shared.load::<Loading<A>>(&mut grip.seat, place)
     }
 
-    /// A word of a chunk's cell. Where the grip has seen the chunk held it is the word of the chunk's bytes, as at
-    /// `store`. One load, which changes nothing.
-    pub fn copy(&self, grip: &mut Grip, chunk: u32, word: u8) -> u64
+    /// A word of an item. Where the grip has seen the item held it is the word of its bytes, as at `store`. One load, which
+    /// changes nothing.
+    pub fn copy<K: Item>(&self, grip: &mut Grip, item: u32, word: u8) -> u64
         requires of { IsGripOf self.now grip.old }
-        requires chunk { chunk < (fixed_of self.now).capacity }
-        requires word { word < 129 }
+        requires item { item < (fixed_of self.now).capacity }
+        requires word { word < width K.kind }
         ensures same { grip.new ≡ grip.old }
-        ensures word { FindsWord chunk word result grip.old.view }
+        ensures word { FindsWord K.kind item word result grip.old.view }
     {
-        self.copy_asked::<Brand>(grip, chunk, word)
+        self.copy_asked::<K, Brand>(grip, item, word)
     }
 
-    fn copy_asked<A: Asked>(&self, grip: &mut Grip, chunk: u32, word: u8) -> u64
+    fn copy_asked<K: Item, A: Asked>(&self, grip: &mut Grip, item: u32, word: u8) -> u64
         requires of { IsGripOf self.now grip.old }
-        requires chunk { chunk < (fixed_of self.now).capacity }
-        requires word { word < 129 }
-        requires asked { (A.first ≡ chunk) × (A.second ≡ word) }
+        requires item { item < (fixed_of self.now).capacity }
+        requires word { word < width K.kind }
+        requires asked { (A.first ≡ item) × (A.second ≡ word) }
         ensures same { grip.new ≡ grip.old }
-        ensures word { FindsWord chunk word result grip.old.view }
+        ensures word { FindsWord K.kind item word result grip.old.view }
     {
-        let place = cell_place(&self.fixed, self.cells, chunk, word);
-        self.table.shared.load::<Copying<A>>(&mut grip.seat, place)
+        let place = K::place(&self.fixed, self.cells, item, word);
+        self.table
+            .shared
+            .load::<Copying<K, A>>(&mut grip.seat, place)
     }
 
     /// Records the length in bytes that a piece of this store's root and mode certifies, if none is recorded:
@@ -413,32 +417,6 @@ impl Words {
             .shared
             .load::<LoadingNode<A>>(&mut grip.seat, place);
         has_node(found, node)
-    }
-
-    /// A word of a boundary's parent, as at `store_parent`, where the grip has seen the parent held. One load, which changes
-    /// nothing.
-    pub fn copy_parent(&self, grip: &mut Grip, boundary: u32, word: u8) -> u64
-        requires of { IsGripOf self.now grip.old }
-        requires boundary { boundary < (fixed_of self.now).capacity }
-        requires word { word < 8 }
-        ensures same { grip.new ≡ grip.old }
-        ensures word { FindsParentWord boundary word result grip.old.view }
-    {
-        self.copy_parent_asked::<Brand>(grip, boundary, word)
-    }
-
-    fn copy_parent_asked<A: Asked>(&self, grip: &mut Grip, boundary: u32, word: u8) -> u64
-        requires of { IsGripOf self.now grip.old }
-        requires boundary { boundary < (fixed_of self.now).capacity }
-        requires word { word < 8 }
-        requires asked { (A.first ≡ boundary) × (A.second ≡ word) }
-        ensures same { grip.new ≡ grip.old }
-        ensures word { FindsParentWord boundary word result grip.old.view }
-    {
-        let from = parent_place(&self.fixed, boundary, word);
-        self.table
-            .shared
-            .load::<CopyingParent<A>>(&mut grip.seat, from)
     }
 
     /// The recorded length in bytes, if there is one, for the slice (`start`, `len`): where there is none this is its Serve.
@@ -536,33 +514,6 @@ impl Words {
             .shared
             .fetch_or::<ClaimingParents<A>>(&mut grip.seat, place, wanted);
         wanted & !before
-    }
-
-    /// Stores a word of the parent at a boundary that the grip is storing: words 0 to 7 are its 64 bytes. One store.
-    pub fn store_parent(&self, grip: &mut Grip, boundary: u32, word: u8, value: u64)
-        requires of { IsGripOf self.now grip.old }
-        requires storing { is_storing grip.old.view boundary ≡ true }
-        requires boundary { boundary < (fixed_of self.now).capacity }
-        requires word { word < 8 }
-        ensures of { IsGripOf self.now grip.new }
-        ensures stored { StoresParent boundary word value grip.old.view grip.new.view }
-    {
-        self.store_parent_asked::<Brand>(grip, boundary, word, value);
-    }
-
-    fn store_parent_asked<A: Asked>(&self, grip: &mut Grip, boundary: u32, word: u8, value: u64)
-        requires of { IsGripOf self.now grip.old }
-        requires storing { is_storing grip.old.view boundary ≡ true }
-        requires boundary { boundary < (fixed_of self.now).capacity }
-        requires word { word < 8 }
-        requires asked { (A.first ≡ boundary) × (A.second ≡ word) }
-        ensures of { IsGripOf self.now grip.new }
-        ensures stored { StoresParent boundary word value grip.old.view grip.new.view }
-    {
-        let place = parent_place(&self.fixed, boundary, word);
-        self.table
-            .shared
-            .store::<StoringParent<A>>(&mut grip.seat, place, value);
     }
 
     /// Publishes parents of a piece of this store's root and mode, which claims the length that the grip has seen

@@ -7,8 +7,8 @@ use Rattle.store_calls.proofs.Holding.{chunk_ends, chunk_stops, held_below, size
 use Rattle.store_steps.specs.Grips.{Gripped}
 use Rattle.store_calls.proofs.chunks.copy_chunk.Goals as goal
 
-pub copy-size-requires-clause-chunk : goal.copy-size-requires-clause-chunk
-copy-size-requires-clause-chunk c =
+pub copy-size-requires-clause-item : goal.copy-size-requires-clause-item
+copy-size-requires-clause-item c =
     let grip = c.args.grip.now in
     subst (λ (f : Fixed). (c.args.at + c.args.from) / 1024 < f.capacity) c.requires.of.knows.fixed_is
     (held_below grip.view.fixed grip.view.seen ((c.args.at + c.args.from) / 1024) c.requires.of.knows.legal c.requires.held)

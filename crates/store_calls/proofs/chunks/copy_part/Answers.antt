@@ -4,8 +4,8 @@ use Rattle.store_core.specs.Histories.{state_after}
 use Rattle.store_calls.proofs.Holding.{held_valid, part_byte, part_filled, part_size, sized_below}
 use Rattle.store_calls.proofs.chunks.copy_part.Goals as goal
 
-pub copy-requires-clause-chunk : goal.copy-requires-clause-chunk
-copy-requires-clause-chunk c =
+pub copy-requires-clause-item : goal.copy-requires-clause-item
+copy-requires-clause-item c =
     let grip = c.args.grip.now in
     subst (λ (f : Fixed). (c.args.at + c.args.from) / 1024 < f.capacity) c.requires.of.knows.fixed_is
     (sized_below grip.view.fixed grip.view.seen ((c.args.at + c.args.from) / 1024) c.requires.of.knows.legal (omega (arith, c.requires.held, c.if-count-eq0.false)))

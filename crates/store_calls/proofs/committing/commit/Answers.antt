@@ -3,24 +3,34 @@ use Rattle.b3tree.specs.Valid.{IsKeyed}
 use Rattle.store_core.specs.declared.fixed.Fixed.{Fixed}
 use Rattle.store_core.specs.declared.history.Piece.{Piece}
 use Rattle.store_core.specs.declared.view.SeatView.{SeatView}
-use Rattle.store_core.specs.Pieces.{IsAcceptedPiece, piece_of}
+use Rattle.store_core.specs.Pieces.{IsAcceptedPiece, holds_chunk, piece_of}
+use Rattle.store_core.specs.Views.{seat_claims}
 use Rattle.store_core.proofs.BoundStore.{piece_binds}
 use Rattle.store_core.proofs.SlotStates.{accepted_piece}
 use Rattle.store_steps.specs.Asks.{AreHeldClaims}
 use Rattle.store_steps.specs.Words.{fixed_of}
-use Rattle.store_calls.proofs.CommittedChunks.{held_claims}
+use Rattle.store_calls.proofs.CommittedChunks.{both_masks, own_chunks}
+use Rattle.store_steps.specs.Kinds.{chunk_kind}
+use Rattle.store_calls.proofs.Storing.{all_stored}
 use Rattle.store_calls.proofs.committing.commit.Goals as goal
 
-pub store_cells-requires-clause-mask : goal.store_cells-requires-clause-mask
-store_cells-requires-clause-mask c =
-    held_claims c.args.grip.now.view c.args.group c.args.claimed c.held_in.result (piece_of c.args.words.now.fixed.base c.args.piece.now) c.requires.claimed c.held_in.ensures
+pub store_items-requires-clause-own : goal.store_items-requires-clause-own
+store_items-requires-clause-own c =
+    let piece : Piece = piece_of c.args.words.now.fixed.base c.args.piece.now in
+    own_chunks c.args.grip.now.view c.args.group (bit_and c.args.claimed c.held_in.result) piece
+    (both_masks c.args.group c.args.claimed c.held_in.result (λ d. seat_claims c.args.grip.now.view d) (λ d. holds_chunk piece d) c.requires.claimed c.held_in.ensures)
+
+pub publish-requires-clause-written : goal.publish-requires-clause-written
+publish-requires-clause-written c =
+    all_stored chunk_kind c.args.group (bit_and c.args.claimed c.held_in.result) (piece_of c.args.words.now.fixed.base c.args.piece.now)
+    c.args.grip.now.view c.store_items.new.grip.view c.store_items.ensures.stored
 
 pub publish-requires-clause-mask : goal.publish-requires-clause-mask
 publish-requires-clause-mask c =
     let piece : Piece = piece_of c.args.words.now.fixed.base c.args.piece.now in
     let mask : ℕ = bit_and c.args.claimed c.held_in.result in
-    subst (λ (v : SeatView). AreHeldClaims v c.args.group piece mask) (sym c.store_cells.ensures.stored.rest)
-    (held_claims c.args.grip.now.view c.args.group c.args.claimed c.held_in.result piece c.requires.claimed c.held_in.ensures)
+    subst (λ (v : SeatView). AreHeldClaims v c.args.group piece mask) (sym c.store_items.ensures.stored.rest)
+    (both_masks c.args.group c.args.claimed c.held_in.result (λ d. seat_claims c.args.grip.now.view d) (λ d. holds_chunk piece d) c.requires.claimed c.held_in.ensures)
 
 pub returns-clause-binds : goal.returns-clause-binds
 returns-clause-binds c =

@@ -7,7 +7,6 @@ use Rattle.store_core.specs.Machine.{groups}
 use Rattle.store_core.specs.Pieces.{length_of, piece_of}
 use Rattle.store_core.proofs.StoredParents.{recorded_is}
 use Rattle.store_steps.specs.Slices.{is_recorded}
-use Rattle.store_calls.specs.Parents.{AreParentsOf}
 use Rattle.store_core.specs.declared.history.Event.{Event}
 use Rattle.store_core.specs.declared.view.Named.{Named}
 use Rattle.store_core.specs.declared.view.SeatView.{SeatView}
@@ -18,7 +17,7 @@ use Rattle.store_core.specs.Pieces.{holds_parent}
 use Rattle.store_core.proofs.HasRoom.{recorded_fits}
 use Rattle.store_calls.proofs.AllParents.{all_parents, none_absent, saw_nothing}
 use Rattle.store_calls.proofs.ParentsCommitting.{group_absent, length_differs, length_stays, only_seen, other_is, parents_bind, parents_stored, words_written}
-use Rattle.store_calls.proofs.ParentsStoring.{claimed_parents}
+use Rattle.store_calls.proofs.ParentsStoring.{own_parents}
 use Rattle.store_calls.proofs.parents.commit_parents.Goals as goal
 
 pub returns-then-ne-clause-called : goal.returns-then-ne-clause-called
@@ -51,26 +50,28 @@ returns-then-group-div_ceil-clause-binds c =
     parents_bind c.args.words.now c.length_to_store-length.new.grip (subst (λ (f : Fixed). IsKeyed f.mode) c.fixed-fixed.ensures c.is_keyed.ensures)
     c.length_to_store-length.ensures.of
 
-pub store_parents-requires-clause-mask : goal.store_parents-requires-clause-mask
-store_parents-requires-clause-mask c =
-    let piece : Piece = piece_of c.args.words.now.fixed.base c.args.piece.now in
-    subst (λ (f : Fixed). AreParentsOf f c.args.group c.claim_parents-mask.result piece) c.fixed-fixed.ensures
-    (claimed_parents c.fixed-fixed.result c.args.group c.parents_in-want.result c.claim_parents-mask.result piece c.parents_in-want.ensures c.claim_parents-mask.ensures.among)
+pub store_items-requires-clause-own : goal.store_items-requires-clause-own
+store_items-requires-clause-own c =
+    own_parents c.args.group c.parents_in-want.result c.claim_parents-mask.result c.fixed-fixed.result.capacity (piece_of c.args.words.now.fixed.base c.args.piece.now)
+    c.length_to_store-length.new.grip.view c.claim_parents-mask.new.grip.view c.parents_in-want.ensures c.claim_parents-mask.ensures.among c.claim_parents-mask.ensures.claimed
+    (ap (λ (f : Fixed). f.capacity) (c.claim_parents-mask.ensures.of.knows.fixed_is ∙ sym c.fixed-fixed.ensures))
 
 pub publish_parents-requires-clause-length : goal.publish_parents-requires-clause-length
 publish_parents-requires-clause-length c =
     let piece : Piece = piece_of c.args.words.now.fixed.base c.args.piece.now in
     let load = c.length_to_store-length in
-    length_stays c.args.group c.claim_parents-mask.result piece load.new.grip.view c.claim_parents-mask.new.grip.view c.store_parents.new.grip.view
-    c.claim_parents-mask.ensures.claimed c.store_parents.ensures.stored
+    length_stays c.args.group c.claim_parents-mask.result piece load.new.grip.view c.claim_parents-mask.new.grip.view c.store_items.new.grip.view
+    c.claim_parents-mask.ensures.claimed c.store_items.ensures.stored
     ∙ sym load.ensures.recorded ∙ recorded_is load.result c.claimed.result c.ne.result c.ne.ensures c.if-ne.false ∙ ap (λ (l : ℕ). Some l) c.claimed.ensures
 
 pub publish_parents-requires-clause-written : goal.publish_parents-requires-clause-written
 publish_parents-requires-clause-written c =
     let piece : Piece = piece_of c.args.words.now.fixed.base c.args.piece.now in
-    words_written c.args.group c.claim_parents-mask.result piece c.length_to_store-length.new.grip.view c.claim_parents-mask.new.grip.view c.store_parents.new.grip.view
-    c.claim_parents-mask.ensures.claimed c.store_parents.ensures.stored c.fixed-fixed.result
-    (claimed_parents c.fixed-fixed.result c.args.group c.parents_in-want.result c.claim_parents-mask.result piece c.parents_in-want.ensures c.claim_parents-mask.ensures.among)
+    words_written c.args.group c.claim_parents-mask.result piece c.length_to_store-length.new.grip.view c.claim_parents-mask.new.grip.view c.store_items.new.grip.view
+    c.claim_parents-mask.ensures.claimed c.store_items.ensures.stored
+    (own_parents c.args.group c.parents_in-want.result c.claim_parents-mask.result c.fixed-fixed.result.capacity piece c.length_to_store-length.new.grip.view
+    c.claim_parents-mask.new.grip.view c.parents_in-want.ensures c.claim_parents-mask.ensures.among c.claim_parents-mask.ensures.claimed
+    (ap (λ (f : Fixed). f.capacity) (c.claim_parents-mask.ensures.of.knows.fixed_is ∙ sym c.fixed-fixed.ensures)))
 
 pub returns-clause-called : goal.returns-clause-called
 returns-clause-called c =
@@ -82,8 +83,8 @@ returns-clause-called c =
     let within : nat_lt c.args.group (groups c.args.grip.now.view.fixed) ≡ true =
     ap (λ (f : Fixed). nat_lt c.args.group (groups f)) c.requires.of.knows.fixed_is ∙ lt-ltb c.args.group (groups c.args.words.now.fixed) (omega (arith, count)) in
     parents_stored c.args.group piece c.args.grip.now.view load.new.grip.view c.requires.of.knows.legal load.ensures.looked
-    c.claim_parents-mask.result c.claim_parents-mask.new.grip.view c.store_parents.new.grip.view c.publish_parents.new.grip.view
-    (sym load.ensures.recorded ∙ is) within c.requires.none c.claim_parents-mask.ensures.claimed c.store_parents.ensures.stored c.publish_parents.ensures.called
+    c.claim_parents-mask.result c.claim_parents-mask.new.grip.view c.store_items.new.grip.view c.publish_parents.new.grip.view
+    (sym load.ensures.recorded ∙ is) within c.requires.none c.claim_parents-mask.ensures.claimed c.store_items.ensures.stored c.publish_parents.ensures.called
 
 pub returns-clause-binds : goal.returns-clause-binds
 returns-clause-binds c =

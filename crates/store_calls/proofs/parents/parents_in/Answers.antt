@@ -2,7 +2,7 @@ use Rattle.std.proofs.Common.{◌≡◌, ℕ, nat_lt, subst, arith}
 use Rattle.store_core.specs.Masks.{IsMaskOf}
 use Rattle.store_core.specs.Pieces.{holds_parent, piece_of}
 use Rattle.store_core.proofs.Choosing.{parents_marked}
-use Rattle.store_calls.proofs.ParentsStoring.{below_capacity}
+use Rattle.store_calls.proofs.CommittedChunks.{both_masks}
 use Rattle.store_calls.proofs.parents.parents_in.Goals as goal
 
 pub returns : goal.returns
@@ -15,4 +15,4 @@ returns c =
     let capacity : c.from.result ≡ c.args.capacity = omega arith in
     let below : IsMaskOf c.args.group c.mask_below.result (λ m. nat_lt m c.args.capacity) =
     subst (λ (end : ℕ). IsMaskOf c.args.group c.mask_below.result (λ m. nat_lt m end)) capacity c.mask_below.ensures in
-    below_capacity c.args.group c.args.capacity c.mask_below.result c.parents_of.result (piece_of 0 piece) below marked
+    both_masks c.args.group c.mask_below.result c.parents_of.result (λ m. nat_lt m c.args.capacity) (λ m. holds_parent (piece_of 0 piece) m) below marked

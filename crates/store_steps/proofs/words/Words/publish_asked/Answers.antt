@@ -9,6 +9,7 @@ use Rattle.store_core.specs.Pieces.{IsAcceptedPiece, piece_of}
 use Rattle.store_core.proofs.SlotStates.{accepted_piece}
 use Rattle.store_steps.specs.Asks.{AreHeldClaims, AreWordsStored}
 use Rattle.store_steps.specs.Grips.{Gripped, first_of}
+use Rattle.store_steps.specs.Kinds.{chunk_kind}
 use Rattle.store_steps.specs.Plays.{Publishes}
 use Rattle.store_core.specs.Knowledge.{Did}
 use Rattle.store_steps.proofs.StepViews.{at_code, told_by}
@@ -26,7 +27,7 @@ fetch_or-requires g c =
     let piece : Piece = piece_of c.args.self.now.fixed.base c.args.piece.now in
     let accepted : IsAcceptedPiece fixed piece = accepted_piece fixed c.args.piece.now c.is_accepted.ensures.bytes c.is_accepted.ensures.accepted c.requires.piece in
     let ours : AreHeldClaims view group piece c.args.mask = subst (λ (v : SeatView). AreHeldClaims v group piece c.args.mask) (sym its) c.requires.mask in
-    let written : AreWordsStored view.written group c.args.mask piece = subst (λ (v : SeatView). AreWordsStored v.written group c.args.mask piece) (sym its) c.requires.written in
+    let written : AreWordsStored chunk_kind view group c.args.mask piece = subst (λ (v : SeatView). AreWordsStored chunk_kind v group c.args.mask piece) (sym its) c.requires.written in
     let call : Call = Commit g.A.Asked.group g.A.Asked.piece c.args.mask in
     let same : Commit group piece c.args.mask ≡ call = cc in (
       ap (λ (x : Gripped). x.table_id) c.grip.view_is ∙ c.requires.of.table_is,
