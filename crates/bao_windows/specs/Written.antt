@@ -6,7 +6,7 @@ use Rattle.b3tree.specs.declared.mode.Mode.{Mode}
 use Rattle.b3tree.specs.Hashing.{hash}
 use Rattle.b3tree.specs.Taken.{Holds}
 use Rattle.bao_text.specs.Choice.{chunk_count}
-use Rattle.gather.specs.declared.fault.GatherFault.TheVariants.{NotTheRoot, Starved, Unfinished}
+use Rattle.gather.specs.declared.fault.GatherFault.TheVariants.{Memory, NotTheRoot, Starved, TooLarge, Unfinished}
 use Rattle.gather.specs.HandedOut.{IsExcused}
 use Rattle.gather.specs.Large.{AreTheBlob, HasCollision}
 use Rattle.store_core.specs.declared.fixed.Fixed.{Fixed}
@@ -71,6 +71,10 @@ IsOfWindow fault = (fault ≡ Gather Unfinished) ⊎ (fault ≡ Gather Starved) 
 -- or what was written hasn't the root
 abbrev pub IsOfWriting : WindowsFault → Type 0
 IsOfWriting fault = IsOfWindow fault ⊎ (fault ≡ Gather NotTheRoot)
+
+-- or the blob is too long, or there is no memory for a window: why no blob was written
+abbrev pub IsOfWindows : WindowsFault → Type 0
+IsOfWindows fault = IsOfWriting fault ⊎ (fault ≡ Gather TooLarge) ⊎ (fault ≡ Gather Memory)
 
 -- the fault isn't one of what was gathered from
 abbrev pub IsExcusedWrite : WindowsFault → Type 0

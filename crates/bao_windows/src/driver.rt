@@ -13,7 +13,7 @@ ghost use Rattle.bao_windows.specs.declared.fault.WindowsFault.TheVariants as Wi
 ghost use Rattle.bao_windows.specs.Available.{HasNoEnd, IsFilled, IsMissing};
 ghost use Rattle.bao_windows.specs.Copies.{HaveCopies, IsOwn};
 ghost use Rattle.bao_windows.specs.Windows.{AreOfWindow, IsFrom, IsLengthOfEach, fixed_for, window_bytes};
-ghost use Rattle.bao_windows.specs.Written.{AreTooLong, HasRoomFor, IsBegun, IsOfWindow, IsOfWriting, IsPut, IsWrittenOut, WroteAll, WroteBlob, WroteOf};
+ghost use Rattle.bao_windows.specs.Written.{AreTooLong, HasRoomFor, IsBegun, IsOfWindow, IsOfWindows, IsOfWriting, IsPut, IsWrittenOut, WroteAll, WroteBlob, WroteOf};
 
 use crate::fault::WindowsFault;
 use crate::length::certified_length;
@@ -163,7 +163,7 @@ fn write_all<R: Threads + Sync, S: Source + Sync, W: Write>(
 /// 901 `Unfinished` where no source has the last chunk, or some group, nor, where chunks are asked for, some chunk of it, or where the
 /// outboard encoding that plain copies are checked beside is of another root or mode; 805 `TooLarge` where the blob has more chunks than
 /// `capacity`, before a byte is written; 902 `NotTheRoot` where the hash of what was written isn't the root; 903 `Memory` where there is none
-/// for a window, and 911 `Starved` where there is none for what a source gives. `Write` where writing failed.
+/// for a window, and 911 `Starved` where there is none for what a source gives. `Write` where writing failed. It answers no other fault.
 ///
 /// Whatever is answered, what was written are bytes of each blob with the root, from the first on, or a collision is exhibited, two different
 /// inputs with one chaining value, one of the blob's and one of a slice's that is accepted under the root and came from one of the sources.
@@ -188,6 +188,7 @@ pub fn write_windows<R: AllocGlobal + Threads + Sync, S: Source + Sync, W: Write
 ) -> Result<u64, WindowsFault>
     ensures blob { IfOk result (WroteBlob (IsFrom wanted.now S.contents S.faultless sources.now) wanted.now capacity (W.contents out.old) (W.contents out.new)) }
     ensures begun { IsBegun (IsFrom wanted.now S.contents S.faultless sources.now) (fixed_for wanted.now) 0 (W.contents out.old) (W.contents out.new) }
+    ensures fault { IfErr result IsOfWindows }
     ensures too_long { IsErrOf result (WindowsFault.Gather GatherFault.TooLarge) → AreTooLong (IsFrom wanted.now S.contents S.faultless sources.now) (fixed_for wanted.now) capacity }
     ensures kept { IsErrOf result (WindowsFault.Gather GatherFault.TooLarge) → Keeps (W.contents out.old) (W.contents out.new) }
     ensures none { IsErrOf result (WindowsFault.Gather GatherFault.NotTheRoot) → IsOfNone (IsFrom wanted.now S.contents S.faultless sources.now) (fixed_for wanted.now) }
