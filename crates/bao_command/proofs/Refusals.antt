@@ -5,8 +5,8 @@ use Rattle.b3tree.specs.declared.values.Hash.{Hash}
 use Rattle.bao_check.specs.declared.fault.CheckFault.{CheckFault}
 use Rattle.bao_files.specs.Disks.{FileState}
 use Rattle.bao_files.specs.declared.fault.FileFault.TheVariants as files
-use Rattle.bao_files.specs.declared.kinds.Part.{Part}
-use Rattle.bao_files.specs.declared.kinds.Part.TheVariants.{Slice}
+use Rattle.bao_text.specs.declared.kinds.Part.{Part}
+use Rattle.bao_text.specs.declared.kinds.Part.TheVariants.{Slice}
 use Rattle.bao_text.specs.Choice.{chunk_count}
 use Rattle.bao_text.specs.Cut.{claimed, cut_text}
 use Rattle.bao_check.specs.Accepted.{IsAccepted, outboard_nodes}

@@ -11,8 +11,8 @@ use Rattle.bao_check.specs.Bare.{IsBareFault}
 use Rattle.bao_check.specs.Faults.{IsFirstFault}
 use Rattle.bao_check.specs.declared.fault.CheckFault.{CheckFault}
 use Rattle.bao_files.specs.Disks.{FileState, IsKnown, Stored}
-use Rattle.bao_files.specs.declared.kinds.Part.{Part}
-use Rattle.bao_files.specs.declared.kinds.Part.TheVariants.{Slice}
+use Rattle.bao_text.specs.declared.kinds.Part.{Part}
+use Rattle.bao_text.specs.declared.kinds.Part.TheVariants.{Slice}
 use Rattle.bao_decode.specs.TextPass.{IsTextFault, task_of_part}
 use Rattle.bao_decode.specs.Weaving.{are_whole, woven_text}
 use Rattle.gather.specs.Large.{HasCollision, fixed_as}

@@ -4,9 +4,9 @@ use Rattle.std.specs.Borrow.{Bor}
 use Rattle.b3tree.specs.declared.mode.Mode.{Mode}
 use Rattle.bao_files.specs.Disks.{AreOf, FileState, KeepsFiles, Puts}
 use Rattle.bao_files.specs.Encoded.{encoding_text}
-use Rattle.bao_files.specs.declared.kinds.Encoding.{Encoding}
-use Rattle.bao_files.specs.declared.kinds.Part.{Part}
-use Rattle.bao_files.specs.declared.kinds.Part.TheVariants.{Slice}
+use Rattle.bao_text.specs.declared.kinds.Encoding.{Encoding}
+use Rattle.bao_text.specs.declared.kinds.Part.{Part}
+use Rattle.bao_text.specs.declared.kinds.Part.TheVariants.{Slice}
 use Rattle.bao_decode.specs.Ranges.{part_bytes}
 use Rattle.bao_tasks.specs.Gathered.{Fits, gathered_text}
 use Rattle.bao_tasks.specs.declared.gathering.Gathering.{Gathering}

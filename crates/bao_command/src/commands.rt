@@ -10,7 +10,7 @@ ghost use Rattle.bao_files.specs.Disks.{AreOf, KeepsFiles, Puts};
 ghost use Rattle.bao_files.specs.Encoded.{encoding_text};
 ghost use Rattle.bao_files.specs.Printed.{IsDigits, digits_line, ok_line};
 ghost use Rattle.bao_files.specs.declared.fault.FileFault.{FileFault};
-ghost use Rattle.bao_files.specs.declared.kinds.Part.TheVariants as Part;
+ghost use Rattle.bao_text.specs.declared.kinds.Part.TheVariants as Part;
 ghost use Rattle.bao_decode.specs.Ranges.{IsPartText, part_bytes, written_count};
 ghost use Rattle.bao_decode.specs.declared.decode_fault.DecodeFault.{DecodeFault};
 ghost use Rattle.bao_command.specs.Effects.{Writes, list_of};
@@ -33,11 +33,12 @@ use crate::unread::tell_why;
 use b3tree::{Hash, Mode, xof_fits};
 use bao_decode::{DecodeFault, decode_copy_on, decode_on, slice_beside_on, slice_on};
 use bao_files::{
-    Disk, Encoding, FileFault, Once, Part, Progress, bytes_of_digits, encode_on, print_count,
-    print_digits, print_file, print_text,
+    Disk, FileFault, Once, Progress, bytes_of_digits, encode_on, print_count, print_digits,
+    print_file, print_text,
 };
 use bao_request::{Request, Task, parse};
 use bao_tasks::{Gathering, replay_on};
+use bao_text::{Encoding, Part};
 use clap::error::ErrorKind;
 use std::alloc::Global;
 use std::io::Write;

@@ -9,7 +9,7 @@ use Rattle.bao_check.specs.Accepted.{slice_nodes}
 use Rattle.bao_check.specs.declared.fault.CheckFault.{CheckFault}
 use Rattle.bao_check.proofs.Laws.{first_fault-not_accepted}
 use Rattle.bao_files.specs.declared.fault.FileFault.TheVariants.{Write}
-use Rattle.bao_files.specs.declared.kinds.Part.{Part}
+use Rattle.bao_text.specs.declared.kinds.Part.{Part}
 use Rattle.bao_decode.specs.declared.decode_fault.DecodeFault.{DecodeFault}
 use Rattle.bao_decode.specs.declared.decode_fault.DecodeFault.TheVariants as decode
 use Rattle.bao_decode.specs.declared.copy_pass.PassFault.{PassFault}

@@ -11,7 +11,7 @@ use Rattle.bao_check.specs.declared.checking.Checking.{Checking}
 use Rattle.bao_check.proofs.WholeText.{claimed-append}
 use Rattle.bao_check.specs.Checking.{HasDecodedAs}
 use Rattle.bao_check.specs.Waiting.{CheckTask, IsAcceptedAs}
-use Rattle.bao_files.specs.declared.kinds.Part.{Part}
+use Rattle.bao_text.specs.declared.kinds.Part.{Part}
 use Rattle.bao_files.specs.Printed.{AppendsBeginning}
 use Rattle.bao_read.specs.Given.{GivenAt}
 use Rattle.bao_decode.specs.declared.copy_pass.PassFault.{PassFault}

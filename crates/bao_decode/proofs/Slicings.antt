@@ -6,7 +6,7 @@ use Rattle.std.proofs.lemmas.Bool.{both_ways, cases_Bool, cases_lt, lt-ltb}
 use Rattle.std.specs.Io.KnownBytes.{Appends}
 use Rattle.b3tree.specs.declared.mode.Mode.{Mode}
 use Rattle.bao_files.specs.Disks.{FileState, Unknown, Absent, Stored}
-use Rattle.bao_files.specs.declared.kinds.Part.TheVariants.{Slice}
+use Rattle.bao_text.specs.declared.kinds.Part.TheVariants.{Slice}
 use Rattle.bao_text.specs.Cut.{claimed, cut_text}
 use Rattle.bao_decode.specs.declared.decode_fault.DecodeFault.{DecodeFault}
 use Rattle.bao_decode.specs.declared.decode_fault.DecodeFault.TheVariants as decode

@@ -8,8 +8,8 @@ use Rattle.bao_check.specs.Decoded.{decoded}
 use Rattle.bao_check.specs.Streams.{IsStreamFault}
 use Rattle.bao_text.specs.Choice.{of_slice}
 use Rattle.bao_text.specs.Cut.{claimed}
-use Rattle.bao_files.specs.declared.kinds.Part.{Part}
-use Rattle.bao_files.specs.declared.kinds.Part.TheVariants.{Whole, Slice}
+use Rattle.bao_text.specs.declared.kinds.Part.{Part}
+use Rattle.bao_text.specs.declared.kinds.Part.TheVariants.{Whole, Slice}
 
 -- the slice that is checked
 abbrev pub part_start : Part → ℕ

@@ -8,7 +8,7 @@ use Rattle.bao_check.specs.declared.fault.CheckFault.TheVariants as check
 use Rattle.bao_check.specs.Waiting.{CheckTask, IsFaultAs}
 use Rattle.bao_files.specs.Printed.{AppendsBeginning}
 use Rattle.bao_files.specs.declared.fault.FileFault.TheVariants.{Memory, Read, Write}
-use Rattle.bao_files.specs.declared.kinds.Part.{Part}
+use Rattle.bao_text.specs.declared.kinds.Part.{Part}
 use Rattle.bao_decode.specs.declared.copy_pass.PassFault.{PassFault}
 use Rattle.bao_decode.specs.declared.copy_pass.PassFault.TheVariants.{Check, Input, Output}
 use Rattle.bao_decode.specs.declared.decode_fault.DecodeFault.{DecodeFault}

@@ -5,7 +5,7 @@ use Rattle.std.specs.List.{flat_map}
 use Rattle.b3tree.specs.declared.mode.Mode.{Mode}
 use Rattle.bao_files.specs.Disks.{FileState, AreOf, IsKnown}
 use Rattle.bao_files.specs.declared.fault.FileFault.TheVariants.{Read}
-use Rattle.bao_files.specs.declared.kinds.Part.TheVariants.{Slice}
+use Rattle.bao_text.specs.declared.kinds.Part.TheVariants.{Slice}
 use Rattle.bao_text.specs.Choice.{chunk_count, of_combined}
 use Rattle.bao_text.specs.Cut.{claimed, cut_text}
 use Rattle.bao_text.specs.Nodes.{TreeNode, chosen_nodes, subtree_size}

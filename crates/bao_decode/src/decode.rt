@@ -18,8 +18,9 @@ use crate::plain_copy::{first_fault, flushed, only_fault, regular_len, second_fa
 use crate::text_pass::{BLOCK_LEN, slice_of, text_pass};
 use b3tree::{Hash, Mode};
 use bao_check::{CheckFault, Checked, check_stream, read_checked};
-use bao_files::{Disk, FileFault, Part, Progress, Shown};
+use bao_files::{Disk, FileFault, Progress, Shown};
 use bao_read::Source;
+use bao_text::Part;
 use std::alloc::Global;
 use std::io;
 use std::io::{BufReader, Read, Write};

@@ -9,9 +9,8 @@ use crate::copy_pass::PassFault;
 use crate::text_pass::{begin, next_block, written_of};
 use b3tree::{Hash, Mode};
 use bao_check::Decoded;
-use bao_files::Part;
 use bao_read::Source;
-use bao_text::{LENGTH_LEN, claimed, write_text};
+use bao_text::{LENGTH_LEN, Part, claimed, write_text};
 use std::io::Write;
 
 /// Reads an encoding once, in blocks, verifies it as that of the part of the blob with this root, and writes each block's bytes to `out` once

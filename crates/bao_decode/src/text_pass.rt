@@ -13,9 +13,8 @@ ghost use Rattle.bao_decode.specs.TextPass.{IsWholeText, TextStops, StopsAs, tas
 use crate::copy_pass::{PassFault, fill_most};
 use b3tree::{CHUNK_LEN, Hash, Mode};
 use bao_check::{CheckFault, Checking, Decoded};
-use bao_files::Part;
 use bao_read::Source;
-use bao_text::{Choice, LENGTH_LEN, claimed, write_text};
+use bao_text::{Choice, LENGTH_LEN, Part, claimed, write_text};
 use std::io::Write;
 
 /// How many bytes of an encoding are read at once: those of a subtree of 256 chunks, and of the parents above it.

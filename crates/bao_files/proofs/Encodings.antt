@@ -8,7 +8,7 @@ use Rattle.bao_text.specs.Choice.{chunk_count}
 use Rattle.bao_text.proofs.Laws.{length-outboard_text}
 use Rattle.bao_files.specs.declared.again.AgainFault.{AgainFault}
 use Rattle.bao_files.specs.declared.again.AgainFault.TheVariants.{Input, Output}
-use Rattle.bao_files.specs.declared.kinds.Encoding.TheVariants.{Outboard}
+use Rattle.bao_text.specs.declared.kinds.Encoding.TheVariants.{Outboard}
 use Rattle.bao_files.specs.declared.fault.FileFault.{FileFault}
 use Rattle.bao_files.specs.Again.{EncodesAgain, fault_at_paths}
 use Rattle.bao_files.specs.Encoded.{EncodesLike, IsMadeEncoding}

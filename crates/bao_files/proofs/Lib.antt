@@ -5,3 +5,4 @@ pub mod Encodings
 pub mod Disks
 pub mod HeldFiles
 pub mod KeyTexts
+pub mod Readable

@@ -1,6 +1,6 @@
 -- what is written of a file that is encoded
 use Rattle.std.specs.Borrow.{Bor}
-use Rattle.std.specs.Prelude.{◌≡◌, ◌⊎◌, ◌<◌, ℕ, List, length, take, Option, Result, Ok, Err}
+use Rattle.std.specs.Prelude.{◌≡◌, ◌≢◌, ◌⊎◌, ◌<◌, ℕ, List, length, take, Option, Result, Ok, Err}
 use Rattle.std.specs.Io.KnownBytes.{Appends, Keeps}
 use Rattle.b3tree.specs.declared.mode.Mode.{Mode}
 use Rattle.b3tree.specs.declared.values.Hash.{Hash}
@@ -8,8 +8,8 @@ use Rattle.b3tree.specs.Hashing.{hash}
 use Rattle.bao_text.specs.declared.fault.WriteFault.{WriteFault}
 use Rattle.bao_text.specs.declared.fault.WriteFault.TheVariants as text
 use Rattle.bao_read.specs.Given.{GivenAt, IsHashOf}
-use Rattle.bao_files.specs.declared.kinds.Encoding.{Encoding as Kind}
-use Rattle.bao_files.specs.declared.kinds.Encoding.TheVariants.{Combined, Outboard, Slice}
+use Rattle.bao_text.specs.declared.kinds.Encoding.{Encoding as Kind}
+use Rattle.bao_text.specs.declared.kinds.Encoding.TheVariants.{Combined, Outboard, Slice}
 use Rattle.bao_files.specs.declared.fault.FileFault.{FileFault}
 use Rattle.bao_files.specs.declared.fault.FileFault.TheVariants.{Encoding, Memory, Read, Write}
 use Rattle.bao_text.specs.Texts.{combined_text, outboard_text, slice_text}
@@ -50,3 +50,11 @@ abbrev pub EncodesLike : Option (List ℕ) → Mode → List ℕ → Bor (List �
 EncodesLike contents mode bytes file path old new result =
     (again : List ℕ) × (length again ≡ length bytes) × (GivenAt contents 0 bytes → GivenAt contents 0 again)
     × Encodes mode Combined again file path old new result
+
+-- Its file is read once: it is no combined encoding, or of fewer than 4 MiB. Else the file is read a second time while its encoding is written.
+abbrev pub IsReadOnce : Kind → ℕ → Type 0
+IsReadOnce kind size = (kind ≢ Combined) ⊎ (size < 4194304)
+
+-- there was no memory, or the file at this path couldn't be written
+abbrev pub IsAfterReading : Bor (List ℕ) → FileFault → Type 0
+IsAfterReading path fault = (fault ≡ Memory) ⊎ (fault ≡ Encoding) ⊎ (fault ≡ Write path)

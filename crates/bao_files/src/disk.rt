@@ -1,4 +1,4 @@
-ghost use Rattle.std.specs.Prelude.{◌≡◌, ◌⊎◌, ℕ, List, [], Some, IfErr, IfOk, IfSome, IsSome, OnErr, OnOk, true};
+ghost use Rattle.std.specs.Prelude.{◌≡◌, ◌⊎◌, ℕ, List, [], length, None, Some, IfErr, IfOk, IfSome, IsSome, OnErr, OnOk, true};
 ghost use Rattle.bao_files.specs.Disks.{FileState, IsKnown, IsStored, KeepsFiles, Opens, Puts};
 ghost use Rattle.bao_files.specs.Extents.{LooksAs, extent_of};
 
@@ -79,7 +79,9 @@ pub(crate) fn size_of<'a, D: Disk>(
     input: &D::Input,
     path: &'a str,
 ) -> Result<u64, FileFault<'a>>
+    ensures size { IfOk result (λ size. IfSome (D.Input.contents input.now) (λ s. size ≡ length s)) }
     ensures fault { IfErr result (λ fault. fault ≡ FileFault.Read path.entry) }
+    ensures known { IfErr result (λ _. D.Input.contents input.now ≡ None) }
 {
     match disk.extent(input) {
         Some(extent) => Ok(extent.len),

@@ -1,9 +1,11 @@
-ghost use Rattle.std.specs.Prelude.{◌≡◌, ℕ, List, [], ◌++◌, ◌⊎◌, length, IfErr, IfOk, IfSome, None, OnErr, OnOk};
-ghost use Rattle.std.specs.Io.KnownBytes.{Consumes, IsAtEnd, Keeps};
+ghost use Rattle.std.specs.Prelude.{◌≡◌, ℕ, List, [], ◌++◌, ◌⊎◌, length, IfErr, IfOk, IfSome, None, Ok, OnErr, OnOk, Some};
+ghost use Rattle.std.specs.Io.KnownBytes.{IsAtEnd};
 ghost use Rattle.bao_files.specs.Reading.{AppendsTaken};
+ghost use Rattle.bao_read.specs.Given.{HasOther};
 
 use crate::fault::FileFault;
-use std::alloc::Global;
+use bao_read::{Source, ends_at, fill};
+use std::alloc::{AllocError, Global};
 use std::fs;
 use std::fs::OpenFile;
 use std::io::Read;
@@ -13,7 +15,7 @@ use std::rt::Files;
 // The most bytes that one read asks for.
 const READ_LEN: usize = 1 << 18;
 
-// A file of fewer bytes is worth neither threads nor positional reads.
+// A file of fewer bytes isn't worth threads.
 pub(crate) const LEAST_SHARED_LEN: u64 = 4 << 20;
 
 /// Why a reader was not read to its end.
@@ -144,6 +146,43 @@ pub fn read_input<'a, I: Read>(
         Ok(()) => Ok(bytes),
         Err(ReadFault::Memory) => Err(FileFault::Memory),
         Err(ReadFault::Reader) => Err(FileFault::Read(path)),
+    }
+}
+
+// All bytes of a source that is read by position and is said to have `size` of them. There are none where it has fewer or more, and where a read fails.
+fn placed_bytes<S: Source>(
+    alloc: Global,
+    source: &S,
+    size: u64,
+) -> Result<Option<Vec<u8>>, AllocError>
+    ensures all { IfOk result (λ found. IfSome found (λ bytes. IfSome (S.contents source.now) (λ s. bytes.items ≡ s))) }
+    ensures other { result ≡ Ok None → HasOther (S.contents source.now) (S.faultless source.now) size }
+{
+    let mut bytes = vec![in alloc; 0u8; size as usize]?;
+    if fill(source, 0, bytes.as_mut_slice()).is_err() {
+        return Ok(None);
+    }
+    if !ends_at(source, size) {
+        return Ok(None);
+    }
+    Ok(Some(bytes))
+}
+
+// As `read_input`, of an input that can also be read by position: so it is read first, where it has as many bytes as the file claims.
+pub(crate) fn read_placed<'a, I: Read + Source>(
+    alloc: Global,
+    input: &mut I,
+    size: u64,
+    path: &'a str,
+) -> Result<Vec<u8>, FileFault<'a>>
+    ensures all { IfOk result (λ bytes. IfSome (I.contents input.old) (λ s. I.remaining input.old ≡ Some s → bytes.items ≡ s)) }
+    ensures fault { IfErr result (λ fault. (fault ≡ FileFault.Memory) ⊎ (fault ≡ FileFault.Read path.entry)) }
+    ensures other { IfErr result (λ fault. fault ≡ FileFault.Read path.entry → HasOther (I.contents input.old) (I.faultless input.old) size) }
+{
+    match placed_bytes(alloc, input, size) {
+        Ok(Some(bytes)) => Ok(bytes),
+        Ok(None) => read_input(alloc, input, size, path),
+        Err(_) => Err(FileFault::Memory),
     }
 }
 

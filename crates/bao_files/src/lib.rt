@@ -11,7 +11,6 @@ pub use input::{
     ReadFault, STANDARD_INPUT, open_file, read_file, read_input, read_sized, read_whole,
 };
 pub use key::read_key;
-pub use kinds::{Encoding, Part};
 pub use late_file::LateFile;
 pub use meter::Meter;
 pub use once::Once;
@@ -30,7 +29,6 @@ mod fault;
 mod held;
 mod input;
 mod key;
-mod kinds;
 mod late_file;
 mod meter;
 mod once;

@@ -1,14 +1,15 @@
-ghost use Rattle.std.specs.Prelude.{◌≡◌, ℕ, ◌+◌, ◌-◌, ◌*◌, ◌<◌, ◌≤◌, List, length, IfErr, IfOk, IfSome, OnErr, OnOk, Some};
+ghost use Rattle.bao_read.specs.Given.{HasOther};
+ghost use Rattle.std.specs.Prelude.{◌≡◌, ◌≢◌, ◌⊎◌, ℕ, ◌+◌, ◌-◌, ◌*◌, ◌<◌, ◌≤◌, List, length, None, Ok, IfErr, IfOk, IfSome, OnErr, OnOk, Some};
 ghost use Rattle.std.specs.Io.KnownBytes.{Appends};
 ghost use Rattle.b3tree.specs.Hashing.{hash};
 ghost use Rattle.bao_text.specs.Faults.{WroteOnly};
 ghost use Rattle.bao_text.specs.Texts.{joined};
-ghost use Rattle.bao_files.specs.Disks.{AreOf, KeepsFiles, Puts};
-ghost use Rattle.bao_files.specs.Encoded.{Encodes, EncodesLike, IsMadeEncoding, answer_at_path, encoding_text};
+ghost use Rattle.bao_files.specs.Disks.{AreOf, Absent, IsKnown, KeepsFiles, Puts, Stored};
+ghost use Rattle.bao_files.specs.Encoded.{Encodes, EncodesLike, IsMadeEncoding, IsReadOnce, IsAfterReading, answer_at_path, encoding_text};
 ghost use Rattle.bao_files.specs.Again.{fault_at_paths};
 ghost use Rattle.bao_files.specs.Ahead.{AreUnread};
 ghost use Rattle.bao_files.specs.declared.fault.FileFault.TheVariants as FileFault;
-ghost use Rattle.bao_files.specs.declared.kinds.Encoding.TheVariants as KindOf;
+ghost use Rattle.bao_text.specs.declared.kinds.Encoding.TheVariants as KindOf;
 ghost use Rattle.bao_text.specs.Choice.{chunk_count};
 ghost use Rattle.bao_files.specs.Printed.{IsQuiet, NamesPaths};
 
@@ -16,16 +17,15 @@ use crate::again::{AgainFault, write_again};
 use crate::ahead::Pieces;
 use crate::disk::{Disk, size_of};
 use crate::fault::FileFault;
-use crate::input::{LEAST_SHARED_LEN, read_input};
-use crate::kinds::Encoding;
+use crate::input::{LEAST_SHARED_LEN, read_input, read_placed};
 use crate::progress::Progress;
 use crate::shown::Shown;
 use b3tree::{Hash, Mode};
-use bao_read::{Source, WORKERS, outboard_source, slice_source};
+use bao_read::{ReadFault, Source, WORKERS, outboard_source, slice_source};
 use bao_text::{
-    WriteFault, outboard, outboard_len, slice, write_combined, write_text, write_texts,
+    Encoding, WriteFault, outboard, outboard_len, slice, write_combined, write_text, write_texts,
 };
-use std::alloc::Global;
+use std::alloc::{AllocError, Global};
 use std::io::{Read, Write};
 use std::thread::Threads;
 
@@ -74,8 +74,8 @@ pub fn write_encoding<W: Write>(
 }
 
 // The outboard encoding of the bytes of an input that is said to have `size` of them, or a slice, and their hash, by several
-// threads at once. Where the bytes are few or not so many, and where a read or memory fails, there is none, nor is there a
-// combined encoding. The input is read by position, so that it is left where it stood.
+// threads at once. Where the bytes are few or not so many, and where a read fails, there is none, nor is there a combined
+// encoding. The input is read by position, so that it is left where it stood.
 fn encoding_by_position<R: Threads + Sync, I: Source + Sync>(
     rt: &R,
     alloc: Global,
@@ -83,20 +83,44 @@ fn encoding_by_position<R: Threads + Sync, I: Source + Sync>(
     encoding: Encoding,
     input: &I,
     size: u64,
-) -> Option<(Hash, Vec<Vec<u8>>)>
-    ensures long { IfSome result (λ _. 4194304 ≤ size) }
-    ensures all { IfSome result (λ made. IfSome (I.contents input.now) (λ s. IsMadeEncoding mode.now encoding size s made.0.0 (joined made.1.items))) }
-    ensures some { IfSome result (λ made. (bytes : List ℕ) × IsMadeEncoding mode.now encoding size bytes made.0.0 (joined made.1.items)) }
+) -> Result<Option<(Hash, Vec<Vec<u8>>)>, AllocError>
+    ensures long { IfOk result (λ found. IfSome found (λ _. 4194304 ≤ size)) }
+    ensures all { IfOk result (λ found. IfSome found (λ made. IfSome (I.contents input.now) (λ s. IsMadeEncoding mode.now encoding size s made.0.0 (joined made.1.items)))) }
+    ensures some { IfOk result (λ found. IfSome found (λ made. (bytes : List ℕ) × IsMadeEncoding mode.now encoding size bytes made.0.0 (joined made.1.items))) }
+    ensures other { result ≡ Ok None → encoding ≢ KindOf.Combined → 4194304 ≤ size → HasOther (I.contents input.now) (I.faultless input.now) size }
 {
     if size < LEAST_SHARED_LEN {
-        return None;
+        return Ok(None);
     }
-    match encoding {
-        Encoding::Combined => None,
-        Encoding::Outboard => outboard_source(rt, alloc, mode, input, size, WORKERS).ok(),
+    let made = match encoding {
+        Encoding::Combined => return Ok(None),
+        Encoding::Outboard => outboard_source(rt, alloc, mode, input, size, WORKERS),
         Encoding::Slice { start, len } => {
-            slice_source(rt, alloc, mode, input, size, start, len, WORKERS).ok()
+            slice_source(rt, alloc, mode, input, size, start, len, WORKERS)
         }
+    };
+    match made {
+        Ok(made) => Ok(Some(made)),
+        Err(ReadFault::Memory) => Err(AllocError),
+        Err(ReadFault::Reader) => Ok(None),
+    }
+}
+
+// The outboard encoding, where there is memory for it, too.
+fn parents_by_position<R: Threads + Sync, I: Source + Sync>(
+    rt: &R,
+    alloc: Global,
+    mode: &Mode,
+    input: &I,
+    size: u64,
+) -> Option<(Hash, Vec<Vec<u8>>)>
+    ensures long { IfSome result (λ _. 4194304 ≤ size) }
+    ensures all { IfSome result (λ made. IfSome (I.contents input.now) (λ s. IsMadeEncoding mode.now KindOf.Outboard size s made.0.0 (joined made.1.items))) }
+    ensures some { IfSome result (λ made. (bytes : List ℕ) × IsMadeEncoding mode.now KindOf.Outboard size bytes made.0.0 (joined made.1.items)) }
+{
+    match encoding_by_position(rt, alloc, mode, Encoding::Outboard, input, size) {
+        Ok(found) => found,
+        Err(_) => None,
     }
 }
 
@@ -134,7 +158,7 @@ fn kept_by_position<R: Threads + Sync, I: Source + Sync>(
     ensures all { IfSome result (λ kept. IfSome (I.contents input.now) (λ s. IsMadeEncoding mode.now KindOf.Outboard size s kept.hash.0 kept.text.items)) }
     ensures some { IfSome result (λ kept. (bytes : List ℕ) × IsMadeEncoding mode.now KindOf.Outboard size bytes kept.hash.0 kept.text.items) }
 {
-    let (hash, texts) = encoding_by_position(rt, alloc, mode, Encoding::Outboard, input, size)?;
+    let (hash, texts) = parents_by_position(rt, alloc, mode, input, size)?;
     let text = in_one(alloc, texts, outboard_len(size))?;
     let pieces = Pieces::new(alloc).ok()?;
     Some(Kept { hash, text, pieces })
@@ -196,8 +220,8 @@ fn answer_at<'a>(written: Result<Hash, WriteFault>, path: &'a str) -> Result<Has
 /// Where the input is said to have a `size` of at least 4 MiB, it is read by position and in pieces of 256 KiB, by several
 /// threads. An outboard encoding takes memory of a sixteenth of the bytes, and a slice that of its range. For a combined
 /// encoding the parents are made so, a sixteenth of the bytes, and then the input is read a second time, on one thread: each
-/// piece is verified by its parents, and written with them. If the first pass gives nothing, the input is read
-/// whole from where it stands, and what that meets is answered.
+/// piece is verified by its parents, and written with them. If the first pass gives nothing, and of a shorter input, all is read:
+/// by position, where the input has as many bytes as it is said to have, and else from where it stands. What that meets is answered.
 ///
 /// Nothing was written out of memory, which is `Memory` for the input's bytes and `Encoding` for the encoding, nor after `Read`
 /// with the input's path, where a read answered a fault, but of a combined encoding that was written in two passes: there
@@ -216,6 +240,7 @@ pub fn encode_input<'a, R: Threads + Sync + AllocGlobal, I: Read + Source + Sync
     ensures all { IfSome (I.contents input.old) (λ s. I.remaining input.old ≡ Some s
         → Encodes mode.now encoding s file.entry path.entry (W.contents out.old) (W.contents out.new) result) }
     ensures some { (bytes : List ℕ) × Encodes mode.now encoding bytes file.entry path.entry (W.contents out.old) (W.contents out.new) result }
+    ensures read { IfErr result (λ fault. fault ≡ FileFault.Read file.entry → IsReadOnce encoding size → HasOther (I.contents input.old) (I.faultless input.old) size) }
 {
     let alloc = rt.alloc();
     if let Encoding::Combined = encoding
@@ -223,10 +248,11 @@ pub fn encode_input<'a, R: Threads + Sync + AllocGlobal, I: Read + Source + Sync
     {
         return encode_again(rt, mode, input, size, kept, file, out, path);
     }
-    if let Some(made) = encoding_by_position(rt, alloc, mode, encoding, input, size) {
-        return answer_at(send_all(made, out), path);
-    }
-    let bytes = read_input(alloc, input, size, file)?;
+    let bytes = match encoding_by_position(rt, alloc, mode, encoding, input, size) {
+        Ok(Some(made)) => return answer_at(send_all(made, out), path),
+        Ok(None) if size >= LEAST_SHARED_LEN => read_input(alloc, input, size, file)?,
+        Ok(None) | Err(_) => read_placed(alloc, input, size, file)?,
+    };
     let written = write_encoding(alloc, mode, encoding, bytes.as_slice(), out);
     answer_at(written, path)
 }
@@ -239,6 +265,9 @@ pub fn encode_input<'a, R: Threads + Sync + AllocGlobal, I: Read + Source + Sync
 /// memory; after `Write` a beginning of the encoding may stand there, and so it may after `Read` where a combined encoding is
 /// written in two passes and the file can't be read again, or has changed. Where the two paths are of one file then, under whatever
 /// names, it is read whole before it is written over.
+///
+/// On a disk where no call fails but for memory, and where it is known what is at `path`, a file that is there is refused for want of memory, or since
+/// writing failed, and for nothing else; but a combined encoding of 4 MiB or more, which is written while the file is read a second time, may be for that.
 pub fn encode_on<'a, R: AllocGlobal + Threads + Sync, D: Disk, P: Progress + Sync>(
     rt: &R,
     disk: &mut D,
@@ -251,6 +280,9 @@ pub fn encode_on<'a, R: AllocGlobal + Threads + Sync, D: Disk, P: Progress + Syn
     ensures done { IfOk result (λ h. (bytes : List ℕ) × AreOf (D.at disk.old file.now) bytes × (h.0 ≡ hash mode.now bytes)
         × Puts (D.at disk.old) (D.at disk.new) path.now (Some (encoding_text mode.now encoding bytes))) }
     ensures kept { OnErr result (KeepsFiles (D.at disk.old) (D.at disk.new)) }
+    ensures refused { IfErr result (λ fault. D.faultless disk.old → IsKnown (D.at disk.old path.now) → (bytes : List ℕ) → D.at disk.old file.now ≡ Stored bytes
+        → IsReadOnce encoding (length bytes) → IsAfterReading path.entry fault) }
+    ensures absent { IfErr result (λ fault. D.at disk.old file.now ≡ Absent → (fault ≡ FileFault.Memory) ⊎ (fault ≡ FileFault.Read file.entry)) }
     ensures fault { IfErr result IsQuiet }
     ensures paths { IfErr result (NamesPaths file.entry path.entry) }
 {

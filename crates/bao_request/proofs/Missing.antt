@@ -1,8 +1,8 @@
 -- A subcommand of which an argument is missing asks for nothing.
 use Rattle.std.proofs.Common.{◌≡◌, ◌<◌, ◌^◌, ℕ, List, Option, None, Some, IsNone, Bor, codes, ap, arith}
 use Rattle.clap.specs.Words.{Row, Text}
-use Rattle.bao_files.specs.declared.kinds.Encoding.TheVariants.{Combined, Outboard, Slice}
-use Rattle.bao_files.specs.declared.kinds.Part.TheVariants as part
+use Rattle.bao_text.specs.declared.kinds.Encoding.TheVariants.{Combined, Outboard, Slice}
+use Rattle.bao_text.specs.declared.kinds.Part.TheVariants as part
 use Rattle.bao_request.specs.declared.tasks.Task.{Task}
 use Rattle.bao_request.specs.declared.tasks.Task.TheVariants.{Hash, Encode, CutSlice, Decode, DecodeCopy, Gather, Replay}
 use Rattle.bao_request.specs.Requests.{Finds, GivesNumber, GivesRange, GivesTask, GivesText, GivesTexts}

@@ -1,10 +1,10 @@
 -- What kind of task a subcommand asks for.
 use Rattle.std.proofs.Common.{◌≡◌, ◌∙◌, ◌==◌, ℕ, ◌+◌, ◌*◌, List, length, slice_index, codes, if◌then◌else◌, ap, refl}
 use Rattle.clap.specs.Words.{Row, Text}
-use Rattle.bao_files.specs.declared.kinds.Encoding.{Encoding}
-use Rattle.bao_files.specs.declared.kinds.Encoding.TheVariants.{Combined, Outboard, Slice}
-use Rattle.bao_files.specs.declared.kinds.Part.{Part}
-use Rattle.bao_files.specs.declared.kinds.Part.TheVariants as part
+use Rattle.bao_text.specs.declared.kinds.Encoding.{Encoding}
+use Rattle.bao_text.specs.declared.kinds.Encoding.TheVariants.{Combined, Outboard, Slice}
+use Rattle.bao_text.specs.declared.kinds.Part.{Part}
+use Rattle.bao_text.specs.declared.kinds.Part.TheVariants as part
 use Rattle.bao_request.specs.declared.tasks.Task.{Task}
 use Rattle.bao_request.specs.declared.tasks.Task.TheVariants.{Hash, Encode, CutSlice, Decode, DecodeCopy, Gather, Replay}
 use Rattle.bao_request.specs.Requests.{GivesEncoding, GivesPart, GivesTask}

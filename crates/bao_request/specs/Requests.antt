@@ -5,10 +5,10 @@ use Rattle.std.specs.Option.{option_copied}
 use Rattle.std.specs.Str.Parse.{IsNumeral, digits_value, without_leading_plus}
 use Rattle.std.specs.Borrow.{Bor}
 use Rattle.clap.specs.Words.{Row, Text, all_of, first_of, one_of}
-use Rattle.bao_files.specs.declared.kinds.Encoding.{Encoding}
-use Rattle.bao_files.specs.declared.kinds.Encoding.TheVariants.{Combined, Outboard, Slice}
-use Rattle.bao_files.specs.declared.kinds.Part.{Part}
-use Rattle.bao_files.specs.declared.kinds.Part.TheVariants as part
+use Rattle.bao_text.specs.declared.kinds.Encoding.{Encoding}
+use Rattle.bao_text.specs.declared.kinds.Encoding.TheVariants.{Combined, Outboard, Slice}
+use Rattle.bao_text.specs.declared.kinds.Part.{Part}
+use Rattle.bao_text.specs.declared.kinds.Part.TheVariants as part
 use Rattle.bao_request.specs.declared.tasks.Request.{Request}
 use Rattle.bao_request.specs.declared.tasks.Task.{Task}
 use Rattle.bao_request.specs.declared.tasks.Task.TheVariants.{Hash, Encode, CutSlice, Decode, DecodeCopy, Gather, Replay}

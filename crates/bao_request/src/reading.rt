@@ -7,7 +7,7 @@ ghost use Rattle.bao_request.specs.Requests.{Finds, GivesEncoding, GivesFlag, Gi
 
 use crate::rules::program;
 use crate::tasks::{Request, Task};
-use bao_files::{Encoding, Part};
+use bao_text::{Encoding, Part};
 use clap::error::ErrorKind;
 use clap::{ArgMatches, Error};
 use std::alloc::{AllocError, Global};

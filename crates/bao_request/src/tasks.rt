@@ -1,4 +1,4 @@
-use bao_files::{Encoding, Part};
+use bao_text::{Encoding, Part};
 
 /// What the arguments ask for.
 #[derive(Debug, Drop)]

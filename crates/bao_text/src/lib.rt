@@ -4,6 +4,7 @@
 pub use choice::Choice;
 pub use cut::{append_cut, claimed, cut_slice};
 pub use fault::{Memory, WriteFault};
+pub use kinds::{Encoding, Part};
 pub use places::{Places, part_of};
 pub use sizes::{
     CV_LEN, EIGHT_LEN, LENGTH_LEN, PARENT_LEN, chunk_count, encoded_len, outboard_len, subtree_size,
@@ -17,6 +18,7 @@ mod choice;
 mod cut;
 mod eight;
 mod fault;
+mod kinds;
 mod pieces;
 mod places;
 mod sizes;

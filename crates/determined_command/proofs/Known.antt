@@ -13,8 +13,8 @@ use Rattle.bao_files.specs.Disks.{AreOf, FileState, IsKnown, Puts, Stored}
 use Rattle.bao_files.specs.Encoded.{encoding_text}
 use Rattle.bao_files.specs.Keys.{GivesKey}
 use Rattle.bao_files.specs.Printed.{digits_line, ok_line}
-use Rattle.bao_files.specs.declared.kinds.Part.{Part}
-use Rattle.bao_files.specs.declared.kinds.Part.TheVariants.{Slice}
+use Rattle.bao_text.specs.declared.kinds.Part.{Part}
+use Rattle.bao_text.specs.declared.kinds.Part.TheVariants.{Slice}
 use Rattle.bao_decode.specs.Cutting.{IsCutOf}
 use Rattle.bao_decode.specs.Ranges.{part_bytes}
 use Rattle.bao_decode.specs.Weaving.{IsCutBeside, are_whole, woven_text}

@@ -1,14 +1,15 @@
 -- Two disks of which the same is known.
-use Rattle.std.proofs.Common.{◌≡◌, ◌≢◌, ◌⊎◌, ◌∙◌, ℕ, List, true, false, Option, Some, Result, Ok, Err, IfOk, OnOk, OnErr, ap, bytes_eq, inl, inr, subst, sym}
+use Rattle.std.proofs.Common.{◌≡◌, ◌≢◌, ◌⊎◌, ◌∙◌, ℕ, List, true, false, Option, Some, Result, Ok, Err, IfErr, IfOk, OnOk, OnErr, ap, bytes_eq, inl, inr, subst, sym}
 use Rattle.std.proofs.lemmas.Bool.{cases_Bool, true≢false}
 use Rattle.std.proofs.lemmas.Slice.Eq.{bytes_eq-Decides}
+use Rattle.std.specs.Borrow.{Bor}
 use Rattle.b3tree.specs.declared.values.Hash.{Hash}
 use Rattle.bao_files.specs.Disks.{FileState, Unknown, Absent, Stored, AreOf, IsKnown, KeepsFiles, Puts}
 use Rattle.bao_files.specs.Printed.{OnOutput, Prints}
 use Rattle.bao_files.specs.declared.fault.FileFault.{FileFault}
 use Rattle.bao_files.specs.declared.fault.FileFault.TheVariants.{Encoding, Memory, Output, Read, Write}
 use Rattle.determined_files.proofs.Writers.{same_hash}
-use Rattle.determined_files.specs.Agreeing.{SameWhereKnown}
+use Rattle.determined_files.specs.Agreeing.{AgreeUnless, SameWhereKnown}
 
 -- known bytes are one text
 pub one_text : (state : FileState) (a b : List ℕ) → IsKnown state → AreOf state a → AreOf state b → a ≡ b
@@ -89,3 +90,22 @@ pub same_hashes : {E F : Type 0} (r : Result Hash E) (s : Result Hash F) → IfO
 same_hashes (Ok x) (Ok y) same = same_hash x y same
 same_hashes (Ok x) (Err f) same = tt
 same_hashes (Err e) s same = tt
+
+-- both have one answer, but for faults that may come at any time
+pub answers_or_fault : {X E : Type 0} (P : E → Type 0) (r s : Result X E) → IfOk r (λ x. IfOk s (λ y. x ≡ y)) → IfErr r P → IfErr s P → AgreeUnless (λ x y. x ≡ y) P P r s
+answers_or_fault P (Ok x) (Ok y) same p q = same
+answers_or_fault P (Ok x) (Err f) same p q = q
+answers_or_fault P (Err e) (Ok y) same p q = p
+answers_or_fault P (Err e) (Err f) same p q = inr (inl p)
+
+-- a file that isn't there can't be read
+pub none_at : (state : FileState) (text : List ℕ) → state ≡ Absent → AreOf state text → ⊥
+none_at state text is are = subst (λ (s : FileState). AreOf s text) is are
+
+pub unread_agree : {X : Type 0} (path : Bor (List ℕ)) (r s : Result X FileFault) → IfOk r (λ _. ⊥) → IfErr r (λ fault. (fault ≡ Memory) ⊎ (fault ≡ Read path)) → IfOk s (λ _. ⊥)
+    → IfErr s (λ fault. (fault ≡ Memory) ⊎ (fault ≡ Read path)) → AgreeUnless (λ _ _. ⊥) (λ fault. fault ≡ Memory) (λ fault. fault ≡ Memory) r s
+unread_agree path (Ok x) s p p' q q' = absurd p
+unread_agree path (Err e) (Ok y) p p' q q' = absurd q
+unread_agree path (Err e) (Err f) p (inl memory) q q' = inr (inl memory)
+unread_agree path (Err e) (Err f) p (inr read) q (inl memory) = inr (inr memory)
+unread_agree path (Err e) (Err f) p (inr read) q (inr also) = inl (read ∙ sym also)

@@ -6,7 +6,7 @@ use Rattle.b3tree.specs.declared.mode.Mode.{Mode}
 use Rattle.b3tree.specs.declared.values.Hash.{Hash}
 use Rattle.bao_files.specs.declared.fault.FileFault.{FileFault}
 use Rattle.bao_files.specs.declared.fault.FileFault.TheVariants.{Read, Write, Output, Encoding, Memory}
-use Rattle.bao_files.specs.declared.kinds.Encoding.{Encoding as Kind}
+use Rattle.bao_text.specs.declared.kinds.Encoding.{Encoding as Kind}
 use Rattle.bao_files.specs.Encoded.{Encodes, encoding_text}
 use Rattle.bao_files.specs.Printed.{IsQuiet, Leaves, Prints}
 use Rattle.bao_text.specs.declared.fault.WriteFault.{WriteFault}

@@ -4,8 +4,8 @@ use Rattle.bao_files.specs.Disks.{FileState, IsKnown}
 use Rattle.bao_files.specs.declared.fault.FileFault.{FileFault}
 use Rattle.bao_files.specs.declared.fault.FileFault.TheVariants.{Read, Write, Output}
 use Rattle.bao_files.specs.declared.fault.FileFault.TheVariants as file
-use Rattle.bao_files.specs.declared.kinds.Encoding.{Encoding}
-use Rattle.bao_files.specs.declared.kinds.Encoding.TheVariants.{Combined}
+use Rattle.bao_text.specs.declared.kinds.Encoding.{Encoding}
+use Rattle.bao_text.specs.declared.kinds.Encoding.TheVariants.{Combined}
 use Rattle.bao_read.specs.declared.fault.ReadFault.{ReadFault}
 use Rattle.bao_read.specs.declared.fault.ReadFault.TheVariants.{Memory}
 

@@ -1,13 +1,15 @@
 // Encodings that `bao_files` writes to writers that hold the same.
 
-ghost use Rattle.std.specs.Prelude.{◌≡◌, ℕ, List, IfOk, IfSome, OnErr, OnOk, Some};
-ghost use Rattle.bao_files.specs.Disks.{IsKnown};
-ghost use Rattle.determined_files.specs.Agreeing.{IsBeforeWriting, SameWhereKnown, SameWritten};
+ghost use Rattle.std.specs.Prelude.{◌≡◌, ℕ, List, length, IfOk, IfSome, OnErr, OnOk, Some};
+ghost use Rattle.bao_files.specs.Disks.{Absent, IsKnown, Stored};
+ghost use Rattle.bao_files.specs.Encoded.{IsAfterReading, IsReadOnce};
+ghost use Rattle.bao_files.specs.declared.fault.FileFault.TheVariants as FileFault;
+ghost use Rattle.determined_files.specs.Agreeing.{AgreeUnless, IsBeforeWriting, SameWhereKnown, SameWritten};
 
 use b3tree::{Hash, Mode};
-use bao_files::{Disk, Encoding, FileFault, Progress, encode_input, encode_on, write_encoding};
+use bao_files::{Disk, FileFault, Progress, encode_input, encode_on, write_encoding};
 use bao_read::Source;
-use bao_text::WriteFault;
+use bao_text::{Encoding, WriteFault};
 use std::alloc::Global;
 use std::io::{Read, Write};
 use std::thread::Threads;
@@ -66,8 +68,8 @@ pub fn encode_input_determined<
     )
 }
 
-// Any of the faults may come at any time. Where the file's bytes are known, so is the hash, and so is what is at each path of
-// which it was known before.
+// Where the file's bytes are known, so is the hash, and so is what is at each path of which it was known before. Any of the faults may come at any
+// time; but of a known file on a disk without faults, which is read once, none does but want of memory and a write that fails.
 pub fn encode_on_determined<
     'a,
     R: AllocGlobal + Threads + Sync,
@@ -88,6 +90,10 @@ pub fn encode_on_determined<
     ensures hash { IsKnown (D.at ours.old file.now) → IfOk result.0 (λ a. IfOk result.1 (λ b. a ≡ b)) }
     ensures put { IsKnown (D.at ours.old file.now) → OnOk result.0 (OnOk result.1 (SameWhereKnown (D.at ours.old) (D.at ours.new) (E.at theirs.new))) }
     ensures kept { OnErr result.0 (OnErr result.1 (SameWhereKnown (D.at ours.old) (D.at ours.new) (E.at theirs.new))) }
+    ensures answer { D.faultless ours.old → E.faultless theirs.old → IsKnown (D.at ours.old path.now) → (bytes : List ℕ) → D.at ours.old file.now ≡ Stored bytes
+        → IsReadOnce encoding (length bytes) → AgreeUnless (λ a b. a ≡ b) (IsAfterReading path.entry) (IsAfterReading path.entry) result.0 result.1 }
+    ensures absent { D.at ours.old file.now ≡ Absent
+        → AgreeUnless (λ _ _. ⊥) (λ fault. fault ≡ FileFault.Memory) (λ fault. fault ≡ FileFault.Memory) result.0 result.1 }
 {
     (
         encode_on(rt, ours, mode, encoding, file, path, progress),

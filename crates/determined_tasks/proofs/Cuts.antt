@@ -13,8 +13,8 @@ use Rattle.bao_decode.proofs.Openings.{stored_is}
 use Rattle.bao_decode.proofs.Weavings.{whole_fits, woven_len}
 use Rattle.bao_files.specs.Disks.{FileState, IsKnown, Puts, Stored}
 use Rattle.bao_files.specs.declared.fault.FileFault.TheVariants as file
-use Rattle.bao_files.specs.declared.kinds.Part.{Part}
-use Rattle.bao_files.specs.declared.kinds.Part.TheVariants.{Slice}
+use Rattle.bao_text.specs.declared.kinds.Part.{Part}
+use Rattle.bao_text.specs.declared.kinds.Part.TheVariants.{Slice}
 use Rattle.determined_files.proofs.OnDisks.{puts_same}
 use Rattle.determined_files.specs.Agreeing.{AgreeUnless, SameWhereKnown}
 use Rattle.determined_tasks.specs.Copies.{MayComeBeside, MayComeOfCopy}

@@ -19,7 +19,7 @@ use Rattle.bao_decode.specs.declared.decode_fault.DecodeFault.TheVariants.{Check
 use Rattle.bao_files.specs.Disks.{FileState, AreOf, Absent}
 use Rattle.bao_files.specs.declared.fault.FileFault.{FileFault}
 use Rattle.bao_files.specs.declared.fault.FileFault.TheVariants as file
-use Rattle.bao_files.specs.declared.kinds.Part.{Part}
+use Rattle.bao_text.specs.declared.kinds.Part.{Part}
 use Rattle.determined_check.proofs.OneFault.{one_bare_fault, one_fault}
 use Rattle.determined_files.specs.Agreeing.{AgreeUnless}
 use Rattle.determined_tasks.specs.Copies.{MayComeBeside, MayComeOfCopy}

@@ -7,7 +7,7 @@ use Rattle.bao_decode.specs.declared.decode_fault.DecodeFault.TheVariants.{Check
 use Rattle.bao_decode.specs.Ranges.{part_bytes}
 use Rattle.bao_decode.specs.TextPass.{DraftsKnown, LeavesDraft}
 use Rattle.bao_files.specs.declared.fault.FileFault.{FileFault}
-use Rattle.bao_files.specs.declared.kinds.Part.{Part}
+use Rattle.bao_text.specs.declared.kinds.Part.{Part}
 use Rattle.determined_files.proofs.Writers.{grown}
 use Rattle.determined_files.specs.Agreeing.{AgreeUnless, SameWritten}
 use Rattle.determined_tasks.specs.Copies.{MayComeOfCopy}

@@ -9,8 +9,8 @@ use Rattle.bao_decode.specs.declared.decode_fault.DecodeFault.{DecodeFault}
 use Rattle.bao_decode.specs.declared.decode_fault.DecodeFault.TheVariants.{Check, File}
 use Rattle.bao_decode.specs.Ranges.{IsPartText, part_bytes, part_len, part_start, written_count}
 use Rattle.bao_decode.specs.TextPass.{DecodesKnown, EncodesKnown, IsTextFault, WritesKnown, task_of_part}
-use Rattle.bao_files.specs.declared.kinds.Part.{Part}
-use Rattle.bao_files.specs.declared.kinds.Part.TheVariants.{Slice}
+use Rattle.bao_text.specs.declared.kinds.Part.{Part}
+use Rattle.bao_text.specs.declared.kinds.Part.TheVariants.{Slice}
 use Rattle.bao_text.specs.Cut.{cut_text}
 use Rattle.determined_check.proofs.OneFault.{one_fault}
 use Rattle.determined_files.specs.Agreeing.{AgreeUnless, SameWritten}

@@ -17,8 +17,9 @@ use bao_decode::{
     DecodeFault, decode_copy_on, decode_on, read_text, write_copy, write_decoded, write_draft,
     write_slice,
 };
-use bao_files::{Disk, Part, Progress};
+use bao_files::{Disk, Progress};
 use bao_read::Source;
+use bao_text::Part;
 use std::alloc::Global;
 use std::io::{Read, Write};
 

@@ -4,8 +4,7 @@ use crate::telling::tell_text;
 use anyhow::Result;
 use b3tree::{Hash, Mode};
 use bao_decode::{DecodeFault, write_decoded};
-use bao_files::Part;
-use bao_text::{combined, cut_slice};
+use bao_text::{Part, combined, cut_slice};
 use std::alloc::Global;
 
 /// Writes the bytes of `len` from `start` on that this slice has of the blob with this root, and answers how many there are. The

@@ -3,7 +3,8 @@
 use crate::telling::tell_text;
 use anyhow::{Context, Result};
 use b3tree::{Hash, Mode};
-use bao_files::{Disk, Encoding, FileFault, Held, encode_on};
+use bao_files::{Disk, FileFault, Held, encode_on};
+use bao_text::Encoding;
 use std::alloc::Global;
 use std::thread::Threads;
 

@@ -1,6 +1,6 @@
 use Rattle.std.proofs.Common.{ℕ, List, subst, sym}
 use Rattle.bao_files.specs.Printed as file
-use Rattle.bao_files.specs.declared.kinds.Part.TheVariants.{Slice}
+use Rattle.bao_text.specs.declared.kinds.Part.TheVariants.{Slice}
 use Rattle.bao_command.specs.Printed.{CommandPrints}
 use Rattle.bao_command.specs.Tasks.{part_line}
 use Rattle.bao_command.specs.Works.{CutsRight}

@@ -1,5 +1,5 @@
 use Rattle.bao_files.proofs.Results.{with_fault}
-use Rattle.bao_files.specs.declared.kinds.Part.TheVariants.{Slice}
+use Rattle.bao_text.specs.declared.kinds.Part.TheVariants.{Slice}
 use Rattle.bao_text.specs.Cut.{cut_text}
 use Rattle.bao_command.proofs.Refusals.{beside_refused, text_refused}
 use Rattle.bao_command.proofs.commands.slice_of.Goals as goal

@@ -1,7 +1,7 @@
 use Rattle.std.proofs.Common.{◌≡◌, ◌^◌, ◌<◌, ℕ, List, length, Err, IfErr, sym, ap, subst, ◌∙◌}
 use Rattle.std.proofs.lemmas.Result.{err_from_is_err_and}
 use Rattle.bao_files.specs.Disks.{IsKnown, Stored}
-use Rattle.bao_files.specs.declared.kinds.Part.TheVariants.{Slice}
+use Rattle.bao_text.specs.declared.kinds.Part.TheVariants.{Slice}
 use Rattle.bao_files.proofs.Disks.{puts_text}
 use Rattle.bao_text.specs.Cut.{cut_text}
 use Rattle.bao_decode.specs.Opened.{is_origin_faultless, origin_contents}

@@ -1,6 +1,6 @@
 use Rattle.std.proofs.Common.{sym, subst}
 use Rattle.bao_files.specs.Encoded.{Encodes}
-use Rattle.bao_files.specs.declared.kinds.Encoding.{Encoding}
+use Rattle.bao_text.specs.declared.kinds.Encoding.{Encoding}
 use Rattle.bao_files.proofs.Encodings.{made_len}
 use Rattle.bao_files.proofs.output.encode_input.Goals as goal
 

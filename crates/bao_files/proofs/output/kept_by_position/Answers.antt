@@ -1,6 +1,6 @@
 use Rattle.std.proofs.Common.{ℕ, List, IfSome, sym, subst}
 use Rattle.bao_files.specs.Encoded.{IsMadeEncoding}
-use Rattle.bao_files.specs.declared.kinds.Encoding.TheVariants.{Outboard}
+use Rattle.bao_text.specs.declared.kinds.Encoding.TheVariants.{Outboard}
 use Rattle.bao_files.proofs.output.kept_by_position.Goals as goal
 
 pub returns-clause-all : goal.returns-clause-all

@@ -2,7 +2,7 @@ use Rattle.std.proofs.Common.{◌≡◌, subst, sym, ◌∙◌, arith}
 use Rattle.bao_text.specs.Cut.{cut_text}
 use Rattle.bao_decode.proofs.Cuttings.{cut_text-few}
 use Rattle.bao_files.specs.Disks.{IsKnown, Stored}
-use Rattle.bao_files.specs.declared.kinds.Part.TheVariants.{Slice}
+use Rattle.bao_text.specs.declared.kinds.Part.TheVariants.{Slice}
 use Rattle.bao_files.proofs.Results.{with_fault, with_right}
 use Rattle.determined_files.proofs.OnDisks.{both_kept, if_ok}
 use Rattle.determined_tasks.proofs.Cuts.{both_cut, cut_is, part_is}

@@ -1,4 +1,4 @@
-/// Which part of a blob an encoding that is checked is of.
+/// Which part of a blob an encoding is of.
 #[derive(Clone, Copy, Debug)]
 pub enum Part {
     /// All of it: a combined encoding.
