@@ -4,7 +4,7 @@ SHELL := bash
 .SHELLFLAGS := -eu -o pipefail -c
 .DEFAULT_GOAL := help
 .DELETE_ON_ERROR:
-.PHONY: help build run try install dist sum test proofs trials c-trials wrong-bodies scenarios program-scenarios docs c-library c-levels c-install c-test c-bench fetch fetch-install fetch-test fetch-bench bench refuse replaced memory stress statement cites fmt FORCE
+.PHONY: help build run try install dist sum test proofs refusals trials c-trials wrong-bodies scenarios program-scenarios docs c-library c-levels c-install c-test c-bench fetch fetch-install fetch-test fetch-bench bench refuse replaced memory stress statement cites fmt FORCE
 
 PREFIX ?= /usr/local
 # Where the C library and its header go.
@@ -112,18 +112,21 @@ test:
 	@python3 scripts/promises.py
 	@python3 scripts/bench.py --read
 	@python3 scripts/manual.py out/manual
-	@$(MAKE) --no-print-directory -j 2 proofs scenarios
+	@$(MAKE) --no-print-directory -j 3 proofs scenarios refusals
 	@python3 scripts/docs.py crates/bao_gather/out/bao_gather
 	@python3 scripts/proved_by_ci.py berylwool
 	@$(MAKE) --no-print-directory -j 2 --output-sync=recurse trials c-trials
 
-# The parts of make test that take long, two at a time, so that no processor waits for one of them.
+# The parts of make test that take long, some at a time, so that no processor waits for one of them. What needs no proof takes what
+# rt ci leaves.
 proofs:
 	rt ci
 
+refusals:
+	@nice -n 10 python3 scripts/refuse_libraries.py
+
 trials:
 	@python3 scripts/program_scenarios.py crates/bao_gather/out/bao_gather{,.by-rattle}
-	@python3 scripts/refuse_libraries.py
 	@python3 scripts/refuse.py crates/bao_gather/out/bao_gather
 	@python3 scripts/replaced.py crates/bao_gather/out/bao_gather
 	@python3 scripts/memory.py crates/bao_gather/out/bao_gather
@@ -137,7 +140,7 @@ wrong-bodies:
 	@python3 scripts/wrong_bodies.py $(if $(JOBS),--jobs $(JOBS)) $(CRATES)
 
 scenarios:
-	@python3 scripts/scenarios.py
+	@nice -n 10 python3 scripts/scenarios.py
 
 program-scenarios: out/bao_gather
 	@python3 scripts/program_scenarios.py out/bao_gather

@@ -19,7 +19,7 @@ sys.dont_write_bytecode = True
 import refuse_libraries
 import rt_module
 
-CRATES = ["tests_memory", "tests_streams", "tests_threads"]
+CRATES = ["tests_libraries", "tests_program"]
 
 # A run that is slow has not failed: only one that is held for ever has.
 SECONDS = "3600"

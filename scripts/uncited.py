@@ -18,10 +18,10 @@ OF_FUNCTIONS = re.compile(r"/(?:Answers|Invariants|Proof)\.antt$")
 COMMENT = re.compile(r"(?m)--.*$")
 NAME = re.compile(r"[^\s(){}\[\],;.λ↦:=|`]+")
 HEAD = r"(?:(?:pub|abbrev|opaque|unfoldable|data|record) )*"
-STATED = re.compile(rf"(?m)^{HEAD}([^\s:(){{}},|=\[\]]+) (?:\{{[^}}\n]*\}} |\([^)\n]*\) )*: ")
+STATED = re.compile(rf"(?m)^{HEAD}([^\s:(){{}},|=\[\]]+) (?:\{{[^}}\n]*\}} |\([^)\n]*\) )*:(?: |$)")
 
 
-def uncited(file, text, counts):
+def uncited(text, counts):
     """Returns the names that this file states, and that stand nowhere but at the beginning of their own lines."""
     names = sorted({it for it in STATED.findall(text) if it not in ("use", "module")})
     return [it for it in names if counts[it] <= len(re.findall(rf"(?m)^{HEAD}{re.escape(it)}(?=[\s:])", text))]
@@ -33,7 +33,7 @@ def main():
     documents = [open(it, encoding="utf-8").read() for it in sorted(glob.glob("docs/*.md"))]
     counts = collections.Counter(name for it in [*texts.values(), *documents] for name in NAME.findall(it))
     stated = {it: text for it, text in texts.items() if it.endswith(".antt") and not OF_FUNCTIONS.search(it) and it not in LAWS}
-    found = [f"{it}: nothing cites {name}" for it, text in stated.items() for name in uncited(it, text, counts)]
+    found = [f"{it}: nothing cites {name}" for it, text in stated.items() for name in uncited(text, counts)]
     print("\n".join([*found, f"{len(stated)} files of definitions and lemmas, {len(found)} that nothing cites"]))
     return bool(found)
 

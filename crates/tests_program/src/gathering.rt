@@ -1,0 +1,166 @@
+use crate::program::{expect, path};
+use b3tree::{Cv, Hash, Mode, cv, parent_input, root_hash, rooted, subtree_cv};
+use bao_tasks::{Form, GatheredFault, Gathering, Grain, write_gathered};
+use bao_text::combined;
+use std::alloc::Global;
+use std::fs::File;
+use std::io::ErrorKind;
+use std::process::Abort;
+use std::rt::Files;
+use std::test::Fail;
+use std::thread::Threads;
+use std::{fs, process};
+use tests_libraries::bytes::{Broken, blob, failing, taking};
+
+// A text of nodes, with the length that it claims.
+fn text_of(alloc: Global, len: u64, nodes: &[&[u8]]) -> Result<Vec<u8>, Fail> {
+    let mut text = Vec::new(alloc);
+    text.extend_from_slice(&len.to_le_bytes())?;
+    for node in nodes {
+        text.extend_from_slice(node)?;
+    }
+    Ok(text)
+}
+
+// The 64 bytes of a parent.
+fn parent_of(left: &Cv, right: &Cv) -> [u8; 64] {
+    let mut bytes = [0; 64];
+    bytes[..32].copy_from_slice(&left.to_bytes());
+    bytes[32..].copy_from_slice(&right.to_bytes());
+    bytes
+}
+
+// A root that no blob has, its 64 bytes, and those of the parent on its left, whose parts are both the first bytes.
+fn no_blob(first: &[u8], last: &[u8]) -> (Hash, [u8; 64], [u8; 64]) {
+    let mode = Mode::hash();
+    let left = subtree_cv(&mode, 0, first);
+    let right = subtree_cv(&mode, 64, last);
+    let both = Cv(cv(&parent_input(&mode, &left, &left)));
+    let root = root_hash(&rooted(&parent_input(&mode, &both, &right)));
+    (root, parent_of(&both, &right), parent_of(&left, &left))
+}
+
+// The nodes below the claimed length.
+fn nodes_of(alloc: Global, bytes: &[u8]) -> Result<Vec<u8>, Fail> {
+    let (_, whole) = combined(alloc, &Mode::hash(), bytes)?;
+    let mut nodes = Vec::new(alloc);
+    nodes.extend_from_slice(whole.as_slice().get(8..).ok_or("nodes")?)?;
+    Ok(nodes)
+}
+
+// A text of the last bytes, with zeros in the place of the nodes before them.
+fn end_of(alloc: Global, top: &[u8], count: usize, last: &[u8]) -> Result<Vec<u8>, Fail> {
+    let zeros = vec![in alloc; 0; count]?;
+    text_of(alloc, 66_012, &[top, zeros.as_slice(), last])
+}
+
+// Such a root, and the texts of its beginning and of its end.
+fn texts_of_no_blob(alloc: Global) -> Result<(Hash, Vec<u8>, Vec<u8>), Fail> {
+    let first = blob(alloc, 65_536)?;
+    let last = blob(alloc, 476)?;
+    let (root, top, parent) = no_blob(first.as_slice(), last.as_slice());
+    let nodes = nodes_of(alloc, first.as_slice())?;
+    let end = end_of(alloc, &top, nodes.len(), last.as_slice())?;
+    let start = text_of(alloc, 131_548, &[&top, &parent, nodes.as_slice()])?;
+    Ok((root, start, end))
+}
+
+// The program makes no blob of these files.
+fn makes_none<'a, R: Files<File = File> + AllocGlobal + Threads + Sync + Abort>(
+    rt: &R,
+    digits: &'a str,
+    out: &'a str,
+    begins: &'a str,
+    ends: &'a str,
+) -> Result<(), Fail> {
+    let other = "bao_gather: 902 not the root\n";
+    expect(rt, &["gather", digits, out, ends, begins], 1, "", other)?;
+    assert!(rt; fs::metadata(rt, out).is_err());
+    Ok(())
+}
+
+fn with_files<R: Files<File = File> + AllocGlobal + Threads + Sync + Abort>(
+    rt: &R,
+    id: u32,
+    root: &Hash,
+    start: &[u8],
+    end: &[u8],
+) -> Result<(), Fail> {
+    let digits = hex::encode(rt.alloc(), &root.0)?;
+    let begins = path(rt.alloc(), id, "begins")?;
+    let ends = path(rt.alloc(), id, "ends")?;
+    let out = path(rt.alloc(), id, "no-blob")?;
+    fs::write(rt, begins.as_str(), start)?;
+    fs::write(rt, ends.as_str(), end)?;
+    makes_none(
+        rt,
+        digits.as_str(),
+        out.as_str(),
+        begins.as_str(),
+        ends.as_str(),
+    )?;
+    fs::remove_file(rt, begins.as_str())?;
+    fs::remove_file(rt, ends.as_str())?;
+    Ok(())
+}
+
+// Under the hash of a parent that no blob has, one file certifies 65 chunks and the last of them, another 129 chunks
+// and the first 64: all chunks come together, and no blob.
+#[test]
+fn a_root_of_no_blob(rt: HostRuntime) -> Result<(), Fail> {
+    let (root, start, end) = texts_of_no_blob(rt.alloc())?;
+    let id = process::id(rt.process());
+    with_files(&rt, id, &root, start.as_slice(), end.as_slice())
+}
+
+fn written<R: AllocGlobal + Threads + Sync>(
+    rt: &R,
+    root: &Hash,
+    how: Gathering,
+    sources: &[&[u8]],
+    out: &mut Broken,
+) -> Result<u64, GatheredFault<'static>> {
+    let form = Form::Slices;
+    write_gathered(rt, &Mode::hash(), root, &form, how, 1, sources, "OUT", out)
+}
+
+// The text goes to writers that fail, after a beginning of it, and to one that can't be flushed.
+fn is_written<R: AllocGlobal + Threads + Sync + Abort>(
+    rt: &R,
+    root: &Hash,
+    encode: bool,
+    sources: &[&[u8]],
+    text: &[u8],
+) {
+    let how = Gathering {
+        workers: 2,
+        capacity: 3,
+        long: false,
+        encode,
+        count: false,
+        parts: 0,
+        grain: Grain::Group,
+    };
+    for room in [0, 10, 2048] {
+        let mut out: Broken = failing(rt.alloc(), room, ErrorKind::Interrupted);
+        let fault = written(rt, root, how, sources, &mut out);
+        assert!(rt; fault.is_err());
+        assert_eq!(rt; Some(out.held.as_slice()), text.get(..room));
+    }
+    let mut out = taking(rt.alloc());
+    out.stuck = true;
+    let fault = written(rt, root, how, sources, &mut out);
+    assert!(rt; fault.is_err());
+    assert_eq!(rt; out.held.as_slice(), text);
+}
+
+// Of the blob and of its encoding.
+#[test]
+fn blobs_to_writers(rt: HostRuntime) -> Result<(), Fail> {
+    let bytes = blob(rt.alloc(), 2049)?;
+    let (root, whole) = combined(rt.alloc(), &Mode::hash(), bytes.as_slice())?;
+    let sources = [whole.as_slice()];
+    is_written(&rt, &root, false, &sources, bytes.as_slice());
+    is_written(&rt, &root, true, &sources, whole.as_slice());
+    Ok(())
+}

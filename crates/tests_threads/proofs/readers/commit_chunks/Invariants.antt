@@ -1,5 +1,0 @@
-use Rattle.store_shared.specs.Seats.{IsSeatOf}
-use Rattle.tests_threads.proofs.readers.commit_chunks.Given as goal
-
-abbrev pub invariant-loop-chunk : goal.invariant-loop-chunk
-invariant-loop-chunk g l = IsSeatOf l.assembly l.seat
