@@ -1,9 +1,9 @@
 -- What a fault of status 1 says of the files.
-use Rattle.std.proofs.Common.{◌≡◌, ◌⊎◌, ◌∙◌, ℕ, List, Bor, Option, Result, Err, inl, inr, ap, sym, arith}
+use Rattle.std.proofs.Common.{◌≡◌, ◌≢◌, ◌⊎◌, ◌∙◌, ℕ, List, Bor, Result, Err, inl, inr, ap, sym, arith}
 use Rattle.b3tree.specs.declared.mode.Mode.{Mode}
 use Rattle.b3tree.specs.declared.values.Hash.{Hash}
 use Rattle.bao_check.specs.declared.fault.CheckFault.{CheckFault}
-use Rattle.bao_files.specs.Disks.{FileState}
+use Rattle.bao_files.specs.Disks.{Absent, FileState}
 use Rattle.bao_files.specs.declared.fault.FileFault.TheVariants as files
 use Rattle.bao_text.specs.declared.kinds.Part.{Part}
 use Rattle.bao_text.specs.declared.kinds.Part.TheVariants.{Slice}
@@ -13,6 +13,7 @@ use Rattle.bao_check.specs.Accepted.{IsAccepted, outboard_nodes}
 use Rattle.bao_check.specs.Bare.{IsBareFault}
 use Rattle.bao_check.specs.Faults.{IsFirstFault}
 use Rattle.bao_decode.specs.Copies.{BesideStops}
+use Rattle.bao_decode.specs.Opened.{IsNotThere}
 use Rattle.bao_decode.specs.TextPass.{DecodeStops, IsTextFault, task_of_part}
 use Rattle.bao_decode.specs.Weaving.{CutBesideStops, woven_text}
 use Rattle.bao_decode.specs.declared.decode_fault.DecodeFault.{DecodeFault}
@@ -20,11 +21,17 @@ use Rattle.bao_decode.specs.declared.decode_fault.DecodeFault.TheVariants as dec
 use Rattle.bao_tasks.specs.Replayed.{IsRefusedRun, IsStoppedRun, OfFiles}
 use Rattle.bao_tasks.specs.declared.rerun_fault.RerunFault.{RerunFault}
 use Rattle.bao_tasks.specs.declared.rerun_fault.RerunFault.TheVariants as rerun
-use Rattle.bao_script.specs.declared.fault.ReplayScriptFault.{ReplayScriptFault}
 use Rattle.bao_script.specs.declared.fault.ReplayScriptFault.TheVariants as replay
 use Rattle.bao_command.specs.Refused.{HasFault}
 use Rattle.bao_command.specs.Status.{decode_status_of, rerun_status_of}
 use Rattle.bao_command.proofs.Telling.{file_refuses_none}
+
+-- a text that is refused is there
+pub is_there : (state : FileState) (path : Bor (List ℕ)) (fault : DecodeFault) → decode_status_of fault ≡ 1 → (state ≡ Absent → IsNotThere path fault) → state ≢ Absent
+is_there state path fault is absent none = elim (absent none) [
+  | inl memory ↦ file_refuses_none files.Memory (ap decode_status_of (sym memory) ∙ is)
+  | inr read ↦ file_refuses_none (files.Read path) (ap decode_status_of (sym read) ∙ is)
+]
 
 module _ (mode : Mode) (root : List ℕ) (faultless : Type 0) where
   pub text_refused : (part : Part) (text : List ℕ) (file path : Bor (List ℕ)) (fault : DecodeFault) → decode_status_of fault ≡ 1

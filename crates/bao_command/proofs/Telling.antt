@@ -1,11 +1,12 @@
 -- What was printed, as the program tells it, and what its faults leave.
-use Rattle.std.proofs.Common.{◌≡◌, ◌≢◌, ℕ, List, Option, Result, Ok, Err, IfErr, IsErrAnd, inl, inr, arith, sym, ap, subst, ◌∙◌}
+use Rattle.std.proofs.Common.{◌≡◌, ◌≢◌, ℕ, List, Option, Result, Ok, Err, IfErr, IsErrAnd, OnOk, inr, arith, sym, ap, ◌∙◌}
+use Rattle.std.specs.Io.KnownBytes.{Appends}
 use Rattle.bao_files.specs.Disks.{FileState}
 use Rattle.bao_files.specs.Printed as file
 use Rattle.bao_files.specs.declared.fault.FileFault.{FileFault}
 use Rattle.bao_files.specs.declared.fault.FileFault.TheVariants as files
 use Rattle.bao_command.specs.declared.fault.Fault.{Fault}
-use Rattle.bao_command.specs.declared.fault.Fault.TheVariants.{File, Root}
+use Rattle.bao_command.specs.declared.fault.Fault.TheVariants.{Root}
 use Rattle.bao_command.specs.Printed.{CommandPrints, OnPrinted, told_of}
 use Rattle.bao_command.specs.Status.{file_status_of, status_of}
 use Rattle.bao_command.specs.Tasks.{IsOfFile}
@@ -23,6 +24,15 @@ on_printed (Err fault) p = λ _. p
 pub both_printed : (P Q : Type 0) (result : Result Unit Fault) → OnPrinted result P → OnPrinted result Q → OnPrinted result (P × Q)
 both_printed P Q (Ok done) p q = (p, q)
 both_printed P Q (Err fault) p q = λ is. (p is, q is)
+
+-- what holds of a line that was printed
+pub on_line : {P : Type 0} (line : List ℕ) (old new : Option (List ℕ)) (result : Result Unit Fault) → CommandPrints line old new result → (Appends old new line → P) → OnOk result P
+on_line line old new (Ok done) prints step = step prints
+on_line line old new (Err fault) prints step = tt
+
+pub on_ok : {P : Type 0} (result : Result Unit Fault) → P → OnOk result P
+on_ok (Ok done) p = p
+on_ok (Err fault) p = tt
 
 -- what was done before a line was printed
 pub leaves_after : (at after : List ℕ → FileState) (Did : List ℕ → Type 0) (result : Result Unit Fault) → IfErr result IsOfFile → (bytes : List ℕ) → Did bytes → IfErr result (Leaves at after Did)

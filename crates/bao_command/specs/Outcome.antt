@@ -10,7 +10,7 @@ use Rattle.bao_request.specs.declared.tasks.Request.{Request}
 use Rattle.bao_request.specs.CommandLine.{AsksFor, AsksForHelp, program_app}
 use Rattle.bao_command.specs.declared.fault.Fault.{Fault}
 use Rattle.bao_command.specs.Status.{status_of}
-use Rattle.bao_command.specs.Refused.{IsRefusedFor}
+use Rattle.bao_command.specs.Refused.{IsBlobFor, IsRefusedFor}
 use Rattle.bao_command.specs.Tasks.{Decodes, Gathers, IsDue, LeavesFilesOf, PrintsBeginning, PrintsLine, Replays, reasons_of}
 
 -- clap finds a fault with the arguments, and it isn't that they ask for help or the version
@@ -20,6 +20,10 @@ AreRefused words = (fault_of program_app words ≢ []) × ¬ AsksForHelp words
 -- at status 0: the line of what the arguments ask for, or they ask for help or the version
 abbrev pub Done : List Text → (List ℕ → FileState) → (List ℕ → FileState) → Option (List ℕ) → Option (List ℕ) → Type 0
 Done words at after old new = (AsksForHelp words × KeepsFiles at after) ⊎ ((request : Request) × AsksFor words request × PrintsLine request at after old new)
+
+-- At status 0 of what gathers: each blob with the root was put at OUT, and its length printed, as far as the files are known; or they ask for help.
+abbrev pub IsEachFor : List Text → Type 0 → (List ℕ → FileState) → (List ℕ → FileState) → Option (List ℕ) → Option (List ℕ) → Type 0
+IsEachFor words sure at after old new = AsksForHelp words ⊎ ((request : Request) × AsksFor words request × IsBlobFor sure at after request old new)
 
 -- help was printed, or its reader had closed the pipe before its end
 abbrev pub IsShown : Result Unit Error → Type 0

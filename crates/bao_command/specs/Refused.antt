@@ -1,5 +1,5 @@
 -- what is refused with status 1: a text, or a blob, as far as the files are known
-use Rattle.std.specs.Prelude.{◌≡◌, ◌⊎◌, ℕ, ◌^◌, ◌<◌, ◌≤◌, Bool, true, false, List, length, Option, None, Some, Ok, slice_get}
+use Rattle.std.specs.Prelude.{◌≡◌, ◌≢◌, ◌⊎◌, ℕ, ◌^◌, ◌<◌, ◌≤◌, Bool, true, false, if◌then◌else◌, List, length, Option, None, Some, Ok}
 use Rattle.std.specs.Borrow.{Bor}
 use Rattle.b3tree.specs.declared.mode.Mode.{Mode}
 use Rattle.b3tree.specs.declared.values.Hash.{Hash as Root32}
@@ -10,15 +10,22 @@ use Rattle.bao_check.specs.Accepted.{IsAccepted, outboard_nodes}
 use Rattle.bao_check.specs.Bare.{IsBareFault}
 use Rattle.bao_check.specs.Faults.{IsFirstFault}
 use Rattle.bao_check.specs.declared.fault.CheckFault.{CheckFault}
-use Rattle.bao_files.specs.Disks.{FileState, IsKnown, Stored}
+use Rattle.bao_files.specs.Disks.{Absent, FileState, IsKnown, Stored}
 use Rattle.bao_text.specs.declared.kinds.Part.{Part}
 use Rattle.bao_text.specs.declared.kinds.Part.TheVariants.{Slice}
 use Rattle.bao_decode.specs.TextPass.{IsTextFault, task_of_part}
 use Rattle.bao_decode.specs.Weaving.{are_whole, woven_text}
 use Rattle.gather.specs.Large.{HasCollision, fixed_as}
 use Rattle.gather.specs.declared.form.Form.TheVariants.{Slices}
+use Rattle.gather.specs.declared.grain.Grain.{Grain}
+use Rattle.gather.specs.declared.grain.Grain.TheVariants.{Group as ByGroup, Chunk as ByChunk}
 use Rattle.store_core.specs.Laws.{IsBlob}
-use Rattle.bao_tasks.specs.FromFiles.{CollidesBeside, IsFromFile, is_regular}
+use Rattle.store_core.specs.declared.fixed.Fixed.{Fixed}
+use Rattle.std.specs.Io.KnownBytes.{Appends}
+use Rattle.bao_files.specs.Printed.{ok_line}
+use Rattle.bao_tasks.specs.FromFiles.{CollidesBeside, CollidesBesideOutline, HaveBytes, HaveCuts, IsFromFile, IsInFile}
+use Rattle.bao_tasks.specs.Gathered.{gathered_text}
+use Rattle.bao_command.specs.Effects.{PutsBoth}
 use Rattle.bao_tasks.specs.Replayed.{IsRefusedRun, IsStoppedRun, OfFiles}
 use Rattle.bao_request.specs.declared.tasks.Request.{Request}
 use Rattle.bao_request.specs.declared.tasks.Task.{Task}
@@ -35,26 +42,26 @@ HasFault IsFault = (fault : CheckFault) × (check_status_of fault ≡ 1) × IsFa
 abbrev pub OfDigits : List ℕ → (List ℕ → Type 0) → Type 0
 OfDigits digits Holds = (key : List ℕ) × ((decode_of digits ≡ Ok key) × Holds key)
 
--- where they are known, and what is at OUT, the file's bytes aren't accepted as the encoding of the part
+-- The file is there, as far as that is known; where its bytes are, and what is at OUT, they aren't accepted as the encoding of the part.
 abbrev pub IsRefusedText : (List ℕ → FileState) → Mode → Part → List ℕ → List ℕ → List ℕ → Type 0
 IsRefusedText at mode part file out key =
-    IsKnown (at out) → (text : List ℕ) → at file ≡ Stored text → HasFault (IsTextFault (task_of_part mode key part) text)
+    (at file ≢ Absent) × (IsKnown (at out) → (text : List ℕ) → at file ≡ Stored text → HasFault (IsTextFault (task_of_part mode key part) text))
 
--- the slice isn't that is cut out of the file, or of the copy in it beside the outboard encoding that is named, where both are whole
+-- so it is of the slice that is cut out of the file, or of the copy in it beside the outboard encoding that is named, where both are whole
 abbrev pub IsRefusedCut : (List ℕ → FileState) → Mode → ℕ → ℕ → Option (Bor (List ℕ)) → List ℕ → List ℕ → List ℕ → Type 0
 IsRefusedCut at mode start len None file out key =
-    IsKnown (at out) → (text : List ℕ) → at file ≡ Stored text → length text < 2 ^ 63
-    → HasFault (IsTextFault (task_of_part mode key (Slice start len)) (cut_text text start len))
+    (at file ≢ Absent) × (IsKnown (at out) → (text : List ℕ) → at file ≡ Stored text → length text < 2 ^ 63
+    → HasFault (IsTextFault (task_of_part mode key (Slice start len)) (cut_text text start len)))
 IsRefusedCut at mode start len (Some outboard) file out key =
-    IsKnown (at out) → (outline bytes : List ℕ) → at outboard.now ≡ Stored outline → at file ≡ Stored bytes → are_whole (claimed outline) outline bytes ≡ true
-    → HasFault (IsTextFault (task_of_part mode key (Slice start len)) (cut_text (woven_text (claimed outline) outline bytes) start len))
+    (at outboard.now ≢ Absent) × (IsKnown (at out) → (outline bytes : List ℕ) → at outboard.now ≡ Stored outline → at file ≡ Stored bytes → are_whole (claimed outline) outline bytes ≡ true
+    → HasFault (IsTextFault (task_of_part mode key (Slice start len)) (cut_text (woven_text (claimed outline) outline bytes) start len)))
 
--- the one file's bytes aren't accepted as an outboard encoding, or the other's aren't beside it
+-- The one file is there, and its bytes aren't accepted as an outboard encoding, or the other's aren't beside it.
 abbrev pub IsRefusedCopy : (List ℕ → FileState) → Mode → List ℕ → List ℕ → List ℕ → List ℕ → Type 0
 IsRefusedCopy at mode outboard copy out key =
-    IsKnown (at out) → (outline bytes : List ℕ) → at outboard ≡ Stored outline → at copy ≡ Stored bytes
+    (at outboard ≢ Absent) × (IsKnown (at out) → (outline bytes : List ℕ) → at outboard ≡ Stored outline → at copy ≡ Stored bytes
     → HasFault (λ fault. IsFirstFault mode key outline (outboard_nodes outline) fault
-    ⊎ (IsAccepted mode key outline (outboard_nodes outline) × IsBareFault mode key outline 0 (chunk_count (claimed outline)) bytes fault))
+    ⊎ (IsAccepted mode key outline (outboard_nodes outline) × IsBareFault mode key outline 0 (chunk_count (claimed outline)) bytes fault)))
 
 -- it holds of the root that they give
 abbrev pub OfRoot : List ℕ → (Root32 → Type 0) → Type 0
@@ -64,19 +71,25 @@ OfRoot digits Holds = (root : Root32) × ((decode_of digits ≡ Ok root.0) × Ho
 abbrev pub HasPlace : Bool → Bool → ℕ → ℕ → Type 0
 HasPlace encode long capacity n = ((encode ≡ false) × (long ≡ true)) ⊎ (chunk_count n ≤ capacity)
 
--- one of these files has these bytes, and isn't standard input
-abbrev pub HasTrueFile : (List ℕ → FileState) → List (Bor (List ℕ)) → List ℕ → Type 0
-HasTrueFile at files text = (i : ℕ) × (file : Bor (List ℕ)) × (slice_get files i ≡ Some file) × (is_regular file.now ≡ true) × (at file.now ≡ Stored text)
+-- One of the files, which isn't standard input, is the combined encoding of the blob; or several of them have it together, each part that they are asked for
+-- whole in one.
+abbrev pub HaveEncoding : (List ℕ → FileState) → List (Bor (List ℕ)) → Mode → Grain → List ℕ → Type 0
+HaveEncoding at files mode grain blob =
+    (IsInFile at files (combined_text mode blob) × (length (combined_text mode blob) < 2 ^ 64)) ⊎ HaveCuts (IsInFile at files) grain mode blob
 
--- No blob came together: on a disk without faults, where it is known what is at OUT, none of the files is the combined encoding of a blob with this root
--- that has room; or where an outboard encoding is named that is such a blob's own, none is its copy. Or a collision is exhibited, from one of the files.
-abbrev pub IsRefusedGathering : Type 0 → (List ℕ → FileState) → Mode → Bool → Bool → ℕ → Option (Bor (List ℕ)) → List (Bor (List ℕ)) → List ℕ → Root32 → Type 0
-IsRefusedGathering sure at mode encode long capacity None files out root =
-    sure → IsKnown (at out) → (blob : List ℕ) → IsBlob (fixed_as root mode capacity) blob → HasPlace encode long capacity (length blob) → length (combined_text mode blob) < 2 ^ 64
-    → HasTrueFile at files (combined_text mode blob) → HasCollision (IsFromFile Slices capacity at files) (fixed_as root mode capacity) blob
-IsRefusedGathering sure at mode encode long capacity (Some outboard) files out root =
+-- one of them is the blob; or several have its bytes together
+abbrev pub HaveCopy : (List ℕ → FileState) → List (Bor (List ℕ)) → Grain → List ℕ → Type 0
+HaveCopy at files grain blob = IsInFile at files blob ⊎ HaveBytes (IsInFile at files) grain blob
+
+-- No blob came together: on a disk without faults, where it is known what is at OUT, the files don't have the combined encoding of a blob with this root
+-- that has room; or where an outboard encoding is named that is such a blob's own, they don't have its bytes. Or a collision is exhibited, from one of the files.
+abbrev pub IsRefusedGathering : Type 0 → (List ℕ → FileState) → Mode → Grain → Bool → Bool → ℕ → Option (Bor (List ℕ)) → List (Bor (List ℕ)) → List ℕ → Root32 → Type 0
+IsRefusedGathering sure at mode grain encode long capacity None files out root =
+    sure → IsKnown (at out) → (blob : List ℕ) → IsBlob (fixed_as root mode capacity) blob → HasPlace encode long capacity (length blob)
+    → HaveEncoding at files mode grain blob → HasCollision (IsFromFile Slices capacity at files) (fixed_as root mode capacity) blob
+IsRefusedGathering sure at mode grain encode long capacity (Some outboard) files out root =
     sure → IsKnown (at out) → (blob : List ℕ) → IsBlob (fixed_as root mode capacity) blob → HasPlace encode long capacity (length blob) → 0 < length blob → length blob < 2 ^ 64
-    → at outboard.now ≡ Stored (outboard_text mode blob) → HasTrueFile at files blob → CollidesBeside (fixed_as root mode capacity) capacity at files blob
+    → at outboard.now ≡ Stored (outboard_text mode blob) → HaveCopy at files grain blob → CollidesBeside (fixed_as root mode capacity) capacity at files blob
 
 -- the run of the script stops at a line that isn't legal, or a line's piece isn't accepted
 abbrev pub IsRefusedReplay : (List ℕ → FileState) → Mode → List ℕ → ℕ → List ℕ → List (Bor (List ℕ)) → Type 0
@@ -92,9 +105,37 @@ IsRefused sure at mode (CutSlice root start len outboard verbose file out) = OfD
 IsRefused sure at mode (Decode root part verbose file out) = OfDigits root.now (IsRefusedText at mode part file.now out.now)
 IsRefused sure at mode (DecodeCopy root outboard verbose copy out) = OfDigits root.now (IsRefusedCopy at mode outboard.now copy.now out.now)
 IsRefused sure at mode (Gather root workers capacity long outboard salvage encode verbose missing files out) =
-    OfRoot root.now (IsRefusedGathering sure at mode encode long capacity outboard files.items out.now)
+    OfRoot root.now (IsRefusedGathering sure at mode (if salvage then ByChunk else ByGroup) encode long capacity outboard files.items out.now)
 IsRefused sure at mode (Replay root capacity script files) = IsRefusedReplay at mode root.now capacity script.now files.items
 
 -- so has that of the request, in its mode
 abbrev pub IsRefusedFor : Type 0 → (List ℕ → FileState) → Request → Type 0
 IsRefusedFor sure at request = (mode : Mode) × HasMode at request mode × IsRefused sure at mode request.task
+
+-- A collision is exhibited, from one of the files; or beside the outboard encoding that is named.
+abbrev pub Collides : Fixed → ℕ → (List ℕ → FileState) → Option (Bor (List ℕ)) → List (Bor (List ℕ)) → List ℕ → Type 0
+Collides fixed capacity at None files blob = HasCollision (IsFromFile Slices capacity at files) fixed blob
+Collides fixed capacity at (Some outboard) files blob = CollidesBesideOutline fixed capacity at outboard.now files blob
+
+-- On a disk without faults, where it is known what is at OUT, what was put there is each blob with this root, or its encoding, and its length was printed;
+-- or a collision is exhibited.
+abbrev pub IsEachBlob : Type 0 → (List ℕ → FileState) → (List ℕ → FileState) → Mode → Bool → ℕ → Option (Bor (List ℕ)) → List (Bor (List ℕ)) → List ℕ → Option (Bor (List ℕ))
+    → Option (List ℕ) → Option (List ℕ) → Root32 → Type 0
+IsEachBlob sure at after mode encode capacity outboard files out list old new root =
+    sure → IsKnown (at out) → (blob : List ℕ) → IsBlob (fixed_as root mode capacity) blob
+    → (PutsBoth at after out (gathered_text encode mode blob) list × Appends old new (ok_line (length blob))) ⊎ Collides (fixed_as root mode capacity) capacity at outboard files blob
+
+-- so it is of a task that gathers
+abbrev pub IsBlobOf : Type 0 → (List ℕ → FileState) → (List ℕ → FileState) → Mode → Task → Option (List ℕ) → Option (List ℕ) → Type 0
+IsBlobOf sure at after mode (Hash from length file) old new = Unit {0}
+IsBlobOf sure at after mode (Encode encoding file out) old new = Unit {0}
+IsBlobOf sure at after mode (CutSlice root start len outboard verbose file out) old new = Unit {0}
+IsBlobOf sure at after mode (Decode root part verbose file out) old new = Unit {0}
+IsBlobOf sure at after mode (DecodeCopy root outboard verbose copy out) old new = Unit {0}
+IsBlobOf sure at after mode (Gather root workers capacity long outboard salvage encode verbose missing files out) old new =
+    OfRoot root.now (IsEachBlob sure at after mode encode capacity outboard files.items out.now missing old new)
+IsBlobOf sure at after mode (Replay root capacity script files) old new = Unit {0}
+
+-- and of that of the request, in its mode
+abbrev pub IsBlobFor : Type 0 → (List ℕ → FileState) → (List ℕ → FileState) → Request → Option (List ℕ) → Option (List ℕ) → Type 0
+IsBlobFor sure at after request old new = (mode : Mode) × HasMode at request mode × IsBlobOf sure at after mode request.task old new

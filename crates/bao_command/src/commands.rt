@@ -16,9 +16,9 @@ ghost use Rattle.bao_decode.specs.declared.decode_fault.DecodeFault.{DecodeFault
 ghost use Rattle.bao_command.specs.Effects.{Writes, list_of};
 ghost use Rattle.bao_command.specs.Works.{CopiesRight, CutsRight, DecodesRight, EncodesRight, Leaves};
 ghost use Rattle.bao_command.specs.ModeWords.{MixesKeys};
-ghost use Rattle.bao_command.specs.Outcome.{AreRefused, Begun, Done, IsRefusable, IsUsage, LeavesAt};
+ghost use Rattle.bao_command.specs.Outcome.{AreRefused, Begun, Done, IsEachFor, IsRefusable, IsUsage, LeavesAt};
 ghost use Rattle.bao_command.specs.Printed.{CommandPrints, OnPrinted, told_of};
-ghost use Rattle.bao_command.specs.Refused.{IsRefused, IsRefusedCopy, IsRefusedCut, IsRefusedFor, IsRefusedReplay, IsRefusedText, OfDigits};
+ghost use Rattle.bao_command.specs.Refused.{IsBlobFor, IsBlobOf, IsRefused, IsRefusedCopy, IsRefusedCut, IsRefusedFor, IsRefusedReplay, IsRefusedText, OfDigits};
 ghost use Rattle.bao_command.specs.Status.{decode_status_of, status_of};
 ghost use Rattle.bao_command.specs.Tasks.{Answers, HasManyFiles, HasRoot, IsCutFrom, IsDue, IsMixed, IsNoOutput, IsOfFile, IsPastOutput, IsReplay, IsRight, IsRightCopy, IsRightPart, LeavesFiles, LeavesFilesOf, ListClashes, ReadsList, WritesApart, line_of, no_reasons, part_line, reasons_of, task_reasons_of};
 
@@ -58,10 +58,15 @@ const MOST_CHUNKS: u32 = 65_536;
 /// beginning at most, and after other faults nothing. After each status but 0 all files are as they were, but LIST; or at 3 and 4 OUT is as at 0, where
 /// what came after it failed: LIST, or printing the line.
 ///
+/// On a disk without faults, where it is known what is at OUT, a gathering has put there at status 0 each blob with ROOT, or its encoding; or two
+/// different inputs with one chaining value are exhibited, one of the blob's and one that is made of a FILE.
+///
 /// Arguments that `clap` refuses give 2, or 4 out of memory. 2 comes only where there is a reason
 /// to refuse the arguments, and 1 only of a task that may refuse a text or a blob: `hash` and the encoders don't. Where the files are known,
-/// 1 comes of decoding, of cutting a slice out, and of a schedule only where there is such a fault of these very bytes. On a disk without faults it comes of
-/// gathering only where no file is true, or two different inputs with one chaining value are exhibited.
+/// 1 comes of decoding, of cutting a slice out, and of a schedule only where there is such a fault of these very bytes, and of none of them where the file, or
+/// the outboard encoding, isn't there. On a disk without faults it comes of
+/// gathering only where no file is true and no several of them have the blob together, each group, or with `--salvage` each chunk, right in one; or two
+/// different inputs with one chaining value are exhibited.
 pub fn command<R: AllocGlobal + Threads + Sync, D: Disk, O: Write, E: Write, P: Progress + Sync>(
     rt: &R,
     disk: &mut D,
@@ -77,6 +82,7 @@ pub fn command<R: AllocGlobal + Threads + Sync, D: Disk, O: Write, E: Write, P: 
     ensures files { result ≢ 0 → LeavesAt (map string_bytes words.now) (D.at disk.old) (D.at disk.new) result }
     ensures refused { AreRefused (map string_bytes words.now) → (result ≡ 2) ⊎ (result ≡ 4) }
     ensures usage { result ≡ 2 → IsUsage (map string_bytes words.now) }
+    ensures blob { result ≡ 0 → IsEachFor (map string_bytes words.now) (D.faultless disk.old) (D.at disk.old) (D.at disk.new) (O.contents out.old) (O.contents out.new) }
     ensures refusal { result ≡ 1 → IsRefusable (map string_bytes words.now) (D.faultless disk.old) (D.at disk.old) }
 {
     match parse(rt.alloc(), words) {
@@ -103,6 +109,7 @@ fn serve<'a, R: AllocGlobal + Threads + Sync, D: Disk, O: Write, E: Write, P: Pr
     ensures answer { Answers request.now (D.at disk.old) (D.at disk.new) (O.contents out.old) (O.contents out.new) result }
     ensures files { IfErr result (LeavesFilesOf (D.at disk.old) (D.at disk.new) request.now) }
     ensures refused { IfErr result (λ fault. status_of fault ≡ 1 → IsRefusedFor (D.faultless disk.old) (D.at disk.old) request.now) }
+    ensures blob { OnOk result (IsBlobFor (D.faultless disk.old) (D.at disk.old) (D.at disk.new) request.now (O.contents out.old) (O.contents out.new)) }
     ensures root { ¬ HasRoot request.now.task → IsErrAnd result (λ fault. fault ≡ Fault.Root) }
     ensures mixed { HasRoot request.now.task → IsMixed request.now.task → IsErrAnd result (λ fault. fault ≡ Fault.LongAndOthers) }
     ensures keys { HasRoot request.now.task → ¬ IsMixed request.now.task → MixesKeys request.now → IsErrAnd result (λ fault. fault ≡ Fault.KeyFileAndOthers) }
@@ -360,6 +367,7 @@ fn serve_task<'a, R: AllocGlobal + Threads + Sync, D: Disk, O: Write, E: Write, 
         × CommandPrints (line_of mode.now task.now bytes) (O.contents out.old) (O.contents out.new) result }
     ensures files { IfErr result (LeavesFiles (D.at disk.old) (D.at disk.new) mode.now task.now) }
     ensures refused { IfErr result (λ fault. status_of fault ≡ 1 → IsRefused (D.faultless disk.old) (D.at disk.old) mode.now task.now) }
+    ensures blob { OnOk result (IsBlobOf (D.faultless disk.old) (D.at disk.old) (D.at disk.new) mode.now task.now (O.contents out.old) (O.contents out.new)) }
     ensures due { IfErr result (IsDue (task_reasons_of task.now)) }
 {
     let alloc = rt.alloc();

@@ -9,7 +9,7 @@ ghost use Rattle.bao_files.specs.Printed.{IsDigits, IsQuiet, ok_line};
 ghost use Rattle.bao_files.specs.declared.fault.FileFault.{FileFault};
 ghost use Rattle.bao_command.specs.Effects.{KeepsButList, Lists};
 ghost use Rattle.bao_command.specs.Printed.{CommandPrints, OnPrinted};
-ghost use Rattle.bao_command.specs.Refused.{IsRefusedGathering, OfRoot};
+ghost use Rattle.bao_command.specs.Refused.{IsEachBlob, IsRefusedGathering, OfRoot};
 ghost use Rattle.bao_command.specs.Status.{status_of};
 ghost use Rattle.bao_command.specs.Tasks.{IsBeside, IsDue, no_reasons};
 ghost use Rattle.bao_command.specs.Told.{part_line as missing_line, parts_line, unlooked_line, worth_line};
@@ -254,7 +254,9 @@ pub(crate) fn gather<
         × CommandPrints (ok_line (length blob)) (O.contents out.old) (O.contents out.new) result }
     ensures files { IfErr result (LeavesGathered (D.at disk.old) (D.at disk.new) mode.now digits.now how paths.entry.outboard paths.entry.out.now paths.entry.list (length files.now)) }
     ensures refused { IfErr result (λ fault. status_of fault ≡ 1
-        → OfRoot digits.now (IsRefusedGathering (D.faultless disk.old) (D.at disk.old) mode.now how.encode how.long how.capacity paths.entry.outboard files.now paths.entry.out.now)) }
+        → OfRoot digits.now (IsRefusedGathering (D.faultless disk.old) (D.at disk.old) mode.now how.grain how.encode how.long how.capacity paths.entry.outboard files.now paths.entry.out.now)) }
+    ensures blob { OnOk result (OfRoot digits.now (IsEachBlob (D.faultless disk.old) (D.at disk.old) (D.at disk.new) mode.now how.encode how.capacity paths.entry.outboard files.now paths.entry.out.now
+        paths.entry.list (O.contents out.old) (O.contents out.new))) }
     ensures few { OnPrinted result (length files.now ≤ 64) }
     ensures many { 64 < length files.now → IsErrAnd result (λ fault. fault ≡ Fault.TooManyFiles) }
     ensures due { IfErr result (IsDue (record no_reasons { root = ¬ IsDigits digits.now; many = 64 < length files.now; gathers = ⊤ })) }

@@ -12,7 +12,8 @@ use Rattle.bao_files.specs.Disks.{FileState}
 use Rattle.bao_text.specs.Choice.{chunk_count}
 use Rattle.bao_text.specs.Texts.{combined_text}
 use Rattle.gather.specs.declared.fault.GatherFault.{GatherFault}
-use Rattle.gather.specs.declared.fault.GatherFault.TheVariants.{TooLarge, Unfinished, NotTheRoot, Memory}
+use Rattle.gather.specs.declared.fault.GatherFault.TheVariants.{TooLarge, Unfinished, NotTheRoot, Memory, Starved}
+use Rattle.gather.specs.declared.fault.GatherFault.TheVariants as gather
 use Rattle.gather.specs.declared.form.Form.{Form}
 use Rattle.gather.specs.declared.form.Form.TheVariants.{Slices, Bare}
 use Rattle.gather.specs.Forms.{AreSlices, IsLengthOf}
@@ -20,14 +21,15 @@ use Rattle.gather.specs.HandedOut.{IsHandedOut, own_bytes}
 use Rattle.bao_windows.specs.Written.{AreTooLong}
 use Rattle.gather.specs.Large.{AreLonger, HasCollision, fixed_as}
 use Rattle.gather.specs.Lists.{IsFromSource}
-use Rattle.gather.specs.Parts.{IsOwn}
+use Rattle.gather.specs.Parts.{IsBareFor, IsOwn}
 use Rattle.gather.specs.Places.{IsCutAt, IsPartAt}
 use Rattle.store_core.specs.declared.fixed.Fixed.{Fixed}
 use Rattle.store_core.specs.declared.history.Piece.{Piece}
 use Rattle.store_core.specs.Laws.{IsBlob}
 use Rattle.bao_tasks.specs.declared.gathered_fault.GatheredFault.{GatheredFault}
-use Rattle.bao_tasks.specs.declared.gathered_fault.GatheredFault.TheVariants.{File, Gather}
+use Rattle.bao_tasks.specs.declared.gathered_fault.GatheredFault.TheVariants.{File, Gather, Outboard}
 use Rattle.bao_tasks.specs.declared.gathering.Gathering.{Gathering}
+use Rattle.bao_tasks.specs.Gathered.{IsWrittenOut}
 use Rattle.bao_tasks.specs.Givens.{most_bytes}
 use Rattle.gather.proofs.Binding.{pair_wider}
 use Rattle.bao_tasks.specs.FromFiles.{IsExcusedFile, IsExcusedGathering, IsFromFile, IsPutAt, IsTextOf, file_bytes, never_fails}
@@ -161,6 +163,15 @@ pub own_length : (form : Form) (root : Hash) (mode : Mode) (m : ℕ) (blob : Lis
 own_length Slices root mode m blob own = absurd own
 own_length (Bare outline) root mode m blob own = own.of.claims
 
+-- nor in which outline is for it
+pub bare_as : (form : Form) (root : Hash) (mode : Mode) (m n : ℕ) (blob : List ℕ) → IsBareFor form (fixed_as root mode m) blob → IsBareFor form (fixed_as root mode n) blob
+bare_as Slices root mode m n blob bare = absurd bare
+bare_as (Bare outline) root mode m n blob bare = record { mode_is = bare.mode_is; root_is = bare.root_is; claims = bare.claims; some = bare.some }
+
+pub bare_length : (form : Form) (root : Hash) (mode : Mode) (m : ℕ) (blob : List ℕ) → IsBareFor form (fixed_as root mode m) blob → IsLengthOf form (length blob)
+bare_length Slices root mode m blob bare = absurd bare
+bare_length (Bare outline) root mode m blob bare = bare.claims
+
 -- a text that makes a true file of a blob is its combined encoding, or the blob beside its own outboard encoding
 pub by_text : (X : Type 0) (form : Form) (fixed : Fixed) (blob text : List ℕ) → IsTextOf form fixed blob text → (AreSlices form → text ≡ combined_text fixed.mode blob → X)
     → (IsOwn form fixed blob → text ≡ blob → X) → X
@@ -271,3 +282,19 @@ pub put_failed : (old new : List ℕ → FileState) (path : List ℕ) (how : Gat
 put_failed old new path how mode blob at result fault cause is same which =
     let excused : IsExcusedFile cause = elim which [ inl memory ↦ subst IsExcusedFile (sym memory) tt | inr written ↦ subst IsExcusedFile (sym written) tt ] in
     subst (λ (r : Result ℕ GatheredFault). IsPutAt old new path how mode blob r) (sym is) (subst IsExcusedGathering (sym same) excused)
+
+-- what may still be helped with, where what was gathered from is enough, is want of memory for it, or a collision is exhibited
+pub open_starved : (handed : Piece → Type 0) (fixed : Fixed) (how : Gathering) (blob : List ℕ) (old new : Option (List ℕ)) (result : Result ℕ GatheredFault)
+    → IsWrittenOut handed fixed how blob old new result → is_some (open_fault result) ≡ true → (open_fault result ≡ Some Starved) ⊎ HasCollision handed fixed blob
+open_starved handed fixed how blob old new result (inr pair) helps = inr pair
+open_starved handed fixed how blob old new (Ok n) (inl out) helps = let no : false ≡ true = helps in cc
+open_starved handed fixed how blob old new (Err (File fault)) (inl out) helps = let no : false ≡ true = helps in cc
+open_starved handed fixed how blob old new (Err (Outboard fault)) (inl out) helps = absurd out
+open_starved handed fixed how blob old new (Err (Gather gather.Store)) (inl out) helps = let no : false ≡ true = helps in cc
+open_starved handed fixed how blob old new (Err (Gather gather.Capacity)) (inl out) helps = let no : false ≡ true = helps in cc
+open_starved handed fixed how blob old new (Err (Gather gather.TooLarge)) (inl out) helps = absurd out
+open_starved handed fixed how blob old new (Err (Gather gather.Seat)) (inl out) helps = let no : false ≡ true = helps in cc
+open_starved handed fixed how blob old new (Err (Gather gather.Unfinished)) (inl out) helps = absurd out
+open_starved handed fixed how blob old new (Err (Gather gather.NotTheRoot)) (inl out) helps = let no : false ≡ true = helps in cc
+open_starved handed fixed how blob old new (Err (Gather gather.Memory)) (inl out) helps = let no : false ≡ true = helps in cc
+open_starved handed fixed how blob old new (Err (Gather gather.Starved)) (inl out) helps = inl refl

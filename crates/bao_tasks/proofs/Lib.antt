@@ -7,4 +7,5 @@ pub mod Parts
 pub mod Said
 pub mod Spots
 pub mod Taking
+pub mod Together
 pub mod Windowed

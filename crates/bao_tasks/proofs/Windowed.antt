@@ -12,26 +12,29 @@ use Rattle.bao_text.specs.Choice.{chunk_count}
 use Rattle.bao_text.specs.Texts.{combined_text}
 use Rattle.gather.specs.declared.form.Form.{Form}
 use Rattle.gather.specs.declared.form.Form.TheVariants.{Slices, Bare}
+use Rattle.gather.specs.declared.grain.Grain.{Grain}
 use Rattle.gather.specs.Forms.{AreSlices}
 use Rattle.gather.specs.Large.{HasCollision, IsOfNone, fixed_as}
-use Rattle.gather.specs.Lists.{IsFromSource}
-use Rattle.gather.specs.Parts.{IsOwn}
+use Rattle.gather.specs.Available.{HaveSlices}
+use Rattle.gather.specs.Lists.{IsFromSource, part_gives, source_gives}
+use Rattle.gather.specs.Parts.{HaveParts, IsBareFor, IsOwn}
 use Rattle.store_core.specs.declared.fixed.Fixed.{Fixed}
 use Rattle.store_core.specs.declared.history.Piece.{Piece}
 use Rattle.store_core.specs.Laws.{IsBlob}
 use Rattle.bao_windows.specs.declared.fault.WindowsFault.{WindowsFault}
 use Rattle.bao_windows.specs.declared.fault.WindowsFault.TheVariants as windows
 use Rattle.bao_windows.specs.declared.wanted.Wanted.{Wanted}
-use Rattle.bao_windows.specs.Copies.{IsOwn as IsOwnWindows}
+use Rattle.bao_windows.specs.Copies.{HaveCopies, IsOwn as IsOwnWindows}
 use Rattle.bao_windows.specs.Windows.{IsFrom, fixed_for}
 use Rattle.bao_windows.specs.Written.{AreTooLong, IsWrittenOut as IsWrittenWindows, WroteBlob}
 use Rattle.bao_tasks.specs.declared.gathered_fault.GatheredFault.{GatheredFault}
 use Rattle.bao_tasks.specs.declared.gathered_fault.GatheredFault.TheVariants.{File, Gather}
 use Rattle.bao_tasks.specs.declared.gathering.Gathering.{Gathering}
-use Rattle.bao_tasks.specs.FromFiles.{HasRoom, IsEnough}
+use Rattle.bao_tasks.specs.FromFiles.{AreEnough, HasRoom, HaveBytes, HaveCuts}
 use Rattle.bao_tasks.specs.TakenFiles.{HasSound, IsRightOf}
 use Rattle.bao_tasks.specs.Gathered.{IsUnwrittenWhole, IsWrittenOut, gathered_text}
 use Rattle.bao_tasks.proofs.FromFiles.{blob_as, by_text, pair_as, same_err}
+use Rattle.bao_tasks.proofs.Together.{by_parts, copies_of, parts_of, slices_of}
 
 -- what was found was written, or couldn't be
 pub right_out : (handed : Piece → Type 0) (fixed : Fixed) (how : Gathering) (path : Bor (List ℕ)) (blob found : List ℕ) (old new : Option (List ℕ))
@@ -125,33 +128,55 @@ module _ {S : Type 0} (contents : S → Option (List ℕ)) (faultless : S → Ty
       subst (λ (w : Wanted). AreTooLong (IsFromSource w.form contents faultless givens) (fixed_as w.root w.mode how.capacity) how.capacity) same_wanted
       (subst (λ (s : List S). AreTooLong (IsFromSource wanted.form contents faultless s) (fixed_as wanted.root wanted.mode how.capacity) how.capacity) same_sources long)
 
-  pub enough_windows : ((n : ℕ) → n < 2 ^ 64 → HasRoom how n → chunk_count n ≤ most)
+  pub enough_windows : ((n : ℕ) → n < 2 ^ 64 → HasRoom how n → chunk_count n ≤ most) → other.grain ≡ how.grain
       → (AreSlices wanted.form → (blob : List ℕ) (i : ℕ) (source : S) → IsBlob (fixed_for wanted) blob → length (combined_text wanted.mode blob) < 2 ^ 64 → chunk_count (length blob) ≤ most
       → slice_get sources i ≡ Some source → contents source ≡ Some (combined_text wanted.mode blob) → faultless source
       → IsWrittenWindows blob old new result ⊎ HasCollision (IsFrom wanted contents faultless sources) (fixed_for wanted) blob)
       → ((blob : List ℕ) (i : ℕ) (source : S) → IsOwnWindows wanted wanted.form blob → IsBlob (fixed_for wanted) blob → length blob < 2 ^ 64 → chunk_count (length blob) ≤ most
       → slice_get sources i ≡ Some source → contents source ≡ Some blob → faultless source
       → IsWrittenWindows blob old new result ⊎ HasCollision (IsFrom wanted contents faultless sources) (fixed_for wanted) blob)
-      → (blob text : List ℕ) → IsEnough other.form (fixed_as other.root other.mode how.capacity) how blob text → HasSound contents faultless givens text
+      → (AreSlices wanted.form → (blob : List ℕ) → IsBlob (fixed_for wanted) blob → length blob < 2 ^ 64 → chunk_count (length blob) ≤ most
+      → HaveSlices wanted.grain (source_gives contents faultless) wanted.mode blob sources
+      → IsWrittenWindows blob old new result ⊎ HasCollision (IsFrom wanted contents faultless sources) (fixed_for wanted) blob)
+      → ((blob : List ℕ) → IsOwnWindows wanted wanted.form blob → IsBlob (fixed_for wanted) blob → length blob < 2 ^ 64 → chunk_count (length blob) ≤ most
+      → HaveCopies wanted.grain contents faultless blob sources
+      → IsWrittenWindows blob old new result ⊎ HasCollision (IsFrom wanted contents faultless sources) (fixed_for wanted) blob)
+      → (blob : List ℕ) → AreEnough other.form (fixed_as other.root other.mode how.capacity) how blob (HasSound contents faultless givens)
       → IsWrittenOut (IsFromSource other.form contents faultless givens) (fixed_as other.root other.mode how.capacity) how blob old new (in_gathered path answer)
-  enough_windows room available copied blob text enough has =
-      let there : HasSound contents faultless sources text = subst (λ (s : List S). HasSound contents faultless s text) (sym same_sources) has in
-      let is : IsEnough wanted.form (fixed_as wanted.root wanted.mode how.capacity) how blob text =
-      subst (λ (w : Wanted). IsEnough w.form (fixed_as w.root w.mode how.capacity) how blob text) (sym same_wanted) enough in
+  enough_windows room grain available copied covered beside blob enough =
+      let Has : List ℕ → Type 0 = HasSound contents faultless sources in
+      let is : AreEnough wanted.form (fixed_as wanted.root wanted.mode how.capacity) how blob Has =
+      subst (λ (w : Wanted). AreEnough w.form (fixed_as w.root w.mode how.capacity) how blob Has) (sym same_wanted)
+      (subst (λ (s : List S). AreEnough other.form (fixed_as other.root other.mode how.capacity) how blob (HasSound contents faultless s)) (sym same_sources) enough) in
+      let same_grain : how.grain ≡ wanted.grain = sym (ap (λ (w : Wanted). w.grain) same_wanted ∙ grain) in
       let handed : Piece → Type 0 = IsFrom wanted contents faultless sources in
       let root_is : IsBlob (fixed_for wanted) blob = blob_as wanted.root wanted.mode how.capacity 0 blob is.root in
-      let out : IsWrittenOut handed (fixed_as wanted.root wanted.mode how.capacity) how blob old new (in_gathered path result) =
-      by_text (IsWrittenOut handed (fixed_as wanted.root wanted.mode how.capacity) how blob old new (in_gathered path result)) wanted.form (fixed_as wanted.root wanted.mode how.capacity) blob text
-      is.text_is
-      (λ slices same.
-      out_of_windows handed wanted how path old new plain blob result
-      (available slices blob there.place there.source root_is (subst (λ (t : List ℕ). length t < 2 ^ 64) same is.few)
-      (room (length blob) (few_bytes wanted.mode blob text same is.few) is.room) there.there (there.known ∙ ap (λ (t : List ℕ). Some t) same) there.sound))
-      (λ own same.
-      let few : length blob < 2 ^ 64 = subst (λ (t : List ℕ). length t < 2 ^ 64) same is.few in
-      out_of_windows handed wanted how path old new plain blob result
-      (copied blob there.place there.source (own_windows wanted wanted.form how.capacity blob own) root_is few (room (length blob) few is.room) there.there
-      (there.known ∙ ap (λ (t : List ℕ). Some t) same) there.sound)) in
+      let X : Type 0 = IsWrittenOut handed (fixed_as wanted.root wanted.mode how.capacity) how blob old new (in_gathered path result) in
+      let out : X = elim is.some [
+        | inl whole ↦
+            let there : HasSound contents faultless sources whole.text = whole.has in
+            by_text X wanted.form (fixed_as wanted.root wanted.mode how.capacity) blob whole.text whole.text_is
+            (λ slices same.
+            out_of_windows handed wanted how path old new plain blob result
+            (available slices blob there.place there.source root_is (subst (λ (t : List ℕ). length t < 2 ^ 64) same whole.few)
+            (room (length blob) (few_bytes wanted.mode blob whole.text same whole.few) is.room) there.there (there.known ∙ ap (λ (t : List ℕ). Some t) same) there.sound))
+            (λ own same.
+            let few : length blob < 2 ^ 64 = subst (λ (t : List ℕ). length t < 2 ^ 64) same whole.few in
+            out_of_windows handed wanted how path old new plain blob result
+            (copied blob there.place there.source (own_windows wanted wanted.form how.capacity blob own) root_is few (room (length blob) few is.room) there.there
+            (there.known ∙ ap (λ (t : List ℕ). Some t) same) there.sound))
+        | inr parts ↦
+            by_parts X wanted.form (fixed_as wanted.root wanted.mode how.capacity) how.grain blob Has parts
+            (λ slices have.
+            let cuts : HaveCuts Has wanted.grain wanted.mode blob = subst (λ (g : Grain). HaveCuts Has g wanted.mode blob) same_grain have in
+            out_of_windows handed wanted how path old new plain blob result
+            (covered slices blob root_is have.few (room (length blob) have.few is.room) (slices_of contents faultless sources wanted.grain wanted.mode blob cuts)))
+            (λ own have.
+            let copies : HaveBytes Has wanted.grain blob = subst (λ (g : Grain). HaveBytes Has g blob) same_grain have in
+            out_of_windows handed wanted how path old new plain blob result
+            (beside blob (own_windows wanted wanted.form how.capacity blob own) root_is have.few (room (length blob) have.few is.room)
+            (copies_of contents faultless sources wanted.grain blob copies)))
+      ] in
       subst (λ (r : Result ℕ WindowsFault). IsWrittenOut (IsFromSource other.form contents faultless givens) (fixed_as other.root other.mode how.capacity) how blob old new (in_gathered path r))
       same_result
       (subst (λ (w : Wanted). IsWrittenOut (IsFromSource w.form contents faultless givens) (fixed_as w.root w.mode how.capacity) how blob old new (in_gathered path result)) same_wanted
@@ -164,6 +189,11 @@ few_stored how n stored (inr few) = few
 few_stored how n (inl encode) (inl free) = let no : true ≡ false = sym encode ∙ free.0 in cc
 few_stored how n (inr short) (inl free) = let no : true ≡ false = sym free.1 ∙ short in cc
 
+-- an outline that is a blob's own is for it
+own_bare : (form : Form) (fixed : Fixed) (blob : List ℕ) → IsOwn form fixed blob → IsBareFor form fixed blob
+own_bare Slices fixed blob own = absurd own
+own_bare (Bare outline) fixed blob own = own.of
+
 -- what the store answers, where the sources are these
 pub enough_stored : {S : Type 0} (contents : S → Option (List ℕ)) (faultless : S → Type 0) (sources givens : List S) (form : Form) (root : Hash) (mode : Mode) (how : Gathering)
     (old new : Option (List ℕ)) (result : Result ℕ GatheredFault) → sources ≡ givens → (how.encode ≡ true) ⊎ (how.long ≡ false)
@@ -173,12 +203,28 @@ pub enough_stored : {S : Type 0} (contents : S → Option (List ℕ)) (faultless
     → ((blob : List ℕ) (i : ℕ) (source : S) → IsBlob (fixed_as root mode how.capacity) blob → chunk_count (length blob) ≤ how.capacity → IsOwn form (fixed_as root mode how.capacity) blob
     → slice_get sources i ≡ Some source → contents source ≡ Some blob → faultless source
     → IsWrittenOut (IsFromSource form contents faultless sources) (fixed_as root mode how.capacity) how blob old new result)
-    → (blob text : List ℕ) → IsEnough form (fixed_as root mode how.capacity) how blob text → HasSound contents faultless givens text
+    → (AreSlices form → (blob : List ℕ) → IsBlob (fixed_as root mode how.capacity) blob → chunk_count (length blob) ≤ how.capacity
+    → HaveSlices how.grain (source_gives contents faultless) mode blob sources
+    → IsWrittenOut (IsFromSource form contents faultless sources) (fixed_as root mode how.capacity) how blob old new result)
+    → ((blob : List ℕ) → IsBlob (fixed_as root mode how.capacity) blob → chunk_count (length blob) ≤ how.capacity → IsBareFor form (fixed_as root mode how.capacity) blob
+    → HaveParts form how.grain (part_gives contents faultless) mode blob sources
+    → IsWrittenOut (IsFromSource form contents faultless sources) (fixed_as root mode how.capacity) how blob old new result)
+    → (blob : List ℕ) → AreEnough form (fixed_as root mode how.capacity) how blob (HasSound contents faultless givens)
     → IsWrittenOut (IsFromSource form contents faultless givens) (fixed_as root mode how.capacity) how blob old new result
-enough_stored {S = S} contents faultless sources givens form root mode how old new result same_sources stored available copied blob text enough has =
-    let there : HasSound contents faultless sources text = subst (λ (s : List S). HasSound contents faultless s text) (sym same_sources) has in
-    let few : chunk_count (length blob) ≤ how.capacity = few_stored how (length blob) stored enough.room in
-    subst (λ (s : List S). IsWrittenOut (IsFromSource form contents faultless s) (fixed_as root mode how.capacity) how blob old new result) same_sources
-    (by_text (IsWrittenOut (IsFromSource form contents faultless sources) (fixed_as root mode how.capacity) how blob old new result) form (fixed_as root mode how.capacity) blob text enough.text_is
-    (λ slices same. available slices blob there.place there.source enough.root few there.there (there.known ∙ ap (λ (t : List ℕ). Some t) same) there.sound)
-    (λ own same. copied blob there.place there.source enough.root few own there.there (there.known ∙ ap (λ (t : List ℕ). Some t) same) there.sound))
+enough_stored {S = S} contents faultless sources givens form root mode how old new result same_sources stored available copied covered beside blob enough =
+    let fixed : Fixed = fixed_as root mode how.capacity in
+    let Has : List ℕ → Type 0 = HasSound contents faultless sources in
+    let is : AreEnough form fixed how blob Has = subst (λ (s : List S). AreEnough form fixed how blob (HasSound contents faultless s)) (sym same_sources) enough in
+    let few : chunk_count (length blob) ≤ how.capacity = few_stored how (length blob) stored is.room in
+    let X : Type 0 = IsWrittenOut (IsFromSource form contents faultless sources) fixed how blob old new result in
+    let out : X = elim is.some [
+      | inl whole ↦
+          let there : HasSound contents faultless sources whole.text = whole.has in
+          by_text X form fixed blob whole.text whole.text_is
+          (λ slices same. available slices blob there.place there.source is.root few there.there (there.known ∙ ap (λ (t : List ℕ). Some t) same) there.sound)
+          (λ own same. copied blob there.place there.source is.root few own there.there (there.known ∙ ap (λ (t : List ℕ). Some t) same) there.sound)
+      | inr parts ↦
+          by_parts X form fixed how.grain blob Has parts (λ slices have. covered slices blob is.root few (slices_of contents faultless sources how.grain mode blob have))
+          (λ own have. beside blob is.root few (own_bare form fixed blob own) (parts_of contents faultless sources form fixed how.grain blob own have))
+    ] in
+    subst (λ (s : List S). IsWrittenOut (IsFromSource form contents faultless s) fixed how blob old new result) same_sources out

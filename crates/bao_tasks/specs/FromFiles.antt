@@ -1,16 +1,23 @@
--- What is said of a blob that is gathered out of files, where bytes of these are known: one true file among any others is enough.
+-- What is said of a blob that is gathered out of files, where bytes of these are known: one true file among any others is enough, and so are several that have
+-- it together.
 use Rattle.std.specs.Borrow.{Bor}
-use Rattle.std.specs.Prelude.{◌≡◌, ◌≢◌, ◌⊎◌, ℕ, ◌^◌, ◌<◌, ◌≤◌, Bool, true, false, not, if◌then◌else◌, List, [], length, take, codes, MatchResult, Option, None, Some, Result, ⊤}
+use Rattle.std.specs.Prelude.{◌≡◌, ◌≢◌, ◌⊎◌, ℕ, ◌-◌, ◌^◌, ◌<◌, ◌≤◌, Bool, true, false, not, if◌then◌else◌, List, [], length, take, codes, MatchResult, Option, None, Some, Result, slice_get, ⊤}
 use Rattle.std.specs.Str.{bytes_eq}
+use Rattle.b3tree.specs.Pieces.{piece as part}
 use Rattle.b3tree.specs.declared.mode.Mode.{Mode}
 use Rattle.bao_files.specs.declared.fault.FileFault.{FileFault}
 use Rattle.bao_files.specs.declared.fault.FileFault.TheVariants.{Read, Write, Output, Encoding, Memory}
 use Rattle.bao_check.specs.Outline.{IsOutline}
 use Rattle.bao_files.specs.Disks.{AreOf, FileState, Unknown, Absent, Stored, Puts}
 use Rattle.bao_text.specs.Choice.{chunk_count}
-use Rattle.bao_text.specs.Texts.{combined_text}
+use Rattle.bao_text.specs.Cut.{cut_text}
+use Rattle.bao_text.specs.Texts.{combined_text, slice_text}
+use Rattle.bao_windows.specs.Copies.{IsPartBy}
+use Rattle.gather.specs.Available.{IsAskedBy}
 use Rattle.gather.specs.declared.fault.GatherFault.TheVariants.{NotTheRoot}
 use Rattle.gather.specs.declared.form.Form.{Form}
+use Rattle.gather.specs.declared.grain.Grain.{Grain}
+use Rattle.gather.specs.declared.grain.Grain.TheVariants.{Chunk as ByChunk}
 use Rattle.gather.specs.declared.form.Form.TheVariants.{Slices, Bare}
 use Rattle.gather.specs.HandedOut.{IsExcused}
 use Rattle.gather.specs.Large.{HasCollision}
@@ -57,12 +64,53 @@ abbrev pub IsTextOf : Form → Fixed → List ℕ → List ℕ → Type 0
 IsTextOf Slices fixed blob text = text ≡ combined_text fixed.mode blob
 IsTextOf (Bare outline) fixed blob text = IsOwnOutline fixed outline.now blob × (text ≡ blob)
 
--- A file of this text is enough for a blob: that has the root and room, and the text makes a true file of it and has fewer than 2^64 bytes.
-pub record IsEnough (form : Form) (fixed : Fixed) (how : Gathering) (blob text : List ℕ) : Type 0 where
-  pub root : IsBlob fixed blob
-  pub room : HasRoom how (length blob)
+-- One of the texts of which `Has` holds makes a true file of the blob, and has fewer than 2^64 bytes.
+pub record HasWhole (Has : List ℕ → Type 0) (form : Form) (fixed : Fixed) (blob : List ℕ) : Type 0 where
+  pub text : List ℕ
+  pub has : Has text
   pub text_is : IsTextOf form fixed blob text
   pub few : length text < 2 ^ 64
+
+-- What is cut out of one of them as the slice (start, len) is the blob's slice.
+pub record HasCut (Has : List ℕ → Type 0) (mode : Mode) (blob : List ℕ) (start len : ℕ) : Type 0 where
+  pub text : List ℕ
+  pub has : Has text
+  pub few : length text < 2 ^ 64
+  pub cut : cut_text text start len ≡ slice_text mode blob start len
+
+-- They have the blob's combined encoding together: one has the slice of the last byte, and one the slice that a chunk is asked for by, for each chunk.
+pub record HaveCuts (Has : List ℕ → Type 0) (grain : Grain) (mode : Mode) (blob : List ℕ) : Type 0 where
+  pub few : length blob < 2 ^ 64
+  pub end : HasCut Has mode blob (2 ^ 64 - 1) 1
+  pub each : (c start len : ℕ) → c < chunk_count (length blob) → IsAskedBy grain c start len → HasCut Has mode blob start len
+
+-- So many bytes of one of them, from a place on, are those that the blob has there.
+pub record HasBytes (Has : List ℕ → Type 0) (blob : List ℕ) (start len : ℕ) : Type 0 where
+  pub text : List ℕ
+  pub has : Has text
+  pub few : length text < 2 ^ 64
+  pub bytes : part text start len ≡ part blob start len
+
+-- They have the blob's bytes together: one has the last chunk, and one the part that a chunk is asked for by, for each chunk.
+pub record HaveBytes (Has : List ℕ → Type 0) (grain : Grain) (blob : List ℕ) : Type 0 where
+  pub few : length blob < 2 ^ 64
+  pub end : (start len : ℕ) → IsPartBy ByChunk (length blob) (chunk_count (length blob) - 1) start len → HasBytes Has blob start len
+  pub each : (c start len : ℕ) → c < chunk_count (length blob) → IsPartBy grain (length blob) c start len → HasBytes Has blob start len
+
+-- they have together what a blob is made of in this form
+abbrev pub HaveTogether : Form → Fixed → Grain → List ℕ → (List ℕ → Type 0) → Type 0
+HaveTogether Slices fixed grain blob Has = HaveCuts Has grain fixed.mode blob
+HaveTogether (Bare outline) fixed grain blob Has = IsOwnOutline fixed outline.now blob × HaveBytes Has grain blob
+
+-- Such texts are enough for a blob, which has the root and room: one makes a true file of it, or they have it together.
+pub record AreEnough (form : Form) (fixed : Fixed) (how : Gathering) (blob : List ℕ) (Has : List ℕ → Type 0) : Type 0 where
+  pub root : IsBlob fixed blob
+  pub room : HasRoom how (length blob)
+  pub some : HasWhole Has form fixed blob ⊎ HaveTogether form fixed how.grain blob Has
+
+-- one of these files, which isn't standard input, has these bytes
+abbrev pub IsInFile : (List ℕ → FileState) → List (Bor (List ℕ)) → List ℕ → Type 0
+IsInFile at paths text = (i : ℕ) × (path : Bor (List ℕ)) × (slice_get paths i ≡ Some path) × (is_regular path.now ≡ true) × (at path.now ≡ Stored text)
 
 -- there was no memory, or writing failed
 abbrev pub IsExcusedFile : FileFault → Type 0

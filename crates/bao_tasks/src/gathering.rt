@@ -13,7 +13,7 @@ ghost use Rattle.gather.specs.Forms.{AreSlices};
 ghost use Rattle.gather.specs.Large.{HasCollision, fixed_as};
 ghost use Rattle.gather.specs.Lists.{IsFromSource};
 ghost use Rattle.store_core.specs.Laws.{IsBlob};
-ghost use Rattle.bao_tasks.specs.FromFiles.{CollidesBeside, CollidesBesideOutline, HasRoom, IsEnough, IsExcusedGathering, IsFromFile, IsPutAt, IsRightAt, file_bytes, is_regular, taken_bytes};
+ghost use Rattle.bao_tasks.specs.FromFiles.{AreEnough, CollidesBeside, CollidesBesideOutline, HasRoom, HaveBytes, IsExcusedGathering, IsFromFile, IsInFile, IsPutAt, IsRightAt, file_bytes, is_regular, taken_bytes};
 ghost use Rattle.bao_tasks.specs.TakenFiles.{AreKinds, AreOfFiles, Follows, HasSound, IsDrafted, IsOfWriting, IsRightDraft, IsRightOf, IsTried, is_open, open_fault};
 ghost use Rattle.bao_tasks.specs.GatheredFaults.{IsOfFiles, IsQuietGathered, NamesBeside, NamesFirst};
 ghost use Rattle.bao_tasks.specs.Gathered.{Fits, HasOutlineIn, HasRootAndFits, IsFaultOfOutline, IsWrittenOut, gathered_text};
@@ -372,7 +372,7 @@ fn write_taken<
     ensures right { (blob : List ℕ) → IsBlob (fixed_as wanted.now.root.now wanted.now.mode.now wanted.now.how.capacity) blob
         → IsRightOf (IsFromSource wanted.now.form.now (watched_contents S.contents) (watched_faultless S.faultless) taken.now.givens.items) (fixed_as wanted.now.root.now wanted.now.mode.now wanted.now.how.capacity) wanted.now.how blob (W.contents out.old) (W.contents out.new) result }
     ensures too_large { AreSlices wanted.now.form.now → IsErrOf result (GatheredFault.Gather GatherFault.TooLarge) → AreTooLong (IsFromSource wanted.now.form.now (watched_contents S.contents) (watched_faultless S.faultless) taken.now.givens.items) (fixed_as wanted.now.root.now wanted.now.mode.now wanted.now.how.capacity) wanted.now.how.capacity }
-    ensures available { (blob text : List ℕ) → IsEnough wanted.now.form.now (fixed_as wanted.now.root.now wanted.now.mode.now wanted.now.how.capacity) wanted.now.how blob text → HasSound (watched_contents S.contents) (watched_faultless S.faultless) taken.now.givens.items text
+    ensures available { (blob : List ℕ) → AreEnough wanted.now.form.now (fixed_as wanted.now.root.now wanted.now.mode.now wanted.now.how.capacity) wanted.now.how blob (HasSound (watched_contents S.contents) (watched_faultless S.faultless) taken.now.givens.items)
         → IsWrittenOut (IsFromSource wanted.now.form.now (watched_contents S.contents) (watched_faultless S.faultless) taken.now.givens.items) (fixed_as wanted.now.root.now wanted.now.mode.now wanted.now.how.capacity) wanted.now.how blob (W.contents out.old) (W.contents out.new) result }
 {
     let Wanted {
@@ -442,8 +442,7 @@ fn attempt<
     ensures met { IfSome tried.old.met (λ fault. is_open fault ≡ true) → IfSome tried.new.met (λ fault. is_open fault ≡ true) }
     ensures too_large { AreSlices wanted.now.form.now → tried.new.met ≡ Some GatherFault.TooLarge → (tried.old.met ≡ Some GatherFault.TooLarge)
         ⊎ AreTooLong (IsFromSource wanted.now.form.now (watched_contents S.contents) (watched_faultless S.faultless) taken.now.givens.items) (fixed_as wanted.now.root.now wanted.now.mode.now wanted.now.how.capacity) wanted.now.how.capacity }
-    ensures left { result ≡ Ok None → IsKnown (D.at disk.now path.now) → (blob text : List ℕ) → IsEnough wanted.now.form.now (fixed_as wanted.now.root.now wanted.now.mode.now wanted.now.how.capacity) wanted.now.how blob text
-        → HasSound (watched_contents S.contents) (watched_faultless S.faultless) taken.now.givens.items text
+    ensures left { result ≡ Ok None → IsKnown (D.at disk.now path.now) → (blob : List ℕ) → AreEnough wanted.now.form.now (fixed_as wanted.now.root.now wanted.now.mode.now wanted.now.how.capacity) wanted.now.how blob (HasSound (watched_contents S.contents) (watched_faultless S.faultless) taken.now.givens.items)
         → (tried.old.count ≡ 0) ⊎ (tried.old.met ≡ Some GatherFault.Starved) → (tried.new.met ≡ Some GatherFault.Starved) ⊎ HasCollision (IsFromSource wanted.now.form.now (watched_contents S.contents) (watched_faultless S.faultless) taken.now.givens.items) (fixed_as wanted.now.root.now wanted.now.mode.now wanted.now.how.capacity) blob }
 {
     let Ok(mut out) = disk.draft(path) else {
@@ -490,8 +489,7 @@ fn drafted<'a, R: AllocGlobal + Threads + Sync, D: Disk, P: Progress + Sync>(
         → IsRightDraft D.Draft.contents wanted.now.how wanted.now.mode.now blob result ⊎ HasCollision (IsFromFile wanted.now.form.now wanted.now.how.capacity (D.at disk.now) files.now) (fixed_as wanted.now.root.now wanted.now.mode.now wanted.now.how.capacity) blob }
     ensures too_large { AreSlices wanted.now.form.now → D.faultless disk.now → IsErrOf result (GatheredFault.Gather GatherFault.TooLarge)
         → AreTooLong (IsFromFile wanted.now.form.now wanted.now.how.capacity (D.at disk.now) files.now) (fixed_as wanted.now.root.now wanted.now.mode.now wanted.now.how.capacity) wanted.now.how.capacity }
-    ensures available { D.faultless disk.now → IsKnown (D.at disk.now path.now) → (blob text : List ℕ) (i : ℕ) (file : Bor (List ℕ)) → IsEnough wanted.now.form.now (fixed_as wanted.now.root.now wanted.now.mode.now wanted.now.how.capacity) wanted.now.how blob text
-        → slice_get files.now i ≡ Some file → is_regular file.now ≡ true → D.at disk.now file.now ≡ Stored text
+    ensures available { D.faultless disk.now → IsKnown (D.at disk.now path.now) → (blob : List ℕ) → AreEnough wanted.now.form.now (fixed_as wanted.now.root.now wanted.now.mode.now wanted.now.how.capacity) wanted.now.how blob (IsInFile (D.at disk.now) files.now)
         → IsDrafted D.Draft.contents wanted.now.how wanted.now.mode.now blob result ⊎ HasCollision (IsFromFile wanted.now.form.now wanted.now.how.capacity (D.at disk.now) files.now) (fixed_as wanted.now.root.now wanted.now.mode.now wanted.now.how.capacity) blob }
 {
     let alloc = rt.alloc();
@@ -555,10 +553,12 @@ fn drafted<'a, R: AllocGlobal + Threads + Sync, D: Disk, P: Progress + Sync>(
 ///
 /// One true file among any others is enough, on a disk where no call fails but for memory and what is at `path` is known. That is a
 /// file whose bytes are the combined encoding of a blob with this root, or, beside the blob's own outboard encoding, a copy of the blob, which
-/// has at least one byte. Then that blob, or its encoding, is put at `path` and its length answered; or there was no memory, or writing failed;
-/// or a collision is exhibited, two different inputs with one chaining value, one of the blob's and one of a slice's that is
+/// has at least one byte. Nor need any file be whole: it is enough that the slice of the last byte that is cut out of one of them is the blob's, and for each
+/// group of its chunks the group's slice, or with `Grain::Chunk` for each chunk the chunk's; or of copies that one has the blob's last chunk in its place,
+/// and for each group, or chunk, one has the blob's bytes there. Then that blob, or its encoding, is put at `path` and its length answered; or there was no
+/// memory, or writing failed; or a collision is exhibited, two different inputs with one chaining value, one of the blob's and one of a slice's that is
 /// accepted under the root and is cut out of one of the files, or made of a part of one. With `long` and without `encode` the blob may have any
-/// length, where its file has fewer than 2^64 bytes; else it has at most `capacity` chunks. The true file isn't standard input, `-`: of that no
+/// length, where its files have fewer than 2^64 bytes; else it has at most `capacity` chunks. The files that have it aren't standard input, `-`: of that no
 /// more bytes are read than help a blob of `capacity` chunks.
 ///
 /// Whatever the files are, on such a disk what is put at `path` is each blob with this root, and at 902 `NotTheRoot` there is none; or a
@@ -587,8 +587,7 @@ pub fn gather_on<'a, R: AllocGlobal + Threads + Sync, D: Disk, P: Progress + Syn
         ⊎ HasCollision (IsFromFile form.now how.capacity (D.at disk.old) files.now) (fixed_as root.now mode.now how.capacity) blob }
     ensures too_large { AreSlices form.now → D.faultless disk.old → IsErrOf result (GatheredFault.Gather GatherFault.TooLarge)
         → AreTooLong (IsFromFile form.now how.capacity (D.at disk.old) files.now) (fixed_as root.now mode.now how.capacity) how.capacity }
-    ensures available { D.faultless disk.old → IsKnown (D.at disk.old path.now) → (blob text : List ℕ) (i : ℕ) (file : Bor (List ℕ)) → IsEnough form.now (fixed_as root.now mode.now how.capacity) how blob text
-        → slice_get files.now i ≡ Some file → is_regular file.now ≡ true → D.at disk.old file.now ≡ Stored text
+    ensures available { D.faultless disk.old → IsKnown (D.at disk.old path.now) → (blob : List ℕ) → AreEnough form.now (fixed_as root.now mode.now how.capacity) how blob (IsInFile (D.at disk.old) files.now)
         → IsPutAt (D.at disk.old) (D.at disk.new) path.now how mode.now blob result
         ⊎ HasCollision (IsFromFile form.now how.capacity (D.at disk.old) files.now) (fixed_as root.now mode.now how.capacity) blob }
 {
@@ -612,7 +611,7 @@ pub fn gather_on<'a, R: AllocGlobal + Threads + Sync, D: Disk, P: Progress + Syn
 /// fault, and then as `gather_on` does.
 ///
 /// One copy among any other files is enough, beside the outboard encoding of a blob of at least one byte, on such a disk as `gather_on` speaks
-/// of: then that blob, or its encoding, is put at `path` and its length answered; or there was no memory, or writing failed; or a collision is
+/// of, and so are several that have its bytes together, as is said there: then that blob, or its encoding, is put at `path` and its length answered; or there was no memory, or writing failed; or a collision is
 /// exhibited, one input of the blob's and one of a slice's that is made of its outboard encoding's parents and of a part of one of the files.
 /// Whatever the files are, what is put is each blob with this root, and at 902 there is none; or such a collision is exhibited beside the
 /// outboard encoding that was accepted.
@@ -638,9 +637,9 @@ pub fn gather_beside_on<'a, R: AllocGlobal + Threads + Sync, D: Disk, P: Progres
     ensures right { D.faultless disk.old → IsKnown (D.at disk.old path.now) → (blob : List ℕ) → IsBlob (fixed_as root.now mode.now how.capacity) blob
         → IsRightAt (D.at disk.old) (D.at disk.new) path.now how mode.now blob result
         ⊎ CollidesBesideOutline (fixed_as root.now mode.now how.capacity) how.capacity (D.at disk.old) outboard.now files.now blob }
-    ensures available { D.faultless disk.old → IsKnown (D.at disk.old path.now) → (blob : List ℕ) (i : ℕ) (file : Bor (List ℕ)) → IsBlob (fixed_as root.now mode.now how.capacity) blob
+    ensures available { D.faultless disk.old → IsKnown (D.at disk.old path.now) → (blob : List ℕ) → IsBlob (fixed_as root.now mode.now how.capacity) blob
         → HasRoom how (length blob) → 0 < length blob → length blob < 2 ^ 64 → D.at disk.old outboard.now ≡ Stored (outboard_text mode.now blob)
-        → slice_get files.now i ≡ Some file → is_regular file.now ≡ true → D.at disk.old file.now ≡ Stored blob
+        → IsInFile (D.at disk.old) files.now blob ⊎ HaveBytes (IsInFile (D.at disk.old) files.now) how.grain blob
         → IsPutAt (D.at disk.old) (D.at disk.new) path.now how mode.now blob result
         ⊎ CollidesBeside (fixed_as root.now mode.now how.capacity) how.capacity (D.at disk.old) files.now blob }
 {

@@ -7,8 +7,8 @@ ghost use Rattle.gather.specs.Available.{HaveSlices};
 ghost use Rattle.gather.specs.declared.fault.GatherFault.TheVariants as GatherFault;
 ghost use Rattle.gather.specs.Forms.{AreSlices, IsLengthOf};
 ghost use Rattle.gather.specs.Large.{fixed_as};
-ghost use Rattle.gather.specs.Lists.{IsFromSource, source_gives};
-ghost use Rattle.gather.specs.Parts.{IsOwn};
+ghost use Rattle.gather.specs.Lists.{IsFromSource, part_gives, source_gives};
+ghost use Rattle.gather.specs.Parts.{HaveParts, IsBareFor, IsOwn};
 ghost use Rattle.store_core.specs.Laws.{IsBlob};
 ghost use Rattle.bao_tasks.specs.TakenFiles.{IsRightOf};
 ghost use Rattle.bao_tasks.specs.Gathered.{IsWrittenOut, LeavesBlob, WritesBlob};
@@ -64,7 +64,8 @@ fn first_room(form: &Form<'_>, room: u32, capacity: u32) -> u32 {
 /// blob's and one of a slice's that is cut out of one of the sources. Nor need any source be whole, as `crews::gather` says.
 ///
 /// So it is of plain copies beside the outboard encoding of a blob of at least one byte: one that never fails and whose bytes are the blob is
-/// enough.
+/// enough. Nor need any copy be whole, beside an outboard encoding that claims the blob's length: it is enough that what the bytes that one gives
+/// make with its parents is the blob's slice, of the last chunk, and for each group, or with `Grain::Chunk` each chunk, of that.
 ///
 /// Whatever the sources are, what is written is each blob with the root, and at 902 there is none; or a collision is exhibited. Of combined
 /// encodings at 805 each blob with the root has more chunks than `capacity`, or a collision is exhibited.
@@ -83,6 +84,9 @@ pub fn write_gathered<'a, R: AllocGlobal + Threads + Sync, S: Source + Sync, W: 
     ensures fault { IfErr result (LeavesBlob how mode.now root.now.0 path.entry (W.contents out.old) (W.contents out.new)) }
     ensures copied { (blob : List ℕ) (i : ℕ) (source : S) → IsBlob (fixed_as root.now mode.now how.capacity) blob → chunk_count (length blob) ≤ how.capacity
         → IsOwn form.now (fixed_as root.now mode.now how.capacity) blob → slice_get sources.now i ≡ Some source → S.contents source ≡ Some blob → S.faultless source
+        → IsWrittenOut (IsFromSource form.now S.contents S.faultless sources.now) (fixed_as root.now mode.now how.capacity) how blob (W.contents out.old) (W.contents out.new) result }
+    ensures beside { (blob : List ℕ) → IsBlob (fixed_as root.now mode.now how.capacity) blob → chunk_count (length blob) ≤ how.capacity
+        → IsBareFor form.now (fixed_as root.now mode.now how.capacity) blob → HaveParts form.now how.grain (part_gives S.contents S.faultless) mode.now blob sources.now
         → IsWrittenOut (IsFromSource form.now S.contents S.faultless sources.now) (fixed_as root.now mode.now how.capacity) how blob (W.contents out.old) (W.contents out.new) result }
     ensures too_large { AreSlices form.now → IsErrOf result (GatheredFault.Gather GatherFault.TooLarge)
         → AreTooLong (IsFromSource form.now S.contents S.faultless sources.now) (fixed_as root.now mode.now how.capacity) how.capacity }

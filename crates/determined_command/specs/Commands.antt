@@ -1,12 +1,24 @@
 -- What two runs of one command line have in common.
-use Rattle.std.specs.Prelude.{◌≡◌, ◌⊎◌, ℕ, ◌^◌, ◌<◌, true, List, length, Option, None, Some, IfSome}
+use Rattle.std.specs.Prelude.{◌≡◌, ◌≢◌, ◌⊎◌, ℕ, ◌^◌, ◌<◌, true, List, length, Option, None, Some, IfSome}
+use Rattle.std.specs.Io.KnownBytes.{Appends}
 use Rattle.std.specs.Option.{option_copied}
+use Rattle.b3tree.specs.declared.mode.Mode.{Mode}
+use Rattle.b3tree.specs.Hashing.{hash}
+use Rattle.clap.specs.Words.{Text}
 use Rattle.bao_text.specs.Cut.{claimed}
 use Rattle.bao_decode.specs.Weaving.{are_whole}
-use Rattle.bao_files.specs.Disks.{FileState, IsKnown, Stored}
+use Rattle.bao_files.specs.Disks.{Absent, FileState, IsKnown, Stored}
+use Rattle.gather.specs.Large.{fixed_as}
+use Rattle.store_core.specs.Laws.{IsBlob}
+use Rattle.bao_request.specs.CommandLine.{AsksFor}
 use Rattle.bao_request.specs.declared.tasks.Request.{Request}
 use Rattle.bao_request.specs.declared.tasks.Task.{Task}
 use Rattle.bao_request.specs.declared.tasks.Task.TheVariants.{Hash, Encode, CutSlice, Decode, DecodeCopy, Gather, Replay}
+use Rattle.bao_command.specs.Effects.{Writes, list_of}
+use Rattle.bao_command.specs.ModeWords.{HasMode}
+use Rattle.bao_command.specs.Refused.{Collides, OfRoot}
+use Rattle.bao_command.specs.Tasks.{line_of}
+use Rattle.determined_tasks.specs.Replays.{AreStored}
 
 -- the same status, or that of memory
 abbrev pub SameStatus : ℕ → ℕ → Type 0
@@ -17,8 +29,8 @@ abbrev pub BothKeep : Option (List ℕ) → Option (List ℕ) → Option (List �
 BothKeep None one other = Unit {0}
 BothKeep (Some all) one other = (one ≡ Some all) × (other ≡ Some all)
 
--- it is known of which bytes the task's line is: of a file that is hashed, encoded, decoded or cut out of, or of an outboard encoding and a copy that
--- have all bytes of the length that the one claims. A blob that is gathered is only known by its hash, and of a schedule there is a law of its own.
+-- It is known of which bytes the task's line is: of a file that is hashed, encoded, decoded or cut out of, or of an outboard encoding and a copy that
+-- have all bytes of the length that the one claims, or of a schedule and all files of its pieces. A blob that is gathered is only known by its hash.
 abbrev pub IsOfKnown : (List ℕ → FileState) → Task → Type 0
 IsOfKnown at (Hash from count file) = IsKnown (at file.now)
 IsOfKnown at (Encode encoding file out) = IsKnown (at file.now)
@@ -28,7 +40,7 @@ IsOfKnown at (CutSlice root start len (Some outboard) verbose file out) =
 IsOfKnown at (Decode root part verbose file out) = IsKnown (at file.now)
 IsOfKnown at (DecodeCopy root outboard verbose copy out) = IsKnown (at copy.now)
 IsOfKnown at (Gather root workers capacity long outboard salvage encode verbose missing files out) = ⊥
-IsOfKnown at (Replay root capacity script files) = ⊥
+IsOfKnown at (Replay root capacity script files) = (lines : List ℕ) × (pieces : List (List ℕ)) × (at script.now ≡ Stored lines) × AreStored at files.items pieces
 
 -- so it is of the file with the key, where one is named
 abbrev pub IsKeyKnown : (List ℕ → FileState) → Request → Type 0
@@ -37,3 +49,76 @@ IsKeyKnown at request = IfSome (option_copied request.key_file) (λ path. IsKnow
 -- the same was printed, where it is known what was there before
 abbrev pub SamePrinted : Option (List ℕ) → Option (List ℕ) → Option (List ℕ) → Type 0
 SamePrinted old one other = IfSome old (λ _. one ≡ other)
+
+-- the file at the path is no longer than any
+abbrev pub IsShort : FileState → Type 0
+IsShort state = (text : List ℕ) → state ≡ Stored text → length text < 2 ^ 63
+
+-- It is known whether the task refuses a text: what is at OUT is known, and the outboard encoding is, and what is decoded or cut out of is no longer
+-- than any file.
+abbrev pub IsJudged : (List ℕ → FileState) → Task → Type 0
+IsJudged at (Hash from count file) = Unit {0}
+IsJudged at (Encode encoding file out) = Unit {0}
+IsJudged at (CutSlice root start len outboard verbose file out) = IsKnown (at out.now) × IsShort (at file.now)
+IsJudged at (Decode root part verbose file out) = IsKnown (at out.now) × IsShort (at file.now)
+IsJudged at (DecodeCopy root outboard verbose copy out) = IsKnown (at out.now) × IsKnown (at outboard.now)
+IsJudged at (Gather root workers capacity long outboard salvage encode verbose missing files out) = Unit {0}
+IsJudged at (Replay root capacity script files) = Unit {0}
+
+-- where the one is done the other refuses nothing, and so it is the other way round
+abbrev pub SameVerdict : ℕ → ℕ → Type 0
+SameVerdict a b = (a ≡ 0 → b ≢ 1) × (a ≡ 1 → b ≢ 0)
+
+-- the task gathers, and the blob has its root in the mode; and what is at OUT is known
+abbrev pub IsGatheredUnder : (List ℕ → FileState) → Mode → Task → List ℕ → Type 0
+IsGatheredUnder at mode (Hash from count file) blob = ⊥
+IsGatheredUnder at mode (Encode encoding file out) blob = ⊥
+IsGatheredUnder at mode (CutSlice root start len outboard verbose file out) blob = ⊥
+IsGatheredUnder at mode (Decode root part verbose file out) blob = ⊥
+IsGatheredUnder at mode (DecodeCopy root outboard verbose copy out) blob = ⊥
+IsGatheredUnder at mode (Gather root workers capacity long outboard salvage encode verbose missing files out) blob =
+    IsKnown (at out.now) × OfRoot root.now (λ r. IsBlob (fixed_as r mode capacity) blob)
+IsGatheredUnder at mode (Replay root capacity script files) blob = ⊥
+
+-- a collision of the blob with a piece of the task's files is exhibited
+abbrev pub CollidesIn : (List ℕ → FileState) → Mode → Task → List ℕ → Type 0
+CollidesIn at mode (Hash from count file) blob = ⊥
+CollidesIn at mode (Encode encoding file out) blob = ⊥
+CollidesIn at mode (CutSlice root start len outboard verbose file out) blob = ⊥
+CollidesIn at mode (Decode root part verbose file out) blob = ⊥
+CollidesIn at mode (DecodeCopy root outboard verbose copy out) blob = ⊥
+CollidesIn at mode (Gather root workers capacity long outboard salvage encode verbose missing files out) blob =
+    OfRoot root.now (λ r. Collides (fixed_as r mode capacity) capacity at outboard files.items blob)
+CollidesIn at mode (Replay root capacity script files) blob = ⊥
+
+-- so it is of what the words ask for
+abbrev pub CollidesAsked : List Text → (List ℕ → FileState) → Mode → List ℕ → Type 0
+CollidesAsked words at mode blob = (request : Request) × AsksFor words request × HasMode at request mode × CollidesIn at mode request.task blob
+
+-- The two blobs that were put at OUT, or whose encodings were, and whose lengths were printed, are different, and have one hash: a collision.
+pub record PutTwo (words : List Text) (at a b : List ℕ → FileState) (old one other : Option (List ℕ)) : Type 0 where
+  pub request : Request
+  pub also : Request
+  pub asks : AsksFor words request
+  pub also_asks : AsksFor words also
+  pub mode : Mode
+  pub has : HasMode at request mode
+  pub ours : List ℕ
+  pub theirs : List ℕ
+  pub apart : ours ≢ theirs
+  pub same : hash mode ours ≡ hash mode theirs
+  pub our_files : Writes at a mode request.task (list_of request.task) ours
+  pub their_files : Writes at b mode also.task (list_of also.task) theirs
+  pub our_line : Appends old one (line_of mode request.task ours)
+  pub their_line : Appends old other (line_of mode also.task theirs)
+
+-- A file isn't there that the task reads: the one that is hashed, encoded, decoded or cut out of, the outboard encoding that it is so beside, or the schedule.
+abbrev pub LacksFile : (List ℕ → FileState) → Task → Type 0
+LacksFile at (Hash from count file) = at file.now ≡ Absent
+LacksFile at (Encode encoding file out) = at file.now ≡ Absent
+LacksFile at (CutSlice root start len None verbose file out) = at file.now ≡ Absent
+LacksFile at (CutSlice root start len (Some outboard) verbose file out) = at outboard.now ≡ Absent
+LacksFile at (Decode root part verbose file out) = at file.now ≡ Absent
+LacksFile at (DecodeCopy root outboard verbose copy out) = at outboard.now ≡ Absent
+LacksFile at (Gather root workers capacity long outboard salvage encode verbose missing files out) = ⊥
+LacksFile at (Replay root capacity script files) = at script.now ≡ Absent

@@ -1,11 +1,15 @@
 // The program.
 
-ghost use Rattle.std.specs.Prelude.{◌≡◌, ◌≢◌, map, string_bytes};
+ghost use Rattle.std.specs.Prelude.{◌≡◌, ◌≢◌, ◌⊎◌, ℕ, List, map, string_bytes};
+ghost use Rattle.std.specs.Io.KnownBytes.{Keeps};
+ghost use Rattle.b3tree.specs.declared.mode.Mode.{Mode};
+ghost use Rattle.bao_command.specs.ModeWords.{HasMode};
 ghost use Rattle.bao_command.specs.Outcome.{AreRefused};
-ghost use Rattle.bao_command.specs.Tasks.{ReadsList};
+ghost use Rattle.bao_command.specs.Tasks.{Gathers, ReadsList};
 ghost use Rattle.bao_request.specs.declared.tasks.Request.{Request};
 ghost use Rattle.bao_request.specs.CommandLine.{AsksFor, AsksForHelp};
-ghost use Rattle.determined_command.specs.Commands.{BothKeep, IsKeyKnown, IsOfKnown, SamePrinted, SameStatus};
+ghost use Rattle.bao_files.specs.Disks.{KeepsFiles};
+ghost use Rattle.determined_command.specs.Commands.{BothKeep, CollidesAsked, IsGatheredUnder, IsJudged, IsKeyKnown, IsOfKnown, LacksFile, PutTwo, SamePrinted, SameStatus, SameVerdict};
 ghost use Rattle.determined_files.specs.Agreeing.{SameWhereKnown};
 
 use bao_command::{Fault, command};
@@ -58,8 +62,9 @@ pub fn command_determined<
     )
 }
 
-// The files that are hashed, encoded, decoded or cut out of, also beside an outboard encoding, decide what is printed and written, where both runs are
-// done.
+// The files that are hashed, encoded, decoded or cut out of, also beside an outboard encoding, and those of a schedule, decide what is printed and
+// written, where both runs are done. And they decide whether a text, or a schedule, is refused: where the one run is done, the other doesn't end with 1.
+// 3 and 4 may come at any time, since memory may run out and writing may fail.
 pub fn known_files_decide<
     R: AllocGlobal + Threads + Sync,
     D: Disk,
@@ -80,13 +85,68 @@ pub fn known_files_decide<
     requires streams { O.contents ours.old ≡ O.contents theirs.old }
     requires known { (request : Request) → AsksFor (map string_bytes words.now) request → IsOfKnown (D.at our_disk.old) request.task × IsKeyKnown (D.at our_disk.old) request }
     requires work { ¬ AsksForHelp (map string_bytes words.now) }
-    ensures { result.0 ≡ 0 → result.1 ≡ 0 → SamePrinted (O.contents ours.old) (O.contents ours.new) (O.contents theirs.new)
+    ensures done { result.0 ≡ 0 → result.1 ≡ 0 → SamePrinted (O.contents ours.old) (O.contents ours.new) (O.contents theirs.new)
         × SameWhereKnown (D.at our_disk.old) (D.at our_disk.new) (D.at their_disk.new) }
+    ensures status { ((request : Request) → AsksFor (map string_bytes words.now) request → IsJudged (D.at our_disk.old) request.task) → SameVerdict result.0 result.1 }
 {
     (
         command(rt, our_disk, words, ours, err, progress),
         command(rt, their_disk, words, theirs, err, progress),
     )
+}
+
+// Files decide in the same way what is gathered of them. Where both runs are done, the same was printed and written, or the two blobs are a collision. On
+// disks without faults, where it is known what is at OUT, a collision of a blob with the root is named from the files.
+pub fn known_holders_decide<
+    R: AllocGlobal + Threads + Sync,
+    D: Disk,
+    O: Write,
+    E: Write,
+    P: Progress + Sync,
+>(
+    rt: &R,
+    our_disk: &mut D,
+    their_disk: &mut D,
+    words: &[String],
+    ours: &mut O,
+    theirs: &mut O,
+    err: &mut E,
+    progress: &P,
+) -> (u8, u8)
+    requires files { D.at our_disk.old ≡ D.at their_disk.old }
+    requires streams { O.contents ours.old ≡ O.contents theirs.old }
+    requires asked { (request : Request) → AsksFor (map string_bytes words.now) request → Gathers request.task × IsKeyKnown (D.at our_disk.old) request }
+    requires work { ¬ AsksForHelp (map string_bytes words.now) }
+    ensures put { result.0 ≡ 0 → result.1 ≡ 0
+        → (SamePrinted (O.contents ours.old) (O.contents ours.new) (O.contents theirs.new) × SameWhereKnown (D.at our_disk.old) (D.at our_disk.new) (D.at their_disk.new))
+        ⊎ PutTwo (map string_bytes words.now) (D.at our_disk.old) (D.at our_disk.new) (D.at their_disk.new) (O.contents ours.old) (O.contents ours.new) (O.contents theirs.new) }
+    ensures right { result.0 ≡ 0 → result.1 ≡ 0 → D.faultless our_disk.old → D.faultless their_disk.old
+        → (request : Request) (mode : Mode) (blob : List ℕ) → AsksFor (map string_bytes words.now) request → HasMode (D.at our_disk.old) request mode
+        → IsGatheredUnder (D.at our_disk.old) mode request.task blob
+        → (SamePrinted (O.contents ours.old) (O.contents ours.new) (O.contents theirs.new) × SameWhereKnown (D.at our_disk.old) (D.at our_disk.new) (D.at their_disk.new))
+        ⊎ CollidesAsked (map string_bytes words.now) (D.at our_disk.old) mode blob }
+{
+    (
+        command(rt, our_disk, words, ours, err, progress),
+        command(rt, their_disk, words, theirs, err, progress),
+    )
+}
+
+// Of a file that isn't there nothing is printed or written, and nothing is refused with 1.
+pub fn absent_file_unread<
+    R: AllocGlobal + Threads + Sync,
+    D: Disk,
+    O: Write,
+    E: Write,
+    P: Progress + Sync,
+>(rt: &R, disk: &mut D, words: &[String], out: &mut O, err: &mut E, progress: &P) -> u8
+    requires asked { (request : Request) → AsksFor (map string_bytes words.now) request → LacksFile (D.at disk.old) request.task }
+    requires work { ¬ AsksForHelp (map string_bytes words.now) }
+    ensures status { (result ≢ 0) × (result ≢ 1) }
+    ensures files { KeepsFiles (D.at disk.old) (D.at disk.new) }
+    ensures kept { Keeps (O.contents out.old) (O.contents out.new) }
+{
+    command(rt, disk, words, out, err, progress)
 }
 
 // A list that would take the place of a file that is read, by its name, is never made: no such command is done.

@@ -55,7 +55,7 @@ absent_agree path (Err x) (Err y) p (inr read) q (inl memory) = inr (inr memory)
 absent_agree path (Err x) (Err y) p (inr read) q (inr also) = inl (read ∙ sym also)
 
 module _ (mode : Mode) (root outline bytes : List ℕ) where
-  abbrev IsFault : CheckFault → Type 0
+  abbrev pub IsFault : CheckFault → Type 0
   IsFault fault = IsFirstFault mode root outline (outboard_nodes outline) fault
       ⊎ (IsAccepted mode root outline (outboard_nodes outline) × IsBareFault mode root outline 0 (chunk_count (claimed outline)) bytes fault)
 
@@ -67,7 +67,7 @@ module _ (mode : Mode) (root outline bytes : List ℕ) where
   bare_apart Memory h are = h
   bare_apart Reader h are = h
 
-  beside_apart : (f : CheckFault) → IsFault f → IsCopyBeside mode root outline bytes → ⊥
+  pub beside_apart : (f : CheckFault) → IsFault f → IsCopyBeside mode root outline bytes → ⊥
   beside_apart f (inl h) good = first_fault-not_accepted mode root outline (outboard_nodes outline) f h good.0
   beside_apart f (inr h) good = bare_apart f h.1 good.1
 

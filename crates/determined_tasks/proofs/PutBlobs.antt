@@ -1,16 +1,12 @@
 -- Blobs that two runs put at a path, out of the same known files.
-use Rattle.std.proofs.Common.{◌≡◌, ◌⊎◌, ◌≤◌, inl, inr, ℕ, Bool, true, List, length, Some, Result, Ok, Err, IfOk, IfErr, OnErr, refl, sym, ap, subst, ◌∙◌}
+use Rattle.std.proofs.Common.{◌≡◌, ◌⊎◌, ◌≤◌, inl, inr, ℕ, Bool, List, length, Some, Result, Ok, Err, IfOk, IfErr, OnErr, refl, sym, ap, subst, ◌∙◌}
 use Rattle.b3tree.specs.declared.mode.Mode.{Mode}
-use Rattle.b3tree.specs.declared.values.Hash.{Hash}
 use Rattle.bao_check.specs.Accepted.{IsAccepted, outboard_nodes}
 use Rattle.bao_check.proofs.Laws.{first_fault-not_accepted}
 use Rattle.bao_decode.proofs.Openings.{stored_is}
 use Rattle.bao_files.specs.Disks.{FileState, KeepsFiles, Puts, Stored}
 use Rattle.bao_text.specs.Choice.{chunk_count}
-use Rattle.gather.specs.Large.{fixed_as}
-use Rattle.gather.specs.declared.form.Form.{Form}
-use Rattle.store_core.specs.Laws.{IsBlob}
-use Rattle.bao_tasks.specs.FromFiles.{HasRoom, IsEnough, IsExcusedGathering, IsPutAt, IsRightAt, IsTextOf}
+use Rattle.bao_tasks.specs.FromFiles.{HasRoom, IsExcusedGathering, IsPutAt, IsRightAt}
 use Rattle.bao_tasks.specs.Gathered.{HasOutlineIn, HasRootAndFits, IsFaultOfOutline, gathered_text}
 use Rattle.bao_tasks.specs.declared.gathered_fault.GatheredFault.{GatheredFault}
 use Rattle.bao_tasks.specs.declared.gathered_fault.GatheredFault.TheVariants.{File, Outboard, Gather}
@@ -89,15 +85,6 @@ module _ (mode : Mode) (root : List ℕ) (before one other : List ℕ → FileSt
 pub room_as : (how also : Gathering) (n : ℕ) → how.encode ≡ also.encode → how.long ≡ also.long → how.capacity ≡ also.capacity → HasRoom how n → HasRoom also n
 room_as how also n encode long capacity (inl any) = inl (sym encode ∙ any.0, sym long ∙ any.1)
 room_as how also n encode long capacity (inr fits) = inr (subst (λ (k : ℕ). chunk_count n ≤ k) capacity fits)
-
-pub enough_as : (form : Form) (root : Hash) (mode : Mode) (how also : Gathering) (blob text : List ℕ) → how.encode ≡ also.encode → how.long ≡ also.long → how.capacity ≡ also.capacity
-    → IsEnough form (fixed_as root mode how.capacity) how blob text → IsEnough form (fixed_as root mode also.capacity) also blob text
-enough_as form root mode how also blob text encode long capacity is = record {
-  root = subst (λ (k : ℕ). IsBlob (fixed_as root mode k) blob) capacity is.root;
-  room = room_as how also (length blob) encode long capacity is.room;
-  text_is = subst (λ (k : ℕ). IsTextOf form (fixed_as root mode k) blob text) capacity is.text_is;
-  few = is.few;
-}
 
 -- an outboard encoding is accepted, or has one first fault
 module _ (state : FileState) (mode : Mode) (root text : List ℕ) (there : state ≡ Stored text) where

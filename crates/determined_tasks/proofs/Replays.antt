@@ -49,24 +49,24 @@ module _ (mode : Mode) (root : Hash) (capacity : ℕ) (text : List ℕ) (files :
   no_room : HasRoom capacity → (capacity ≡ 0) ⊎ (65536 < capacity) → ⊥
   no_room room none = elim none [ inl zero ↦ omega (arith, room.0, zero) | inr large ↦ omega (arith, room.1, large) ]
 
-  runs_one : (s t : List ℕ) → IsRun mode root capacity text files s → IsRun mode root capacity text files t → s ≡ t
+  pub runs_one : (s t : List ℕ) → IsRun mode root capacity text files s → IsRun mode root capacity text files t → s ≡ t
   runs_one s t a b =
       one_printout fixed files a.0 s t a.2 (subst (λ (k : List NumberedLine). IsPrinted fixed files k t) (same_lines b.0 a.0 b.1 a.1) b.2)
 
-  run_stopped : (s : List ℕ) (n : ℕ) → IsRun mode root capacity text files s → IsStoppedRun mode root capacity text files n → ⊥
+  pub run_stopped : (s : List ℕ) (n : ℕ) → IsRun mode root capacity text files s → IsStoppedRun mode root capacity text files n → ⊥
   run_stopped s n a b = printout_apart fixed files a.0 s n a.2 (subst (λ (k : List NumberedLine). IsStopped fixed files k n) (same_lines b.0 a.0 b.1 a.1) b.2)
 
   stops_same : (m n : ℕ) → IsStoppedRun mode root capacity text files m → IsStoppedRun mode root capacity text files n → m ≡ n
   stops_same m n a b = one_stop fixed files a.0 m n a.2 (subst (λ (k : List NumberedLine). IsStopped fixed files k n) (same_lines b.0 a.0 b.1 a.1) b.2)
 
   -- those whose pieces are all accepted
-  run_accepted : (s : List ℕ) → IsRun mode root capacity text files s → IsAcceptedRun mode root text files
+  pub run_accepted : (s : List ℕ) → IsRun mode root capacity text files s → IsAcceptedRun mode root text files
   run_accepted s a = (a.0, a.1, (a.2.pieces, a.2.named))
 
   stopped_accepted : (n : ℕ) → IsStoppedRun mode root capacity text files n → IsAcceptedRun mode root text files
   stopped_accepted n a = (a.0, a.1, (a.2.pieces, a.2.named))
 
-  refused_accepted : (n : ℕ) (f : CheckFault) → IsRefusedRun mode root text files n f → IsAcceptedRun mode root text files → ⊥
+  pub refused_accepted : (n : ℕ) (f : CheckFault) → IsRefusedRun mode root text files n f → IsAcceptedRun mode root text files → ⊥
   refused_accepted n f a b =
       let same : b.0 ≡ a.0 = same_lines b.0 a.0 b.1 a.1 in
       let accepted : AreAccepted mode root.0 (slices_of files a.0) = subst (λ (k : List NumberedLine). AreAccepted mode root.0 (slices_of files k)) same b.2 in

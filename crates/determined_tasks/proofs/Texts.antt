@@ -20,10 +20,10 @@ use Rattle.determined_tasks.proofs.Outcomes.{Comes, known_answers, written_agree
 -- so much of it is written
 module _ (what : List ℕ → List ℕ) (mode : Mode) (root : List ℕ) (part : Part) (text : List ℕ) (low : length text < 2 ^ 63) where
   -- what it may be refused for
-  abbrev IsFault : CheckFault → Type 0
+  abbrev pub IsFault : CheckFault → Type 0
   IsFault fault = IsTextFault (task_of_part mode root part) text fault
 
-  abbrev Good : Type 0
+  abbrev pub Good : Type 0
   Good = IsPartText mode root part text
 
   pub apart : (f : CheckFault) → IsFault f → Good → ⊥

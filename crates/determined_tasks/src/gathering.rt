@@ -5,7 +5,7 @@
 ghost use Rattle.std.specs.Borrow.{Bor};
 ghost use Rattle.std.specs.Prelude.{◌≡◌, ◌⊎◌, ◌^◌, ◌<◌, ℕ, List, IfSome, Some, length, slice_get, true};
 ghost use Rattle.bao_files.specs.Disks.{IsKnown, Stored};
-ghost use Rattle.bao_tasks.specs.FromFiles.{CollidesBeside, CollidesBesideOutline, HasRoom, IsEnough, IsExcusedGathering, IsFromFile, is_regular};
+ghost use Rattle.bao_tasks.specs.FromFiles.{AreEnough, CollidesBeside, CollidesBesideOutline, HasRoom, HaveBytes, IsExcusedGathering, IsFromFile, IsInFile};
 ghost use Rattle.bao_text.specs.Texts.{outboard_text};
 ghost use Rattle.gather.specs.Large.{HasCollision, fixed_as};
 ghost use Rattle.store_core.specs.Laws.{IsBlob};
@@ -69,7 +69,8 @@ pub fn write_gathered_determined<
 
 // The same out of the same known files. Where both put a blob, it is one, or the two are a collision. On disks without faults, where it is known what
 // is at OUT, the collision of a blob with the root is named from the files; neither says that there is none with the root, where there is one; and where
-// one of the files is true both put it, unless there was no memory or writing failed. Which of the other faults is answered isn't determined.
+// one of the files is true, or several have the blob together in the parts that each run asks for, both put it, unless there was no memory or writing
+// failed. Which of the other faults is answered isn't determined.
 pub fn gather_on_determined<
     'a,
     R: AllocGlobal + Threads + Sync,
@@ -102,8 +103,9 @@ pub fn gather_on_determined<
     ensures right { D.faultless ours.old → E.faultless theirs.old → IsKnown (D.at ours.old path.now) → (blob : List ℕ) → IsBlob (fixed_as root.now mode.now how.capacity) blob
         → SameRight (D.at ours.old) (D.at ours.new) (E.at theirs.new) result.0 result.1
         ⊎ HasCollision (IsFromFile form.now how.capacity (D.at ours.old) files.now) (fixed_as root.now mode.now how.capacity) blob }
-    ensures enough { D.faultless ours.old → E.faultless theirs.old → IsKnown (D.at ours.old path.now) → (blob text : List ℕ) (i : ℕ) (file : Bor (List ℕ))
-        → IsEnough form.now (fixed_as root.now mode.now how.capacity) how blob text → slice_get files.now i ≡ Some file → is_regular file.now ≡ true → D.at ours.old file.now ≡ Stored text
+    ensures enough { D.faultless ours.old → E.faultless theirs.old → IsKnown (D.at ours.old path.now) → (blob : List ℕ)
+        → AreEnough form.now (fixed_as root.now mode.now how.capacity) how blob (IsInFile (D.at ours.old) files.now)
+        → AreEnough form.now (fixed_as root.now mode.now how.capacity) other_how blob (IsInFile (D.at ours.old) files.now)
         → AgreeUnless (λ m n. (m ≡ n) × SameWhereKnown (D.at ours.old) (D.at ours.new) (E.at theirs.new)) IsExcusedGathering IsExcusedGathering result.0 result.1
         ⊎ HasCollision (IsFromFile form.now how.capacity (D.at ours.old) files.now) (fixed_as root.now mode.now how.capacity) blob }
 {
@@ -160,9 +162,11 @@ pub fn gather_beside_on_determined<
     ensures right { D.faultless ours.old → E.faultless theirs.old → IsKnown (D.at ours.old path.now) → (blob : List ℕ) → IsBlob (fixed_as root.now mode.now how.capacity) blob
         → SameRight (D.at ours.old) (D.at ours.new) (E.at theirs.new) result.0 result.1
         ⊎ CollidesBesideOutline (fixed_as root.now mode.now how.capacity) how.capacity (D.at ours.old) outboard.now files.now blob }
-    ensures enough { D.faultless ours.old → E.faultless theirs.old → IsKnown (D.at ours.old path.now) → (blob : List ℕ) (i : ℕ) (file : Bor (List ℕ))
+    ensures enough { D.faultless ours.old → E.faultless theirs.old → IsKnown (D.at ours.old path.now) → (blob : List ℕ)
         → IsBlob (fixed_as root.now mode.now how.capacity) blob → HasRoom how (length blob) → 0 < length blob → length blob < 2 ^ 64
-        → D.at ours.old outboard.now ≡ Stored (outboard_text mode.now blob) → slice_get files.now i ≡ Some file → is_regular file.now ≡ true → D.at ours.old file.now ≡ Stored blob
+        → D.at ours.old outboard.now ≡ Stored (outboard_text mode.now blob)
+        → IsInFile (D.at ours.old) files.now blob ⊎ HaveBytes (IsInFile (D.at ours.old) files.now) how.grain blob
+        → IsInFile (D.at ours.old) files.now blob ⊎ HaveBytes (IsInFile (D.at ours.old) files.now) other_how.grain blob
         → AgreeUnless (λ m n. (m ≡ n) × SameWhereKnown (D.at ours.old) (D.at ours.new) (E.at theirs.new)) IsExcusedGathering IsExcusedGathering result.0 result.1
         ⊎ CollidesBeside (fixed_as root.now mode.now how.capacity) how.capacity (D.at ours.old) files.now blob }
 {

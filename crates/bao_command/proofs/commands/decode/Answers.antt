@@ -4,7 +4,7 @@ use Rattle.bao_command.specs.Printed.{CommandPrints}
 use Rattle.bao_command.specs.Tasks.{part_line}
 use Rattle.bao_command.specs.Works.{DecodesRight}
 use Rattle.bao_command.proofs.Due.{file_due}
-use Rattle.bao_command.proofs.Refusals.{text_refused}
+use Rattle.bao_command.proofs.Refusals.{is_there, text_refused}
 use Rattle.bao_command.proofs.Telling.{leaves_after, no_refusal, on_printed, told_prints}
 use Rattle.bao_command.proofs.commands.decode.Goals as goal
 
@@ -41,7 +41,10 @@ returns-after-fault-clause-refused g c = λ is. (
   c.in_ok-root.root.0,
   (
     c.in_ok-root.ensures.ok,
-    λ known text there.
-        text_refused c.args.mode.now c.in_ok-root.root.0 (g.D.Disk.faultless c.args.disk.now) c.args.part.now text c.args.file c.args.path c.in-Err.fault is (c.in-Err.ensures.refused known text there),
+    (
+      is_there (g.D.Disk.at c.args.disk.now c.args.file.now) c.args.file c.in-Err.fault is c.in-Err.ensures.absent,
+      λ known text there.
+          text_refused c.args.mode.now c.in_ok-root.root.0 (g.D.Disk.faultless c.args.disk.now) c.args.part.now text c.args.file c.args.path c.in-Err.fault is (c.in-Err.ensures.refused known text there),
+    ),
   ),
 )

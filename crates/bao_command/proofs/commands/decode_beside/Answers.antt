@@ -4,7 +4,7 @@ use Rattle.bao_files.specs.Printed.{ok_line}
 use Rattle.bao_command.specs.Printed.{CommandPrints}
 use Rattle.bao_command.specs.Works.{CopiesRight}
 use Rattle.bao_command.proofs.Due.{file_due}
-use Rattle.bao_command.proofs.Refusals.{copy_refused}
+use Rattle.bao_command.proofs.Refusals.{copy_refused, is_there}
 use Rattle.bao_command.proofs.Telling.{leaves_after, no_refusal, on_printed, told_prints}
 use Rattle.bao_command.proofs.commands.decode_beside.Goals as goal
 
@@ -42,8 +42,11 @@ returns-after-fault-clause-refused g c = λ is. (
   c.in_ok-root.root.0,
   (
     c.in_ok-root.ensures.ok,
-    λ known outline bytes there also.
-        copy_refused c.args.mode.now c.in_ok-root.root.0 (g.D.Disk.faultless c.args.disk.now) outline bytes c.args.outboard c.args.copy c.args.path c.in-Err.fault is
-        (c.in-Err.ensures.refused known outline bytes there also),
+    (
+      is_there (g.D.Disk.at c.args.disk.now c.args.outboard.now) c.args.outboard c.in-Err.fault is c.in-Err.ensures.absent,
+      λ known outline bytes there also.
+          copy_refused c.args.mode.now c.in_ok-root.root.0 (g.D.Disk.faultless c.args.disk.now) outline bytes c.args.outboard c.args.copy c.args.path c.in-Err.fault is
+          (c.in-Err.ensures.refused known outline bytes there also),
+    ),
   ),
 )

@@ -1,6 +1,6 @@
-use Rattle.std.proofs.Common.{◌≡◌, ℕ, List, Option, Result, Ok, Err, IfErr, IsErrAnd, inl, inr, refl}
+use Rattle.std.proofs.Common.{◌≡◌, ℕ, List, Option, Result, Ok, Err, IfErr, OnOk, inl, inr, refl}
 use Rattle.b3tree.specs.declared.mode.Mode.{Mode}
-use Rattle.bao_files.specs.Disks.{FileState, KeepsFiles}
+use Rattle.bao_files.specs.Disks.{FileState}
 use Rattle.bao_command.specs.declared.fault.Fault.{Fault}
 use Rattle.bao_command.specs.declared.fault.Fault.TheVariants.{Word, Root, Key, KeyAndContext, KeyFile, KeyFileAndOthers, OutputRange, TooManyFiles, OutIsOutput, OutLeadsToOutput, LongAndOthers, ListIsOut, ListIsRead, ListLeadsToOther, File, Decode, Gather, Replay}
 use Rattle.bao_files.specs.declared.fault.FileFault.TheVariants as file
@@ -8,12 +8,12 @@ use Rattle.bao_request.specs.declared.tasks.Request.{Request}
 use Rattle.bao_command.specs.Effects.{Writes, list_of}
 use Rattle.bao_command.specs.Printed.{CommandPrints, OnPrinted}
 use Rattle.bao_command.specs.ModeWords.{HasMode}
-use Rattle.bao_command.specs.Refused.{IsRefused, IsRefusedFor}
+use Rattle.bao_command.specs.Refused.{IsBlobFor, IsBlobOf, IsRefused, IsRefusedFor}
 use Rattle.bao_command.specs.Status.{status_of}
 use Rattle.bao_command.specs.Tasks.{Answers, GoesApart, IsRight, LeavesFiles, LeavesFilesOf, line_of}
 use Rattle.bao_command.proofs.Due.{mode_due, task_due}
 use Rattle.bao_command.proofs.Modes.{mode_answer, mode_refuses_none}
-use Rattle.bao_command.proofs.Telling.{other_status, usage_refuses_none}
+use Rattle.bao_command.proofs.Telling.{other_status}
 use Rattle.bao_command.proofs.commands.serve.Goals as goal
 
 module _ (request : Request) (at after : List ℕ → FileState) (mode : Mode) (has : HasMode at request mode) where
@@ -55,6 +55,12 @@ module _ (request : Request) (at after : List ℕ → FileState) (mode : Mode) (
   refuses sure (Ok done) refused = tt
   refuses sure (Err fault) refused = λ is. (mode, has, refused is)
 
+  -- so is the blob that it gathers
+  gathers : (sure : Type 0) (old new : Option (List ℕ)) (result : Result Unit Fault) → OnOk result (IsBlobOf sure at after mode request.task old new)
+      → OnOk result (IsBlobFor sure at after request old new)
+  gathers sure old new (Ok done) blob = (mode, has, blob)
+  gathers sure old new (Err fault) blob = tt
+
 -- before the task nothing has changed
 unchanged : (request : Request) (at : List ℕ → FileState) (result : Result Unit Fault) → IfErr result (LeavesFilesOf at at request)
 unchanged request at (Ok done) = tt
@@ -73,6 +79,11 @@ returns-in_ok-check_places-clause-files g c =
 pub returns-in_ok-check_places-clause-refused : goal.returns-in_ok-check_places-clause-refused
 returns-in_ok-check_places-clause-refused g c =
     refuses c.args.request.now (g.D.Disk.at c.args.disk.now) (g.D.Disk.at c.serve_task.new.disk) c.in_ok-mode.mode c.in_ok-mode.ensures.mode (g.D.Disk.faultless c.args.disk.now) c.serve_task.result c.serve_task.ensures.refused
+
+pub returns-in_ok-check_places-clause-blob : goal.returns-in_ok-check_places-clause-blob
+returns-in_ok-check_places-clause-blob g c =
+    gathers c.args.request.now (g.D.Disk.at c.args.disk.now) (g.D.Disk.at c.serve_task.new.disk) c.in_ok-mode.mode c.in_ok-mode.ensures.mode (g.D.Disk.faultless c.args.disk.now)
+    (g.O.Write.contents c.args.out.now) (g.O.Write.contents c.serve_task.new.out) c.serve_task.result c.serve_task.ensures.blob
 
 pub returns-in_err-mode-clause-answer : goal.returns-in_err-mode-clause-answer
 returns-in_err-mode-clause-answer g c =

@@ -1,18 +1,20 @@
-use Rattle.std.proofs.Common.{◌≡◌, ◌≤◌, ℕ, List, Option, None, length, Result, Ok, Err, IfErr, Bor, inl, inr, refl, subst, sym}
+use Rattle.std.proofs.Common.{◌≡◌, ◌≤◌, ℕ, List, None, length, if◌then◌else◌, Result, Ok, Err, IfErr, OnOk, Bor, inl, inr, refl, subst, sym}
 use Rattle.b3tree.specs.declared.mode.Mode.{Mode}
-use Rattle.bao_files.specs.Disks.{FileState, KeepsFiles}
+use Rattle.bao_files.specs.Disks.{FileState}
 use Rattle.bao_request.specs.declared.tasks.Task.{Task}
 use Rattle.bao_request.specs.declared.tasks.Task.TheVariants.{CutSlice, Decode, DecodeCopy, Encode}
 use Rattle.bao_tasks.specs.declared.gathering.Gathering.{Gathering}
 use Rattle.bao_command.specs.declared.fault.Fault.{Fault}
 use Rattle.bao_command.specs.Effects.{Writes, list_of}
 use Rattle.bao_command.specs.Printed.{CommandPrints, OnPrinted}
-use Rattle.bao_command.specs.Refused.{IsRefused, IsRefusedGathering, IsRefusedReplay, OfRoot}
+use Rattle.gather.specs.declared.grain.Grain.{Grain}
+use Rattle.gather.specs.declared.grain.Grain.TheVariants.{Group as ByGroup, Chunk as ByChunk}
+use Rattle.bao_command.specs.Refused.{IsBlobOf, IsEachBlob, IsRefused, IsRefusedGathering, IsRefusedReplay, OfRoot}
 use Rattle.bao_command.specs.Status.{status_of}
-use Rattle.bao_command.specs.Tasks.{IsOfFile, IsReplay, IsRight, LeavesFiles, line_of}
+use Rattle.bao_command.specs.Tasks.{IsReplay, IsRight, LeavesFiles, line_of}
 use Rattle.bao_command.specs.Works.{CopiesRight, CutsRight, DecodesRight, EncodesRight, Leaves, LeavesGathered}
 use Rattle.bao_command.proofs.Due.{file_due}
-use Rattle.bao_command.proofs.Telling.{both_printed, no_refusal, on_printed}
+use Rattle.bao_command.proofs.Telling.{both_printed, no_refusal, on_ok, on_printed}
 use Rattle.bao_command.proofs.commands.serve_task.Goals as goal
 
 -- what a task's fault leaves, where it has no list
@@ -205,11 +207,63 @@ returns-in-Gather-clause-refused g c =
     let at = g.D.Disk.at c.args.disk.now in
     subst (λ (task : Task). IfErr c.gather.result (λ fault. status_of fault ≡ 1 → IsRefused sure at c.args.mode.now task)) (sym c.in-Gather.is)
     (subst (λ (files : List (Bor (List ℕ))). IfErr c.gather.result (λ fault. status_of fault ≡ 1
-    → OfRoot c.in-Gather.root.now (IsRefusedGathering sure at c.args.mode.now c.in-Gather.encode c.in-Gather.long c.in-Gather.capacity c.in-Gather.outboard files c.in-Gather.path.now)))
-    c.as_slice-files.ensures.value c.gather.ensures.refused)
+    → OfRoot c.in-Gather.root.now (IsRefusedGathering sure at c.args.mode.now (if c.in-Gather.salvage then ByChunk else ByGroup) c.in-Gather.encode c.in-Gather.long c.in-Gather.capacity c.in-Gather.outboard files c.in-Gather.path.now)))
+    c.as_slice-files.ensures.value
+    (subst (λ (grain : Grain). IfErr c.gather.result (λ fault. status_of fault ≡ 1
+    → OfRoot c.in-Gather.root.now (IsRefusedGathering sure at c.args.mode.now grain c.in-Gather.encode c.in-Gather.long c.in-Gather.capacity c.in-Gather.outboard c.as_slice-files.result.now c.in-Gather.path.now)))
+    c.grain_of.ensures c.gather.ensures.refused))
 
 pub returns-in-Replay-clause-refused : goal.returns-in-Replay-clause-refused
 returns-in-Replay-clause-refused g c =
     subst (λ (task : Task). IfErr c.replay.result (λ fault. status_of fault ≡ 1 → IsRefused (g.D.Disk.faultless c.args.disk.now) (g.D.Disk.at c.args.disk.now) c.args.mode.now task)) (sym c.in-Replay.is)
     (subst (λ (files : List (Bor (List ℕ))). IfErr c.replay.result (λ fault. status_of fault ≡ 1
     → IsRefusedReplay (g.D.Disk.at c.args.disk.now) c.args.mode.now c.in-Replay.root.now c.in-Replay.capacity c.in-Replay.script.now files)) c.as_slice-files-in-Replay.ensures.value c.replay.ensures.refused)
+
+pub returns-in-Hash-clause-blob : goal.returns-in-Hash-clause-blob
+returns-in-Hash-clause-blob g c =
+    on_ok c.hash.result
+    (subst (λ (task : Task). IsBlobOf (g.D.Disk.faultless c.args.disk.now) (g.D.Disk.at c.args.disk.now) (g.D.Disk.at c.args.disk.now) c.args.mode.now task (g.O.Write.contents c.args.out.now) (g.O.Write.contents c.hash.new.out))
+    (sym c.in-Hash.is) tt)
+
+pub returns-in-Encode-clause-blob : goal.returns-in-Encode-clause-blob
+returns-in-Encode-clause-blob g c =
+    on_ok c.encode.result
+    (subst (λ (task : Task). IsBlobOf (g.D.Disk.faultless c.args.disk.now) (g.D.Disk.at c.args.disk.now) (g.D.Disk.at c.encode.new.disk) c.args.mode.now task (g.O.Write.contents c.args.out.now) (g.O.Write.contents c.encode.new.out))
+    (sym c.in-Encode.is) tt)
+
+pub returns-in-CutSlice-clause-blob : goal.returns-in-CutSlice-clause-blob
+returns-in-CutSlice-clause-blob g c =
+    on_ok c.cut_slice.result
+    (subst (λ (task : Task). IsBlobOf (g.D.Disk.faultless c.args.disk.now) (g.D.Disk.at c.args.disk.now) (g.D.Disk.at c.cut_slice.new.disk) c.args.mode.now task (g.O.Write.contents c.args.out.now) (g.O.Write.contents c.cut_slice.new.out))
+    (sym c.in-CutSlice.is) tt)
+
+pub returns-in-Decode-clause-blob : goal.returns-in-Decode-clause-blob
+returns-in-Decode-clause-blob g c =
+    on_ok c.decode.result
+    (subst (λ (task : Task). IsBlobOf (g.D.Disk.faultless c.args.disk.now) (g.D.Disk.at c.args.disk.now) (g.D.Disk.at c.decode.new.disk) c.args.mode.now task (g.O.Write.contents c.args.out.now) (g.O.Write.contents c.decode.new.out))
+    (sym c.in-Decode.is) tt)
+
+pub returns-in-DecodeCopy-clause-blob : goal.returns-in-DecodeCopy-clause-blob
+returns-in-DecodeCopy-clause-blob g c =
+    on_ok c.decode_beside.result
+    (subst (λ (task : Task). IsBlobOf (g.D.Disk.faultless c.args.disk.now) (g.D.Disk.at c.args.disk.now) (g.D.Disk.at c.decode_beside.new.disk) c.args.mode.now task (g.O.Write.contents c.args.out.now) (g.O.Write.contents c.decode_beside.new.out))
+    (sym c.in-DecodeCopy.is) tt)
+
+pub returns-in-Replay-clause-blob : goal.returns-in-Replay-clause-blob
+returns-in-Replay-clause-blob g c =
+    on_ok c.replay.result
+    (subst (λ (task : Task). IsBlobOf (g.D.Disk.faultless c.args.disk.now) (g.D.Disk.at c.args.disk.now) (g.D.Disk.at c.args.disk.now) c.args.mode.now task (g.O.Write.contents c.args.out.now) (g.O.Write.contents c.replay.new.out))
+    (sym c.in-Replay.is) tt)
+
+pub returns-in-Gather-clause-blob : goal.returns-in-Gather-clause-blob
+returns-in-Gather-clause-blob g c =
+    let result : Result Unit Fault = c.gather.result in
+    let sure : Type 0 = g.D.Disk.faultless c.args.disk.now in
+    let at = g.D.Disk.at c.args.disk.now in
+    let after = g.D.Disk.at c.gather.new.disk in
+    let old = g.O.Write.contents c.args.out.now in
+    let new = g.O.Write.contents c.gather.new.out in
+    subst (λ (task : Task). OnOk result (IsBlobOf sure at after c.args.mode.now task old new)) (sym c.in-Gather.is)
+    (subst (λ (files : List (Bor (List ℕ))). OnOk result (OfRoot c.in-Gather.root.now
+    (IsEachBlob sure at after c.args.mode.now c.in-Gather.encode c.in-Gather.capacity c.in-Gather.outboard files c.in-Gather.path.now c.in-Gather.missing old new)))
+    c.as_slice-files.ensures.value c.gather.ensures.blob)

@@ -1,23 +1,52 @@
-use Rattle.bao_files.proofs.Results.{with_fault}
+use Rattle.std.proofs.Common.{◌≡◌, ◌^◌, ◌<◌, ℕ, List, length, true, None, Some, Result, Ok, Err, IfErr}
+use Rattle.std.specs.Borrow.{Bor}
+use Rattle.b3tree.specs.declared.mode.Mode.{Mode}
+use Rattle.bao_text.specs.Cut.{claimed}
+use Rattle.bao_decode.specs.Opened.{IsNotThere}
+use Rattle.bao_decode.specs.TextPass.{DecodeStops}
+use Rattle.bao_decode.specs.Weaving.{CutBesideStops, are_whole}
+use Rattle.bao_decode.specs.declared.decode_fault.DecodeFault.{DecodeFault}
+use Rattle.bao_files.specs.Disks.{Absent, FileState, IsKnown, Stored}
 use Rattle.bao_text.specs.declared.kinds.Part.TheVariants.{Slice}
 use Rattle.bao_text.specs.Cut.{cut_text}
-use Rattle.bao_command.proofs.Refusals.{beside_refused, text_refused}
+use Rattle.bao_command.proofs.Refusals.{beside_refused, is_there, text_refused}
+use Rattle.bao_command.specs.Refused.{IsRefusedCut}
+use Rattle.bao_command.specs.Status.{decode_status_of}
 use Rattle.bao_command.proofs.commands.slice_of.Goals as goal
+
+module _ (at : List ℕ → FileState) (mode : Mode) (key : List ℕ) (start len : ℕ) (file path : Bor (List ℕ)) (faultless : Type 0) where
+  -- what a fault of a slice says, out of an encoding and beside an outboard encoding
+  cut_refused : (result : Result ℕ DecodeFault) → IfErr result (λ fault. at file.now ≡ Absent → IsNotThere file fault)
+      → IfErr result (λ fault. IsKnown (at path.now) → (text : List ℕ) → at file.now ≡ Stored text → length text < 2 ^ 63
+      → DecodeStops mode key (Slice start len) faultless (cut_text text start len) file path fault)
+      → IfErr result (λ fault. decode_status_of fault ≡ 1 → IsRefusedCut at mode start len None file.now path.now key)
+  cut_refused (Ok count) absent stops = tt
+  cut_refused (Err fault) absent stops = λ is. (
+    is_there (at file.now) file fault is absent,
+    λ known text there small. text_refused mode key faultless (Slice start len) (cut_text text start len) file path fault is (stops known text there small),
+  )
+
+  cut_beside_refused : (outboard : Bor (List ℕ)) (result : Result ℕ DecodeFault) → IfErr result (λ fault. at outboard.now ≡ Absent → IsNotThere outboard fault)
+      → IfErr result (λ fault. IsKnown (at path.now) → (outline bytes : List ℕ) → at outboard.now ≡ Stored outline → at file.now ≡ Stored bytes → are_whole (claimed outline) outline bytes ≡ true
+      → CutBesideStops mode key start len faultless outline bytes outboard file path fault)
+      → IfErr result (λ fault. decode_status_of fault ≡ 1 → IsRefusedCut at mode start len (Some outboard) file.now path.now key)
+  cut_beside_refused outboard (Ok count) absent stops = tt
+  cut_beside_refused outboard (Err fault) absent stops = λ is. (
+    is_there (at outboard.now) outboard fault is absent,
+    λ known outline bytes there also whole.
+        beside_refused mode key faultless start len outline bytes outboard file path fault is (stops known outline bytes there also whole),
+  )
 
 pub returns-in-Some-clause-done : goal.returns-in-Some-clause-done
 returns-in-Some-clause-done g c = rw c.in-Some.is c.slice_beside_on.ensures.done
 
 pub returns-in-Some-clause-refused : goal.returns-in-Some-clause-refused
-returns-in-Some-clause-refused g c = rw c.in-Some.is (with_fault c.slice_beside_on.result _
-    (λ fault refused is known outline bytes there also whole. beside_refused c.args.mode.now c.args.root.now.0 (g.D.Disk.faultless c.args.disk.now) c.args.start c.args.len outline bytes
-    c.in-Some.outboard c.args.file c.args.path fault is (refused known outline bytes there also whole))
-    c.slice_beside_on.ensures.refused)
+returns-in-Some-clause-refused g c = rw c.in-Some.is (cut_beside_refused (g.D.Disk.at c.args.disk.now) c.args.mode.now c.args.root.now.0 c.args.start c.args.len c.args.file c.args.path
+    (g.D.Disk.faultless c.args.disk.now) c.in-Some.outboard c.slice_beside_on.result c.slice_beside_on.ensures.absent c.slice_beside_on.ensures.refused)
 
 pub returns-in-None-clause-done : goal.returns-in-None-clause-done
 returns-in-None-clause-done g c = rw c.in-None.is c.slice_on.ensures.done
 
 pub returns-in-None-clause-refused : goal.returns-in-None-clause-refused
-returns-in-None-clause-refused g c = rw c.in-None.is (with_fault c.slice_on.result _
-    (λ fault refused is known text there small. text_refused c.args.mode.now c.args.root.now.0 (g.D.Disk.faultless c.args.disk.now) (Slice c.args.start c.args.len) (cut_text text c.args.start c.args.len)
-    c.args.file c.args.path fault is (refused known text there small))
-    c.slice_on.ensures.refused)
+returns-in-None-clause-refused g c = rw c.in-None.is (cut_refused (g.D.Disk.at c.args.disk.now) c.args.mode.now c.args.root.now.0 c.args.start c.args.len c.args.file c.args.path
+    (g.D.Disk.faultless c.args.disk.now) c.slice_on.result c.slice_on.ensures.absent c.slice_on.ensures.refused)

@@ -1,24 +1,25 @@
-use Rattle.std.proofs.Common.{◌≡◌, ◌≢◌, ◌≤◌, ◌⊎◌, ℕ, List, [], Option, None, Some, length, Result, Ok, Err, Bor, IfErr, IfOk, IsErrAnd, OnErr, OnOk, inl, inr, arith, refl, subst, sym, ap, ◌∙◌}
+use Rattle.std.proofs.Common.{◌≡◌, ◌≢◌, ◌≤◌, ◌⊎◌, ℕ, List, [], Option, None, Some, length, Result, Ok, Err, Bor, IfErr, IfOk, IsErrAnd, OnErr, OnOk, inl, inr, arith, refl, subst, sym, ◌∙◌}
 use Rattle.b3tree.specs.declared.mode.Mode.{Mode}
 use Rattle.gather.specs.declared.fault.GatherFault.TheVariants as gather
+use Rattle.std.specs.Io.KnownBytes.{Appends}
 use Rattle.bao_text.specs.Texts.{combined_text}
 use Rattle.bao_files.specs.Disks.{FileState, IsKnown, KeepsFiles, Puts}
 use Rattle.bao_files.specs.Printed as file
 use Rattle.bao_files.specs.Printed.{ok_line}
-use Rattle.bao_tasks.specs.FromFiles.{IsExcusedGathering, IsPutAt}
+use Rattle.bao_tasks.specs.FromFiles.{IsExcusedGathering, IsPutAt, IsRightAt}
 use Rattle.bao_tasks.specs.Gathered.{HasOutlineIn, HasRootAndFits, gathered_text}
 use Rattle.bao_tasks.specs.declared.gathered_fault.GatheredFault.{GatheredFault}
 use Rattle.bao_tasks.specs.declared.gathered_fault.GatheredFault.TheVariants.{File, Gather, Outboard}
 use Rattle.bao_tasks.specs.declared.gathering.Gathering.{Gathering}
 use Rattle.bao_command.specs.declared.fault.Fault.{Fault}
 use Rattle.bao_tasks.specs.Listed.{lines_of_parts}
-use Rattle.bao_command.specs.Effects.{KeepsButList, Lists}
+use Rattle.bao_command.specs.Effects.{KeepsButList, Lists, PutsBoth}
 use Rattle.bao_command.specs.Printed.{CommandPrints}
-use Rattle.bao_command.specs.Refused.{IsRefusedGathering}
+use Rattle.bao_command.specs.Refused.{IsEachBlob, IsRefusedGathering}
 use Rattle.bao_command.specs.Status.{gathered_status_of}
 use Rattle.bao_command.specs.Tasks.{IsBeside, IsOfFile}
 use Rattle.bao_command.specs.Works.{IsRightBlob, LeavesGathered}
-use Rattle.bao_command.proofs.Telling.{file_refuses_none, no_refusal, on_printed, told_prints}
+use Rattle.bao_command.proofs.Telling.{file_refuses_none, no_refusal, on_line, on_printed, told_prints}
 use Rattle.bao_command.proofs.gathering.gather.Goals as goal
 use Rattle.bao_command.proofs.gathering.gather.Goals.{in-None, in-Some}
 
@@ -72,6 +73,41 @@ other_is : {C : Type 0} (old new : List ℕ → FileState) (path : List ℕ) (ho
     → result ≡ Err fault → gathered_status_of fault ≡ 1 → IsPutAt old new path how mode blob result ⊎ C → C
 other_is old new path how mode blob result fault is one (inl put) = absurd (excused_status fault (subst (IsPutAt old new path how mode blob) is put) one)
 other_is old new path how mode blob result fault is one (inr c) = c
+
+-- what was put is this blob, and its length was printed, or the other is so
+each_blob : {C : Type 0} (at between after : List ℕ → FileState) (out : List ℕ) (how : Gathering) (mode : Mode) (list : Option (Bor (List ℕ))) (old new : Option (List ℕ)) (count : ℕ)
+    (blob : List ℕ) (result : Result ℕ GatheredFault) → result ≡ Ok count → Lists between after list [] → Appends old new (ok_line count)
+    → IsRightAt at between out how mode blob result ⊎ C
+    → (PutsBoth at after out (gathered_text how.encode mode blob) list × Appends old new (ok_line (length blob))) ⊎ C
+each_blob at between after out how mode list old new count blob result is listed printed (inr c) = inr c
+each_blob at between after out how mode list old new count blob result is listed printed (inl right) =
+    let put : (count ≡ length blob) × Puts at between out (Some (gathered_text how.encode mode blob)) = subst (IsRightAt at between out how mode blob) is right in
+    inl ((between, put.1, listed), subst (λ (n : ℕ). Appends old new (ok_line n)) put.0 printed)
+
+pub returns-in-Ok-gathered-clause-blob : goal.returns-in-Ok-gathered-clause-blob
+returns-in-Ok-gathered-clause-blob g c =
+    let mode = c.args.mode.now in
+    let how = c.args.how in
+    let at = g.D.Disk.at c.args.disk.now in
+    let after = g.D.Disk.at c.list_nothing.new.disk in
+    let out : List ℕ = c.args.paths.out.now in
+    let list = c.args.paths.list in
+    let root = c.in_ok-root.root in
+    let count = c.in-Ok-gathered.count in
+    let line : List ℕ = ok_line count in
+    let old = g.O.Write.contents c.args.out.now in
+    let new = g.O.Write.contents c.print_count.new.out in
+    let told = subst (CommandPrints line old new) (sym c.told.ensures.prints) (told_prints line old new c.print_count.result c.print_count.ensures.prints) in
+    on_line line old new c.told.result told (λ printed.
+    let each : IsEachBlob (g.D.Disk.faultless c.args.disk.now) at after mode how.encode how.capacity c.args.paths.outboard c.args.files.now out list old new root = elim c.match-paths.branch [
+      | in-None w ↦ rw w.in-None.is (λ sure known blob is_blob.
+          each_blob at (g.D.Disk.at w.gather_on-gathered.new.disk) after out how mode list old new count blob w.gather_on-gathered.result (sym w.gathered-is ∙ c.in-Ok-gathered.is)
+          (subst (λ d. Lists (g.D.Disk.at d) after list []) w.disk-is c.in_ok-list_nothing-in-Ok-gathered.ensures.lists) printed (w.gather_on-gathered.ensures.right sure known blob is_blob))
+      | in-Some w ↦ rw w.in-Some.is (λ sure known blob is_blob.
+          each_blob at (g.D.Disk.at w.gather_beside_on-gathered.new.disk) after out how mode list old new count blob w.gather_beside_on-gathered.result (sym w.gathered-is ∙ c.in-Ok-gathered.is)
+          (subst (λ d. Lists (g.D.Disk.at d) after list []) w.disk-is c.in_ok-list_nothing-in-Ok-gathered.ensures.lists) printed (w.gather_beside_on-gathered.ensures.right sure known blob is_blob))
+    ] in
+    (root, (c.in_ok-root.ensures.ok, each)))
 
 pub returns-in-Ok-gathered-clause-answer : goal.returns-in-Ok-gathered-clause-answer
 returns-in-Ok-gathered-clause-answer g c =
@@ -205,12 +241,17 @@ returns-clause-refused g c = λ one.
     let how = c.args.how in
     let out : List ℕ = c.args.paths.out.now in
     let root = c.in_ok-root.root in
-    let refused : IsRefusedGathering (g.D.Disk.faultless c.args.disk.now) at mode how.encode how.long how.capacity c.args.paths.outboard c.args.files.now out root = elim c.match-paths.branch [
-      | in-None w ↦ rw w.in-None.is (λ sure known blob is_blob place small true.
+    let refused : IsRefusedGathering (g.D.Disk.faultless c.args.disk.now) at mode how.grain how.encode how.long how.capacity c.args.paths.outboard c.args.files.now out root = elim c.match-paths.branch [
+      | in-None w ↦ rw w.in-None.is (λ sure known blob is_blob place have.
           other_is at (g.D.Disk.at w.gather_on-gathered.new.disk) out how mode blob w.gather_on-gathered.result c.in-Err.fault (sym w.gathered-is ∙ c.in-Err.is) one
-          (w.gather_on-gathered.ensures.available sure known blob (combined_text mode blob) true.0 true.1 (record { root = is_blob; room = place; text_is = refl; few = small }) true.2 true.3 true.4))
-      | in-Some w ↦ rw w.in-Some.is (λ sure known blob is_blob place some small beside true.
+          (w.gather_on-gathered.ensures.available sure known blob
+          (record {
+            root = is_blob;
+            room = place;
+            some = elim have [ inl whole ↦ inl (record { text = combined_text mode blob; has = whole.0; text_is = refl; few = whole.1 }) | inr cuts ↦ inr cuts ];
+          })))
+      | in-Some w ↦ rw w.in-Some.is (λ sure known blob is_blob place some small beside have.
           other_is at (g.D.Disk.at w.gather_beside_on-gathered.new.disk) out how mode blob w.gather_beside_on-gathered.result c.in-Err.fault (sym w.gathered-is ∙ c.in-Err.is) one
-          (w.gather_beside_on-gathered.ensures.available sure known blob true.0 true.1 is_blob place some small beside true.2 true.3 true.4))
+          (w.gather_beside_on-gathered.ensures.available sure known blob is_blob place some small beside have))
     ] in
     (root, (c.in_ok-root.ensures.ok, refused))

@@ -3,11 +3,13 @@ use Rattle.gather.specs.declared.fault.GatherFault.TheVariants.{Starved, TooLarg
 use Rattle.gather.specs.Large.{HasCollision, fixed_as}
 use Rattle.gather.specs.Lists.{IsFromSource}
 use Rattle.bao_windows.specs.Written.{AreTooLong}
+use Rattle.store_core.specs.declared.fixed.Fixed.{Fixed}
 use Rattle.bao_tasks.specs.declared.gathered_fault.GatheredFault.TheVariants.{Gather}
-use Rattle.bao_tasks.specs.FromFiles.{IsExcusedGathering, IsFromFile, file_bytes}
+use Rattle.bao_tasks.specs.FromFiles.{AreEnough, IsExcusedGathering, IsFromFile, IsInFile, file_bytes}
 use Rattle.bao_tasks.specs.TakenFiles.{AreOfFiles, HasSound}
 use Rattle.bao_tasks.specs.Givens.{given_contents, is_given_faultless, most_bytes, watched_contents, watched_faultless}
 use Rattle.bao_tasks.proofs.FromFiles.{drafted_of, excused_end, fault_of, long_wider, met_or_pair, no_sources, not_other_root, not_too_large, one_large, pair_of_files, right_draft, same_ok}
+use Rattle.bao_tasks.proofs.Together.{all_taken, enough_wider}
 use Rattle.bao_tasks.proofs.gathering.drafted.Given.{Over}
 use Rattle.bao_tasks.proofs.gathering.drafted.Goals as goal
 use Rattle.bao_tasks.proofs.gathering.drafted.Goals.{After-attempt, After-attempt-2}
@@ -35,7 +37,7 @@ pub returns-in-Err-attempt-clause-paths : goal.returns-in-Err-attempt-clause-pat
 returns-in-Err-attempt-clause-paths g c = c.in-Err-attempt.ensures.paths c.args.files.now
 
 pub returns-in-Ok-Some-clause-available : goal.returns-in-Ok-Some-clause-available
-returns-in-Ok-Some-clause-available g c = λ surely known blob text i file enough there named stored.
+returns-in-Ok-Some-clause-available g c = λ surely known blob enough.
     drafted_of g.D.Draft.Write.contents c.args.wanted.now.how c.args.wanted.now.mode.now blob (HasCollision (IsFromFile c.args.wanted.now.form.now c.args.wanted.now.how.capacity (g.D.Disk.at c.args.disk.now) c.args.files.now) (fixed_as c.args.wanted.now.root.now c.args.wanted.now.mode.now c.args.wanted.now.how.capacity) blob) (HasCollision (IsFromSource c.args.wanted.now.form.now (watched_contents {P = g.row.P.Denot} (given_contents g.D.Input.Source.contents)) (watched_faultless {P = g.row.P.Denot} (is_given_faultless g.D.Input.Source.faultless)) c.take_files.new.taken.givens.items) (fixed_as c.args.wanted.now.root.now c.args.wanted.now.mode.now c.args.wanted.now.how.capacity) blob) c.attempt.result c.in-Ok-Some.field-0 c.in-Ok-Some.made (c.attempt.ensures.right known blob enough.root)
     (first_wide g (goal.at.returns-in-Ok-Some-clause-available g c).After-attempt surely blob) c.in-Ok-Some.is c.in-Ok-Some.field-0-is
 
@@ -46,7 +48,7 @@ returns-in-Ok-Some-clause-right g c = λ surely known blob is.
     (first_wide g (goal.at.returns-in-Ok-Some-clause-right g c).After-attempt surely blob) c.in-Ok-Some.is c.in-Ok-Some.field-0-is)
 
 pub returns-in-Err-clause-available : goal.returns-in-Err-clause-available
-returns-in-Err-clause-available g c = λ surely known blob text i file enough there named stored.
+returns-in-Err-clause-available g c = λ surely known blob enough.
     fault_of g.D.Draft.Write.contents c.args.wanted.now.how c.args.wanted.now.mode.now blob (HasCollision (IsFromFile c.args.wanted.now.form.now c.args.wanted.now.how.capacity (g.D.Disk.at c.args.disk.now) c.args.files.now) (fixed_as c.args.wanted.now.root.now c.args.wanted.now.mode.now c.args.wanted.now.how.capacity) blob) (HasCollision (IsFromSource c.args.wanted.now.form.now (watched_contents {P = g.row.P.Denot} (given_contents g.D.Input.Source.contents)) (watched_faultless {P = g.row.P.Denot} (is_given_faultless g.D.Input.Source.faultless)) c.take_files.new.taken.givens.items) (fixed_as c.args.wanted.now.root.now c.args.wanted.now.mode.now c.args.wanted.now.how.capacity) blob) c.attempt.result c.in-Err.fault (c.attempt.ensures.right known blob enough.root)
     (first_wide g (goal.at.returns-in-Err-clause-available g c).After-attempt surely blob) c.in-Err.is
 
@@ -62,7 +64,7 @@ returns-in-Err-clause-too_large g c = λ slices surely is.
     absurd {A = AreTooLong (IsFromFile c.args.wanted.now.form.now c.args.wanted.now.how.capacity (g.D.Disk.at c.args.disk.now) c.args.files.now) (fixed_as c.args.wanted.now.root.now c.args.wanted.now.mode.now c.args.wanted.now.how.capacity) c.args.wanted.now.how.capacity} (not_too_large c.in-Err.fault c.in-Err.ensures.closed large)
 
 pub returns-in-Ok-Some-attempt-clause-available : goal.returns-in-Ok-Some-attempt-clause-available
-returns-in-Ok-Some-attempt-clause-available g c = λ surely known blob text i file enough there named stored.
+returns-in-Ok-Some-attempt-clause-available g c = λ surely known blob enough.
     drafted_of g.D.Draft.Write.contents c.args.wanted.now.how c.args.wanted.now.mode.now blob (HasCollision (IsFromFile c.args.wanted.now.form.now c.args.wanted.now.how.capacity (g.D.Disk.at c.args.disk.now) c.args.files.now) (fixed_as c.args.wanted.now.root.now c.args.wanted.now.mode.now c.args.wanted.now.how.capacity) blob) (HasCollision (IsFromSource c.args.wanted.now.form.now (watched_contents {P = g.row.P.Denot} (given_contents g.D.Input.Source.contents)) (watched_faultless {P = g.row.P.Denot} (is_given_faultless g.D.Input.Source.faultless)) c.take_files-2.new.taken.givens.items) (fixed_as c.args.wanted.now.root.now c.args.wanted.now.mode.now c.args.wanted.now.how.capacity) blob) c.attempt-2.result c.in-Ok-Some-attempt.field-0 c.in-Ok-Some-attempt.made (c.attempt-2.ensures.right known blob enough.root)
     (second_wide g (goal.at.returns-in-Ok-Some-attempt-clause-available g c).After-attempt-2 surely blob) c.in-Ok-Some-attempt.is c.in-Ok-Some-attempt.field-0-is
 
@@ -73,7 +75,7 @@ returns-in-Ok-Some-attempt-clause-right g c = λ surely known blob is.
     (second_wide g (goal.at.returns-in-Ok-Some-attempt-clause-right g c).After-attempt-2 surely blob) c.in-Ok-Some-attempt.is c.in-Ok-Some-attempt.field-0-is)
 
 pub returns-in-Err-attempt-clause-available : goal.returns-in-Err-attempt-clause-available
-returns-in-Err-attempt-clause-available g c = λ surely known blob text i file enough there named stored.
+returns-in-Err-attempt-clause-available g c = λ surely known blob enough.
     fault_of g.D.Draft.Write.contents c.args.wanted.now.how c.args.wanted.now.mode.now blob (HasCollision (IsFromFile c.args.wanted.now.form.now c.args.wanted.now.how.capacity (g.D.Disk.at c.args.disk.now) c.args.files.now) (fixed_as c.args.wanted.now.root.now c.args.wanted.now.mode.now c.args.wanted.now.how.capacity) blob) (HasCollision (IsFromSource c.args.wanted.now.form.now (watched_contents {P = g.row.P.Denot} (given_contents g.D.Input.Source.contents)) (watched_faultless {P = g.row.P.Denot} (is_given_faultless g.D.Input.Source.faultless)) c.take_files-2.new.taken.givens.items) (fixed_as c.args.wanted.now.root.now c.args.wanted.now.mode.now c.args.wanted.now.how.capacity) blob) c.attempt-2.result c.in-Err-attempt.fault (c.attempt-2.ensures.right known blob enough.root)
     (second_wide g (goal.at.returns-in-Err-attempt-clause-available g c).After-attempt-2 surely blob) c.in-Err-attempt.is
 
@@ -89,15 +91,25 @@ returns-in-Err-attempt-clause-too_large g c = λ slices surely is.
     absurd {A = AreTooLong (IsFromFile c.args.wanted.now.form.now c.args.wanted.now.how.capacity (g.D.Disk.at c.args.disk.now) c.args.files.now) (fixed_as c.args.wanted.now.root.now c.args.wanted.now.mode.now c.args.wanted.now.how.capacity) c.args.wanted.now.how.capacity} (not_too_large c.in-Err-attempt.fault c.in-Err-attempt.ensures.closed large)
 
 pub returns-clause-available : goal.returns-clause-available
-returns-clause-available g c = λ surely known blob text i file enough there named stored.
+returns-clause-available g c = λ surely known blob enough.
     let left : c.attempt.result ≡ Ok None = same_ok c.attempt.result c.in-Ok-None.field-0 None c.in-Ok-None.is c.in-Ok-None.field-0-is in
     let left_again : c.attempt-2.result ≡ Ok None = same_ok c.attempt-2.result c.in-Ok-None-attempt.field-0 None c.in-Ok-None-attempt.is c.in-Ok-None-attempt.field-0-is in
-    excused_end (c.take_files.new.taken.starved ≡ true) (c.take_files-2.new.taken.starved ≡ true) (HasSound (watched_contents {P = g.row.P.Denot} (given_contents g.D.Input.Source.contents)) (watched_faultless {P = g.row.P.Denot} (is_given_faultless g.D.Input.Source.faultless)) c.take_files.new.taken.givens.items text)
-    (HasSound (watched_contents {P = g.row.P.Denot} (given_contents g.D.Input.Source.contents)) (watched_faultless {P = g.row.P.Denot} (is_given_faultless g.D.Input.Source.faultless)) c.take_files-2.new.taken.givens.items text) (c.attempt.new.tried.met ≡ Some Starved) (c.attempt-2.new.tried.met ≡ Some Starved) (IsExcusedGathering c.cause_of.result) (HasCollision (IsFromFile c.args.wanted.now.form.now c.args.wanted.now.how.capacity (g.D.Disk.at c.args.disk.now) c.args.files.now) (fixed_as c.args.wanted.now.root.now c.args.wanted.now.mode.now c.args.wanted.now.how.capacity) blob)
-    (c.take_files.ensures.there refl surely i file text there named stored)
-    (λ has. met_or_pair (c.attempt.new.tried.met ≡ Some Starved) (HasCollision (IsFromFile c.args.wanted.now.form.now c.args.wanted.now.how.capacity (g.D.Disk.at c.args.disk.now) c.args.files.now) (fixed_as c.args.wanted.now.root.now c.args.wanted.now.mode.now c.args.wanted.now.how.capacity) blob) (HasCollision (IsFromSource c.args.wanted.now.form.now (watched_contents {P = g.row.P.Denot} (given_contents g.D.Input.Source.contents)) (watched_faultless {P = g.row.P.Denot} (is_given_faultless g.D.Input.Source.faultless)) c.take_files.new.taken.givens.items) (fixed_as c.args.wanted.now.root.now c.args.wanted.now.mode.now c.args.wanted.now.how.capacity) blob) (c.attempt.ensures.left left known blob text enough has (inl refl)) (first_wide g (goal.at.returns-clause-available g c).After-attempt surely blob)) c.take_files-2.ensures.starved
-    (c.take_files-2.ensures.kept text)
-    (λ has met. met_or_pair (c.attempt-2.new.tried.met ≡ Some Starved) (HasCollision (IsFromFile c.args.wanted.now.form.now c.args.wanted.now.how.capacity (g.D.Disk.at c.args.disk.now) c.args.files.now) (fixed_as c.args.wanted.now.root.now c.args.wanted.now.mode.now c.args.wanted.now.how.capacity) blob) (HasCollision (IsFromSource c.args.wanted.now.form.now (watched_contents {P = g.row.P.Denot} (given_contents g.D.Input.Source.contents)) (watched_faultless {P = g.row.P.Denot} (is_given_faultless g.D.Input.Source.faultless)) c.take_files-2.new.taken.givens.items) (fixed_as c.args.wanted.now.root.now c.args.wanted.now.mode.now c.args.wanted.now.how.capacity) blob) (c.attempt-2.ensures.left left_again known blob text enough has (inr met)) (second_wide g (goal.at.returns-clause-available g c).After-attempt-2 surely blob)) c.cause_of.ensures.excused
+    let form = c.args.wanted.now.form.now in
+    let how = c.args.wanted.now.how in
+    let fixed : Fixed = fixed_as c.args.wanted.now.root.now c.args.wanted.now.mode.now how.capacity in
+    let In : List ℕ → Type 0 = IsInFile (g.D.Disk.at c.args.disk.now) c.args.files.now in
+    let First : List ℕ → Type 0 = HasSound (watched_contents {P = g.row.P.Denot} (given_contents g.D.Input.Source.contents)) (watched_faultless {P = g.row.P.Denot} (is_given_faultless g.D.Input.Source.faultless)) c.take_files.new.taken.givens.items in
+    let Second : List ℕ → Type 0 = HasSound (watched_contents {P = g.row.P.Denot} (given_contents g.D.Input.Source.contents)) (watched_faultless {P = g.row.P.Denot} (is_given_faultless g.D.Input.Source.faultless)) c.take_files-2.new.taken.givens.items in
+    let P : Type 0 = HasCollision (IsFromFile form how.capacity (g.D.Disk.at c.args.disk.now) c.args.files.now) fixed blob in
+    let all : (c.take_files.new.taken.starved ≡ true) ⊎ ((text : List ℕ) → In text → First text) =
+    all_taken c.take_files.new.taken.starved In First (λ text is. c.take_files.ensures.there refl surely is.0 is.1 text is.2 is.3 is.4) in
+    let taken : (c.take_files.new.taken.starved ≡ true) ⊎ AreEnough form fixed how blob First =
+    elim all [ inl starved ↦ inl starved | inr wider ↦ inr (enough_wider In First wider form fixed how blob enough) ] in
+    excused_end (c.take_files.new.taken.starved ≡ true) (c.take_files-2.new.taken.starved ≡ true) (AreEnough form fixed how blob First) (AreEnough form fixed how blob Second)
+    (c.attempt.new.tried.met ≡ Some Starved) (c.attempt-2.new.tried.met ≡ Some Starved) (IsExcusedGathering c.cause_of.result) P taken
+    (λ has. met_or_pair (c.attempt.new.tried.met ≡ Some Starved) P (HasCollision (IsFromSource form (watched_contents {P = g.row.P.Denot} (given_contents g.D.Input.Source.contents)) (watched_faultless {P = g.row.P.Denot} (is_given_faultless g.D.Input.Source.faultless)) c.take_files.new.taken.givens.items) fixed blob) (c.attempt.ensures.left left known blob has (inl refl)) (first_wide g (goal.at.returns-clause-available g c).After-attempt surely blob)) c.take_files-2.ensures.starved
+    (λ has. enough_wider First Second c.take_files-2.ensures.kept form fixed how blob has)
+    (λ has met. met_or_pair (c.attempt-2.new.tried.met ≡ Some Starved) P (HasCollision (IsFromSource form (watched_contents {P = g.row.P.Denot} (given_contents g.D.Input.Source.contents)) (watched_faultless {P = g.row.P.Denot} (is_given_faultless g.D.Input.Source.faultless)) c.take_files-2.new.taken.givens.items) fixed blob) (c.attempt-2.ensures.left left_again known blob has (inr met)) (second_wide g (goal.at.returns-clause-available g c).After-attempt-2 surely blob)) c.cause_of.ensures.excused
 
 pub returns-clause-right : goal.returns-clause-right
 returns-clause-right g c = λ surely known blob is. inl (not_other_root c.cause_of.result c.attempt-2.new.tried.met c.cause_of.ensures.cause (c.attempt-2.ensures.met (c.attempt.ensures.met tt)))

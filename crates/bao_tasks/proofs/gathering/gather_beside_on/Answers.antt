@@ -34,7 +34,7 @@ returns-clause-outline g c =
     (outline_in state c.args.mode.now c.args.root.now.0 text read (c.in-Ok.ensures.accepted.0 refl))
 
 pub returns-in-Err-clause-available : goal.returns-in-Err-clause-available
-returns-in-Err-clause-available g c = λ surely known blob i file is room some few own there named stored.
+returns-in-Err-clause-available g c = λ surely known blob is room some few own copies.
     let state : FileState = g.D.Disk.at c.args.disk.now c.args.outboard.now in
     let text : List ℕ = c.as_slice.result.now in
     let read : IsEnoughOf c.args.mode.now c.args.root.now.0 state text =
@@ -45,7 +45,7 @@ returns-in-Err-clause-available g c = λ surely known blob i file is room some f
     (own_faultless c.args.root.now c.args.mode.now c.args.how.capacity blob text state c.is_keyed.ensures is few read own c.in-Err.fault c.in-Err.ensures.fault))
 
 pub returns-clause-available : goal.returns-clause-available
-returns-clause-available g c = λ surely known blob i file is room some few own there named stored.
+returns-clause-available g c = λ surely known blob is room some few own copies.
     let state : FileState = g.D.Disk.at c.args.disk.now c.args.outboard.now in
     let text : List ℕ = c.as_slice.result.now in
     let read : IsEnoughOf c.args.mode.now c.args.root.now.0 state text =
@@ -54,7 +54,13 @@ returns-clause-available g c = λ surely known blob i file is room some few own 
     (c.in-Ok.ensures.accepted.0 refl) some in
     beside_of (IsPutAt (g.D.Disk.at c.args.disk.now) (g.D.Disk.at c.gather_on.new.disk) c.args.path.now c.args.how c.args.mode.now blob c.gather_on.result)
     (Bare (record { ref_ptr = (0, 0); now = c.in-Ok.outline })) (fixed_as c.args.root.now c.args.mode.now c.args.how.capacity) c.args.how.capacity (g.D.Disk.at c.args.disk.now) c.args.files.now blob
-    outline (c.gather_on.ensures.available surely known blob blob i file (record { root = is; room = room; text_is = (outline, refl); few = few }) there named stored)
+    outline
+    (c.gather_on.ensures.available surely known blob
+    (record {
+      root = is;
+      room = room;
+      some = elim copies [ inl has ↦ inl (record { text = blob; has = has; text_is = (outline, refl); few = few }) | inr parts ↦ inr (outline, parts) ];
+    }))
 
 pub returns-clause-right : goal.returns-clause-right
 returns-clause-right g c = λ surely known blob is.

@@ -5,8 +5,8 @@ use Rattle.bao_tasks.proofs.FromFiles.{put_failed}
 use Rattle.bao_tasks.proofs.gathering.gather_on.Goals as goal
 
 pub returns-clause-available : goal.returns-clause-available
-returns-clause-available g c = λ surely known blob text i file enough there named stored.
-    elim (c.in_ok-count.ensures.available surely known blob text i file enough there named stored) [
+returns-clause-available g c = λ surely known blob enough.
+    elim (c.in_ok-count.ensures.available surely known blob enough) [
       | inl done ↦
           inl
           (done.0, subst (λ (t : Option (List ℕ)). Puts (g.D.Disk.at c.args.disk.now) (g.D.Disk.at c.finish.new.self) c.args.path.now t) done.1 c.in_ok-finish.ensures.put)
@@ -23,7 +23,7 @@ returns-clause-right g c = λ surely known blob is.
     ]
 
 pub returns-in_err-finish-clause-available : goal.returns-in_err-finish-clause-available
-returns-in_err-finish-clause-available g c = λ surely known blob text i file enough there named stored.
+returns-in_err-finish-clause-available g c = λ surely known blob enough.
     let exit = err_from_is_err_and c.from_residual-in_err-finish.result c.from_residual-in_err-finish.ensures.1 in
     inl
     (put_failed (g.D.Disk.at c.args.disk.now) (g.D.Disk.at c.finish.new.self) c.args.path.now c.args.how c.args.mode.now blob c.args.path c.from_residual-in_err-finish.result exit.0

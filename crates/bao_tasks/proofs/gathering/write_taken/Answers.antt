@@ -12,6 +12,7 @@ returns-then-is_stored-clause-available g c =
     enough_stored (watched_contents g.S.Source.contents) (watched_faultless g.S.Source.faultless) c.as_slice-givens.result.now c.args.taken.now.givens.items c.args.wanted.now.form.now c.args.wanted.now.root.now
     c.args.wanted.now.mode.now c.args.wanted.now.how (g.W.Write.contents c.args.out.now) (g.W.Write.contents c.write_gathered.new.out) c.write_gathered.result c.as_slice-givens.ensures.value
     (c.is_stored.ensures.stored c.if-is_stored.true) c.write_gathered.ensures.available c.write_gathered.ensures.copied
+    c.write_gathered.ensures.covered c.write_gathered.ensures.beside
 
 pub returns-in-Ok-clause-right : goal.returns-in-Ok-clause-right
 returns-in-Ok-clause-right g c =
@@ -25,7 +26,8 @@ returns-in-Ok-clause-available g c =
     enough_windows (watched_contents g.S.Source.contents) (watched_faultless g.S.Source.faultless) c.as_slice-givens.result.now c.args.taken.now.givens.items c.windows-windows.result
     (record { root = c.args.wanted.now.root.now; mode = c.args.wanted.now.mode.now; form = c.args.wanted.now.form.now; grain = c.args.wanted.now.how.grain }) c.args.wanted.now.how c.args.path
     c.most_chunks.result (g.W.Write.contents c.args.out.now) (g.W.Write.contents c.write_windows.new.out) c.write_windows.result (Ok c.in-Ok.count) c.as_slice-givens.ensures.value c.windows-windows.ensures.all
-    c.in-Ok.is (c.is_stored.ensures.windows c.if-is_stored.false) c.most_chunks.ensures.room c.write_windows.ensures.available c.write_windows.ensures.copied
+    c.in-Ok.is (c.is_stored.ensures.windows c.if-is_stored.false) c.most_chunks.ensures.room refl c.write_windows.ensures.available c.write_windows.ensures.copied
+    c.write_windows.ensures.covered c.write_windows.ensures.beside
 
 pub returns-in-Err-Gather-clause-right : goal.returns-in-Err-Gather-clause-right
 returns-in-Err-Gather-clause-right g c =
@@ -39,7 +41,8 @@ returns-in-Err-Gather-clause-available g c =
     enough_windows (watched_contents g.S.Source.contents) (watched_faultless g.S.Source.faultless) c.as_slice-givens.result.now c.args.taken.now.givens.items c.windows-windows.result
     (record { root = c.args.wanted.now.root.now; mode = c.args.wanted.now.mode.now; form = c.args.wanted.now.form.now; grain = c.args.wanted.now.how.grain }) c.args.wanted.now.how c.args.path
     c.most_chunks.result (g.W.Write.contents c.args.out.now) (g.W.Write.contents c.write_windows.new.out) c.write_windows.result (Err (windows.Gather c.in-Err-Gather.fault)) c.as_slice-givens.ensures.value c.windows-windows.ensures.all
-    (same_err c.write_windows.result c.in-Err-Gather.field-0 (windows.Gather c.in-Err-Gather.fault) c.in-Err-Gather.is c.in-Err-Gather.field-0-is) (c.is_stored.ensures.windows c.if-is_stored.false) c.most_chunks.ensures.room c.write_windows.ensures.available c.write_windows.ensures.copied
+    (same_err c.write_windows.result c.in-Err-Gather.field-0 (windows.Gather c.in-Err-Gather.fault) c.in-Err-Gather.is c.in-Err-Gather.field-0-is) (c.is_stored.ensures.windows c.if-is_stored.false) c.most_chunks.ensures.room refl c.write_windows.ensures.available c.write_windows.ensures.copied
+    c.write_windows.ensures.covered c.write_windows.ensures.beside
 
 pub returns-in-Err-Gather-clause-too_large : goal.returns-in-Err-Gather-clause-too_large
 returns-in-Err-Gather-clause-too_large g c = λ slices is.

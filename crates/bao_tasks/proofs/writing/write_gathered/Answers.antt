@@ -1,6 +1,6 @@
 use Rattle.std.proofs.Common.{◌≡◌, ◌⊎◌, ◌≤◌, ℕ, List, Err, IfOk, Result, subst, sym, length, inl, inr}
 use Rattle.bao_text.specs.Choice.{chunk_count}
-use Rattle.bao_tasks.proofs.FromFiles.{blob_as, found_as, long_as, out_as, own_as, own_length, pair_as, same_err}
+use Rattle.bao_tasks.proofs.FromFiles.{bare_as, bare_length, blob_as, found_as, long_as, out_as, own_as, own_length, pair_as, same_err}
 use Rattle.bao_tasks.proofs.Parts.{not_gathered, written_out}
 use Rattle.bao_tasks.proofs.Windowed.{not_large, right_out}
 use Rattle.bao_tasks.proofs.writing.write_gathered.Goals as goal
@@ -102,6 +102,35 @@ returns-in-Err-clause-copied g c = λ blob i source is fits own there known soun
     c.gather.ensures.copied blob i source (blob_as root mode c.args.how.capacity room blob is)
     (c.capacity_for-capacity.ensures.bare (length blob) (own_length c.args.form.now root mode c.args.how.capacity blob own) fits)
     (own_as c.args.form.now root mode c.args.how.capacity room blob own) there known sound in
+    not_gathered handed (fixed_as root mode c.args.how.capacity) c.args.how blob (g.W.Write.contents c.args.out.now) (g.W.Write.contents c.args.out.now) c.in-Err.fault
+    (out_as handed root mode room c.args.how.capacity blob (Err c.in-Err.fault)
+    (subst (λ (r : Result (List ℕ) GatherFault). IsHandedOut own_bytes handed (fixed_as root mode room) blob r) c.in-Err.is out))
+
+pub returns-in-Ok-clause-beside : goal.returns-in-Ok-clause-beside
+returns-in-Ok-clause-beside g c = λ blob is fits bare have.
+    let handed = IsFromSource c.args.form.now g.S.Source.contents g.S.Source.faultless c.args.sources.now in
+    let root = c.args.root.now in
+    let mode = c.args.mode.now in
+    let room : ℕ = c.capacity_for-capacity.result in
+    let out : IsHandedOut own_bytes handed (fixed_as root mode room) blob c.gather.result =
+    c.gather.ensures.beside blob (blob_as root mode c.args.how.capacity room blob is)
+    (c.capacity_for-capacity.ensures.bare (length blob) (bare_length c.args.form.now root mode c.args.how.capacity blob bare) fits)
+    (bare_as c.args.form.now root mode c.args.how.capacity room blob bare) have in
+    let found : (c.in-Ok.blob ≡ blob) ⊎ HasCollision handed (fixed_as root mode c.args.how.capacity) blob =
+    found_as handed root mode room c.args.how.capacity blob c.in-Ok.blob (subst (λ (r : Result (List ℕ) GatherFault). IsHandedOut own_bytes handed (fixed_as root mode room) blob r) c.in-Ok.is out) in
+    written_out handed (fixed_as root mode c.args.how.capacity) c.args.how c.args.path blob c.in-Ok.blob _ _ c.write_found.result found c.write_found.ensures.count c.write_found.ensures.text
+    c.write_found.ensures.fault
+
+pub returns-in-Err-clause-beside : goal.returns-in-Err-clause-beside
+returns-in-Err-clause-beside g c = λ blob is fits bare have.
+    let handed = IsFromSource c.args.form.now g.S.Source.contents g.S.Source.faultless c.args.sources.now in
+    let root = c.args.root.now in
+    let mode = c.args.mode.now in
+    let room : ℕ = c.capacity_for-capacity.result in
+    let out : IsHandedOut own_bytes handed (fixed_as root mode room) blob c.gather.result =
+    c.gather.ensures.beside blob (blob_as root mode c.args.how.capacity room blob is)
+    (c.capacity_for-capacity.ensures.bare (length blob) (bare_length c.args.form.now root mode c.args.how.capacity blob bare) fits)
+    (bare_as c.args.form.now root mode c.args.how.capacity room blob bare) have in
     not_gathered handed (fixed_as root mode c.args.how.capacity) c.args.how blob (g.W.Write.contents c.args.out.now) (g.W.Write.contents c.args.out.now) c.in-Err.fault
     (out_as handed root mode room c.args.how.capacity blob (Err c.in-Err.fault)
     (subst (λ (r : Result (List ℕ) GatherFault). IsHandedOut own_bytes handed (fixed_as root mode room) blob r) c.in-Err.is out))

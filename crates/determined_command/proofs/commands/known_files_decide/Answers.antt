@@ -1,11 +1,12 @@
-use Rattle.std.proofs.Common.{ℕ, List, Option, map, string_bytes, subst, sym}
+use Rattle.std.proofs.Common.{ℕ, List, map, string_bytes, subst, sym}
 use Rattle.bao_files.specs.Disks.{FileState}
-use Rattle.bao_command.specs.Outcome.{Done}
+use Rattle.bao_command.specs.Outcome.{Done, IsRefusable}
+use Rattle.determined_command.proofs.Judged.{done_unrefused}
 use Rattle.determined_command.proofs.Known.{done_same}
 use Rattle.determined_command.proofs.commands.known_files_decide.Goals as goal
 
-pub returns : goal.returns
-returns g c = λ first second.
+pub returns-clause-done : goal.returns-clause-done
+returns-clause-done g c = λ first second.
     let words = map string_bytes c.args.words.now in
     let at = g.D.Disk.at c.args.our_disk.now in
     let a = g.D.Disk.at c.command.new.disk in
@@ -16,3 +17,22 @@ returns g c = λ first second.
     let theirs : Done words at b old other =
     subst (λ (T : Type 0). T) (λ i. Done words (sym c.requires.files i) b (sym c.requires.streams i) other) (c.command-2.ensures.done second) in
     done_same words at a b old one other c.requires.known c.requires.work (c.command.ensures.done first) theirs
+
+pub returns-clause-status : goal.returns-clause-status
+returns-clause-status g c = λ judge.
+    let words = map string_bytes c.args.words.now in
+    let at = g.D.Disk.at c.args.our_disk.now in
+    let a = g.D.Disk.at c.command.new.disk in
+    let b = g.D.Disk.at c.command-2.new.disk in
+    let old = g.O.Write.contents c.args.ours.now in
+    let one = g.O.Write.contents c.command.new.out in
+    let other = g.O.Write.contents c.command-2.new.out in
+    let sure : Type 0 = g.D.Disk.faultless c.args.our_disk.now in
+    let also_sure : Type 0 = g.D.Disk.faultless c.args.their_disk.now in (
+      λ first second.
+          done_unrefused words at a old one also_sure c.requires.known judge c.requires.work (c.command.ensures.done first)
+          (subst (λ (before : List ℕ → FileState). IsRefusable words also_sure before) (sym c.requires.files) (c.command-2.ensures.refusal second)),
+      λ first second.
+          done_unrefused words at b old other sure c.requires.known judge c.requires.work
+          (subst (λ (T : Type 0). T) (λ i. Done words (sym c.requires.files i) b (sym c.requires.streams i) other) (c.command-2.ensures.done second)) (c.command.ensures.refusal first),
+    )

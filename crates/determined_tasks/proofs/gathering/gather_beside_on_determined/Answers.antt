@@ -4,7 +4,7 @@ use Rattle.b3tree.specs.declared.values.Hash.{Hash}
 use Rattle.bao_files.specs.Disks.{FileState, IsKnown, KeepsFiles}
 use Rattle.gather.specs.Large.{fixed_as}
 use Rattle.store_core.specs.Laws.{IsBlob}
-use Rattle.bao_tasks.specs.FromFiles.{CollidesBeside, CollidesBesideOutline, IsPutAt, IsRightAt}
+use Rattle.bao_tasks.specs.FromFiles.{CollidesBeside, CollidesBesideOutline, HaveBytes, IsInFile, IsPutAt, IsRightAt}
 use Rattle.bao_tasks.specs.Gathered.{HasOutlineIn, IsFaultOfOutline}
 use Rattle.determined_tasks.proofs.PutBlobs.{HasPut, enough_agree, outboards_agree, puts_agree, rights_agree, room_as}
 use Rattle.determined_tasks.proofs.gathering.gather_beside_on_determined.Goals as goal
@@ -61,7 +61,7 @@ returns-clause-right g c = λ surely also_surely known blob is.
     ⊎ CollidesBesideOutline (fixed_as root mode (sym c.requires.capacity i)) (sym c.requires.capacity i) (sym same i) c.args.outboard.now c.args.files.now blob) theirs_right)
 
 pub returns-clause-enough : goal.returns-clause-enough
-returns-clause-enough g c = λ surely also_surely known blob k file is room some few own there named stored.
+returns-clause-enough g c = λ surely also_surely known blob is room some few own copies also_copies.
     let mode : Mode = c.args.mode.now in
     let root : Hash = c.args.root.now in
     let ours : List ℕ → FileState = g.D.Disk.at c.args.ours.now in
@@ -73,12 +73,12 @@ returns-clause-enough g c = λ surely also_surely known blob k file is room some
     let how = c.args.how in
     let also = c.args.other_how in
     let s = c.gather_beside_on-2.result in
-    let theirs_put = c.gather_beside_on-2.ensures.available also_surely (subst IsKnown (c.requires.same path) known) blob k file
+    let theirs_put = c.gather_beside_on-2.ensures.available also_surely (subst IsKnown (c.requires.same path) known) blob
     (subst (λ (k : ℕ). IsBlob (fixed_as root mode k) blob) c.requires.capacity is)
-    (room_as how also (length blob) c.requires.encode c.requires.long c.requires.capacity room) some few (sym (c.requires.same c.args.outboard.now) ∙ own) there named
-    (sym (c.requires.same file.now) ∙ stored) in
+    (room_as how also (length blob) c.requires.encode c.requires.long c.requires.capacity room) some few (sym (c.requires.same c.args.outboard.now) ∙ own)
+    (subst (λ (at : List ℕ → FileState). IsInFile at c.args.files.now blob ⊎ HaveBytes (IsInFile at c.args.files.now) also.grain blob) same also_copies) in
     enough_agree mode root.0 ours one other path how also blob (CollidesBeside (fixed_as root mode how.capacity) how.capacity ours c.args.files.now blob)
-    c.gather_beside_on.result s c.requires.encode (c.gather_beside_on.ensures.available surely known blob k file is room some few own there named stored)
+    c.gather_beside_on.result s c.requires.encode (c.gather_beside_on.ensures.available surely known blob is room some few own copies)
     (subst (λ (T : Type 0). T)
     (λ i. IsPutAt (sym same i) other path also mode blob s
     ⊎ CollidesBeside (fixed_as root mode (sym c.requires.capacity i)) (sym c.requires.capacity i) (sym same i) c.args.files.now blob) theirs_put)

@@ -1,11 +1,11 @@
-use Rattle.std.proofs.Common.{◌≡◌, ◌⊎◌, ℕ, List, IfOk, OnErr, subst, sym, ◌∙◌}
+use Rattle.std.proofs.Common.{◌≡◌, ◌⊎◌, ℕ, List, IfOk, OnErr, subst, sym}
 use Rattle.b3tree.specs.declared.mode.Mode.{Mode}
 use Rattle.b3tree.specs.declared.values.Hash.{Hash}
 use Rattle.bao_files.specs.Disks.{FileState, IsKnown, KeepsFiles}
 use Rattle.gather.specs.Large.{HasCollision, fixed_as}
 use Rattle.store_core.specs.Laws.{IsBlob}
-use Rattle.bao_tasks.specs.FromFiles.{IsFromFile, IsPutAt, IsRightAt}
-use Rattle.determined_tasks.proofs.PutBlobs.{HasPut, enough_agree, enough_as, puts_agree, rights_agree}
+use Rattle.bao_tasks.specs.FromFiles.{AreEnough, IsFromFile, IsInFile, IsPutAt, IsRightAt}
+use Rattle.determined_tasks.proofs.PutBlobs.{HasPut, enough_agree, puts_agree, rights_agree}
 use Rattle.determined_tasks.proofs.gathering.gather_on_determined.Goals as goal
 
 pub returns-clause-put : goal.returns-clause-put
@@ -44,7 +44,7 @@ returns-clause-right g c = λ surely also_surely known blob is.
     ⊎ HasCollision (IsFromFile c.args.form.now (sym c.requires.capacity i) (sym same i) c.args.files.now) (fixed_as root mode (sym c.requires.capacity i)) blob) theirs_right)
 
 pub returns-clause-enough : goal.returns-clause-enough
-returns-clause-enough g c = λ surely also_surely known blob text k file is there named stored.
+returns-clause-enough g c = λ surely also_surely known blob is also_is.
     let mode : Mode = c.args.mode.now in
     let root : Hash = c.args.root.now in
     let ours : List ℕ → FileState = g.D.Disk.at c.args.ours.now in
@@ -56,10 +56,10 @@ returns-clause-enough g c = λ surely also_surely known blob text k file is ther
     let how = c.args.how in
     let also = c.args.other_how in
     let s = c.gather_on-2.result in
-    let theirs_put = c.gather_on-2.ensures.available also_surely (subst IsKnown (c.requires.same path) known) blob text k file
-    (enough_as c.args.form.now root mode how also blob text c.requires.encode c.requires.long c.requires.capacity is) there named (sym (c.requires.same file.now) ∙ stored) in
+    let theirs_put = c.gather_on-2.ensures.available also_surely (subst IsKnown (c.requires.same path) known) blob
+    (subst (λ (T : Type 0). T) (λ i. AreEnough c.args.form.now (fixed_as root mode (c.requires.capacity i)) also blob (IsInFile (same i) c.args.files.now)) also_is) in
     enough_agree mode root.0 ours one other path how also blob (HasCollision (IsFromFile c.args.form.now how.capacity ours c.args.files.now) (fixed_as root mode how.capacity) blob)
-    c.gather_on.result s c.requires.encode (c.gather_on.ensures.available surely known blob text k file is there named stored)
+    c.gather_on.result s c.requires.encode (c.gather_on.ensures.available surely known blob is)
     (subst (λ (T : Type 0). T)
     (λ i. IsPutAt (sym same i) other path also mode blob s
     ⊎ HasCollision (IsFromFile c.args.form.now (sym c.requires.capacity i) (sym same i) c.args.files.now) (fixed_as root mode (sym c.requires.capacity i)) blob) theirs_put)
