@@ -201,6 +201,8 @@ void fetch_settle(fetch *f, uint64_t total, const uint8_t *text, const uint8_t *
         return;
     }
     f->settled = true;
+    /* A mirror that certified no length may have other parts of the blob truly: it begins anew. */
+    for (unsigned i = 0; i < f->mirror_count; i++) f->mirrors[i].in_row = 0;
     if (!keep_last_chunk(f, text, chunk, chunk_len)) fetch_fail(f, 3);
     for (unsigned i = 0; i < f->conn_count; i++) {
         conn *c = &f->conns[i];
