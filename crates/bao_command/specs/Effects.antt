@@ -1,5 +1,5 @@
 -- what a task does to the files
-use Rattle.std.specs.Prelude.{◌≡◌, ◌⊎◌, ℕ, List, [], Option, None, Some}
+use Rattle.std.specs.Prelude.{◌⊎◌, ℕ, List, [], Option, None, Some}
 use Rattle.std.specs.Borrow.{Bor}
 use Rattle.b3tree.specs.declared.mode.Mode.{Mode}
 use Rattle.bao_files.specs.Disks.{FileState, KeepsFiles, Puts}

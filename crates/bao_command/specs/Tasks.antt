@@ -5,6 +5,7 @@ use Rattle.std.specs.Io.KnownBytes.{Appends, Keeps}
 use Rattle.b3tree.specs.declared.mode.Mode.{Mode}
 use Rattle.b3tree.specs.declared.values.Hash.{Hash as Root32}
 use Rattle.b3tree.specs.Hashing.{hash, stream}
+use Rattle.b3tree.specs.Valid.{AreBytes}
 use Rattle.bao_command.specs.declared.fault.Fault.{Fault}
 use Rattle.bao_command.specs.declared.fault.Fault.TheVariants.{Word, Root, Key, KeyAndContext, KeyFile, KeyFileAndOthers, OutputRange, TooManyFiles, OutIsOutput, OutLeadsToOutput, LongAndOthers, ListIsOut, ListIsRead, ListLeadsToOther, File, Decode as Undecoded, Gather as Ungathered, Replay as Unreplayed}
 use Rattle.bao_files.specs.declared.fault.FileFault.{FileFault}
@@ -15,7 +16,7 @@ use Rattle.bao_files.specs.Printed.{AppendsBeginning, IsDigits, digits_line, ok_
 use Rattle.bao_files.specs.Disks.{AreOf, FileState, KeepsFiles}
 use Rattle.bao_decode.specs.Copies.{IsCopyBeside}
 use Rattle.bao_decode.specs.Cutting.{IsCutOf}
-use Rattle.bao_decode.specs.Ranges.{IsPartText, written_count}
+use Rattle.bao_decode.specs.Ranges.{IsVerifiedText, written_count}
 use Rattle.bao_decode.specs.Weaving.{IsCutBeside}
 use Rattle.bao_tasks.specs.Gathered.{Fits, HasOutlineIn}
 use Rattle.bao_tasks.specs.Replayed.{IsRun, OfFiles}
@@ -276,18 +277,18 @@ IsDue reasons (Undecoded fault) = reasons.decodes
 IsDue reasons (Ungathered fault) = reasons.gathers
 IsDue reasons (Unreplayed fault) = reasons.replays
 
--- the text of a part of the blob with this root, in hexadecimal digits, is accepted
+-- the text, made of bytes, is accepted as that of a part of the blob with this root, in hexadecimal digits
 abbrev pub IsRightPart : Mode → List ℕ → Part → List ℕ → Type 0
-IsRightPart mode root part bytes = (key : List ℕ) × ((decode_of root ≡ Ok key) × IsPartText mode key part bytes)
+IsRightPart mode root part bytes = (key : List ℕ) × ((decode_of root ≡ Ok key) × IsVerifiedText mode key part bytes)
 
 -- the text is that of a run of the script in the one file over pieces of the others, under this root, in hexadecimal digits
 abbrev pub IsReplay : (List ℕ → FileState) → Mode → List ℕ → ℕ → List ℕ → List (Bor (List ℕ)) → List ℕ → Type 0
 IsReplay at mode digits capacity script files text =
     (root : Root32) × ((decode_of digits ≡ Ok root.0) × OfFiles at script files (λ lines pieces. IsRun mode root capacity lines pieces text))
 
--- these bytes have this root, in hexadecimal digits
+-- these are bytes, numbers below 256, and have this root, in hexadecimal digits
 abbrev pub HasHash : Mode → List ℕ → List ℕ → Type 0
-HasHash mode root bytes = (key : List ℕ) × ((decode_of root ≡ Ok key) × (hash mode bytes ≡ key))
+HasHash mode root bytes = (key : List ℕ) × ((decode_of root ≡ Ok key) × (hash mode bytes ≡ key) × AreBytes bytes)
 
 -- they are the copy in the one file, beside the outboard encoding in the other, which is accepted under it
 abbrev pub IsRightCopy : (List ℕ → FileState) → Mode → List ℕ → List ℕ → List ℕ → List ℕ → Type 0

@@ -11,7 +11,7 @@ ghost use Rattle.bao_files.specs.Encoded.{encoding_text};
 ghost use Rattle.bao_files.specs.Printed.{IsDigits, digits_line, ok_line};
 ghost use Rattle.bao_files.specs.declared.fault.FileFault.{FileFault};
 ghost use Rattle.bao_text.specs.declared.kinds.Part.TheVariants as Part;
-ghost use Rattle.bao_decode.specs.Ranges.{IsPartText, part_bytes, written_count};
+ghost use Rattle.bao_decode.specs.Ranges.{IsVerifiedText, part_bytes, written_count};
 ghost use Rattle.bao_decode.specs.declared.decode_fault.DecodeFault.{DecodeFault};
 ghost use Rattle.bao_command.specs.Effects.{Writes, list_of};
 ghost use Rattle.bao_command.specs.Works.{CopiesRight, CutsRight, DecodesRight, EncodesRight, Leaves};
@@ -47,26 +47,30 @@ use std::thread::Threads;
 // The capacity of a blob that is gathered, in chunks, where none is given.
 const MOST_CHUNKS: u32 = 65_536;
 
-/// Runs the program on `words`, its name first, over the files on `disk`, with `out` and `err` as its standard output and error,
-/// and answers the exit status: 0 done, 1 a text or a blob that is refused, 2 wrong arguments, 3 a file fault, 4 out of
-/// memory. How far a file that is said to have at least 4 MiB has been read is told to `progress`, which is told that the work is over
-/// before anything is printed.
+/// Runs the program on `words`, its name first, over the files on `disk`, with `out` and `err` as its standard output and
+/// error, and answers the exit status: 0 done, 1 a text or a blob that is refused, 2 wrong arguments, 3 a file fault, 4 out of
+/// memory. How far a file that is said to have at least 4 MiB has been read is told to `progress`, which is told that the work
+/// is over before anything is printed.
 ///
-/// At status 0 `out` has the line of the request that the arguments make, on the bytes of its files as far as these are known, or on the gathered
-/// blob; and OUT has what is written of them, and nothing else has changed but LIST, which is empty then. Or `out` has,
-/// where they ask for it, help or the version, or a beginning of that where its reader closed the pipe. At 3 it has a
-/// beginning at most, and after other faults nothing. After each status but 0 all files are as they were, but LIST; or at 3 and 4 OUT is as at 0, where
-/// what came after it failed: LIST, or printing the line.
+/// At status 0 `out` has the line of the request that the arguments make. It is of the bytes of its files, or of the gathered
+/// blob: of those that a file is known to have, and else of some bytes, each below 256. OUT has what is written of them, and
+/// nothing else has changed but LIST, which is empty then. Or `out` has, where they ask for it, help or the version, or a
+/// beginning of that where its reader closed the pipe.
 ///
-/// On a disk without faults, where it is known what is at OUT, a gathering has put there at status 0 each blob with ROOT, or its encoding; or two
-/// different inputs with one chaining value are exhibited, one of the blob's and one that is made of a FILE.
+/// At 3 `out` has a beginning at most, and after other faults nothing. After each status but 0 all files are as they were, but
+/// LIST; or at 3 and 4 OUT is as at 0, where what came after it failed: LIST, or printing the line.
 ///
-/// Arguments that `clap` refuses give 2, or 4 out of memory. 2 comes only where there is a reason
-/// to refuse the arguments, and 1 only of a task that may refuse a text or a blob: `hash` and the encoders don't. Where the files are known,
-/// 1 comes of decoding, of cutting a slice out, and of a schedule only where there is such a fault of these very bytes, and of none of them where the file, or
-/// the outboard encoding, isn't there. On a disk without faults it comes of
-/// gathering only where no file is true and no several of them have the blob together, each group, or with `--salvage` each chunk, right in one; or two
-/// different inputs with one chaining value are exhibited.
+/// On a disk without faults, where it is known what is at OUT, a gathering has put there at status 0 each blob with ROOT, or
+/// its encoding; or two different inputs with one chaining value are exhibited, one of the blob's and one that is made of a
+/// FILE.
+///
+/// Arguments that `clap` refuses give 2, or 4 out of memory. 2 comes only where there is a reason to refuse the arguments, and
+/// 1 only of a task that may refuse a text or a blob: `hash` and the encoders don't.
+///
+/// Where the files are known, 1 comes of decoding, of cutting a slice out, and of a schedule only where there is such a fault
+/// of these very bytes. It comes of none of them where the file, or the outboard encoding, isn't there. On a disk without
+/// faults it comes of gathering only where no file is true and no several of them have the blob together, each group, or with
+/// `--salvage` each chunk, right in one; or two different inputs with one chaining value are exhibited.
 pub fn command<R: AllocGlobal + Threads + Sync, D: Disk, O: Write, E: Write, P: Progress + Sync>(
     rt: &R,
     disk: &mut D,
@@ -207,7 +211,7 @@ fn slice_of<'a, D: Disk>(
     file: &'a str,
     path: &'a str,
 ) -> Result<u64, DecodeFault<'a>>
-    ensures done { IfOk result (λ count. (text : List ℕ) × IsCutFrom (D.at disk.old) start len outboard.entry file.now text × IsPartText mode.now root.now.0 (Part.Slice start len) text
+    ensures done { IfOk result (λ count. (text : List ℕ) × IsCutFrom (D.at disk.old) start len outboard.entry file.now text × IsVerifiedText mode.now root.now.0 (Part.Slice start len) text
         × (count ≡ written_count (Part.Slice start len) text) × Puts (D.at disk.old) (D.at disk.new) path.now (Some text)) }
     ensures kept { OnErr result (KeepsFiles (D.at disk.old) (D.at disk.new)) }
     ensures refused { IfErr result (λ fault. decode_status_of fault ≡ 1 → IsRefusedCut (D.at disk.old) mode.now start len outboard.entry file.now path.now root.now.0) }

@@ -1,6 +1,7 @@
 ghost use Rattle.std.specs.Borrow.{Bor};
 ghost use Rattle.std.specs.Option.{option_copied};
 ghost use Rattle.std.specs.Prelude.{◌≡◌, ◌⊎◌, ℕ, List, IfErr, IfOk, IfSome, IsErrAnd};
+ghost use Rattle.b3tree.specs.Valid.{AreBytes};
 ghost use Rattle.bao_command.specs.ModeWords.{GivesFileMode, GivesMode, HasMode, IsKeyedBy, IsKeyedIn, IsModeFault, MixesKeys};
 ghost use Rattle.bao_command.specs.Tasks.{IsDue, mode_reasons_of};
 ghost use Rattle.bao_command.specs.declared.fault.Fault.TheVariants as Fault;
@@ -37,7 +38,7 @@ pub fn mode_of<'a>(key: Option<&str>, context: Option<&str>) -> Result<Mode, Fau
 /// with `Read`.
 pub fn mode_of_input<'a, I: Read>(input: &mut I, path: &'a str) -> Result<Mode, Fault<'a>>
     ensures known { IfSome (I.remaining input.old) (λ left. GivesFileMode path.entry left result) }
-    ensures some { IfOk result (λ mode. (bytes : List ℕ) × IsKeyedBy bytes mode) }
+    ensures some { IfOk result (λ mode. (bytes : List ℕ) × AreBytes bytes × IsKeyedBy bytes mode) }
     ensures fault { IfErr result (λ fault. (fault ≡ Fault.KeyFile) ⊎ (fault ≡ Fault.File (FileFault.Read path.entry))) }
 {
     match read_key(input, path) {

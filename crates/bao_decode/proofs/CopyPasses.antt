@@ -18,6 +18,8 @@ use Rattle.bao_check.specs.Outline.{outline_claimed, outline_mode, outline_root,
 use Rattle.bao_files.specs.Printed.{AppendsBeginning}
 use Rattle.bao_read.specs.Given.{GivenAt}
 use Rattle.bao_read.proofs.Parts.{GivenAt-append}
+use Rattle.b3tree.specs.Valid.{AreBytes}
+use Rattle.b3tree.proofs.BlockWords.{AreBytes-append, AreBytes-nil}
 use Rattle.bao_text.specs.Choice.{chunk_count}
 use Rattle.bao_text.specs.Cut.{claimed}
 use Rattle.bao_text.specs.declared.fault.WriteFault.{WriteFault}
@@ -155,6 +157,7 @@ known_all (Some s) total bytes size given ends = given ∙ take_all (length byte
 pub record IsBegun (contents : Option (List ℕ)) (outline : Outline) (next : ℕ) (bytes : List ℕ) : Type 0 where
   pub good : IsGoodBefore outline bytes next
   pub size : length bytes ≡ min (1024 * next) (outline_claimed outline)
+  pub each : AreBytes bytes
   pub given : GivenAt contents 0 bytes
   pub ends : next ≡ chunk_count (outline_claimed outline) → IfSome contents (λ s. length s ≤ outline_claimed outline)
 
@@ -162,6 +165,7 @@ pub begun_none : (contents : Option (List ℕ)) (outline : Outline) → IsBegun 
 begun_none contents outline = record {
   good = λ k begins below. absurd (omega (arith, below));
   size = omega arith;
+  each = AreBytes-nil;
   given = given_none contents;
   ends = λ all. absurd (omega (arith, all));
 }
@@ -184,6 +188,7 @@ begun_more contents outline next count bytes part some within begun more =
     record {
       good = good_whole (outline_mode outline) (outline_root outline) (outline_text outline) next (next + count) part all back (omega (arith, len, size)) before more.are.good;
       size = omega (arith, len, size, part_size, within, some);
+      each = AreBytes-append bytes part begun.each more.each;
       given = GivenAt-append contents 0 bytes part begun.given (subst (λ (n : ℕ). GivenAt contents n part) (let at : 1024 * next ≡ 0 + length bytes = omega (arith, size) in at) more.given);
       ends = more.ends;
     }
@@ -198,6 +203,7 @@ begun_all contents outline next bytes begun all =
           good = subst (IsGoodBefore outline bytes) (let every : next ≡ 0 + chunk_count (outline_claimed outline) = omega (arith, all) in every) begun.good;
           ends = omega (arith, size);
         };
+        each = begun.each;
         known = known_all contents (outline_claimed outline) bytes size begun.given (begun.ends all);
       },
       sym size,

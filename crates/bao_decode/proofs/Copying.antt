@@ -5,6 +5,7 @@ use Rattle.std.proofs.KnownBytes.{Appends-kept, Appends-nil, Keeps-refl}
 use Rattle.std.proofs.lemmas.List.{length-take, take_all}
 use Rattle.std.specs.Io.KnownBytes.{Appends, Keeps}
 use Rattle.b3tree.specs.declared.mode.Mode.{Mode}
+use Rattle.b3tree.specs.Valid.{AreBytes}
 use Rattle.bao_text.specs.Choice.{chunk_count}
 use Rattle.bao_text.specs.Cut.{claimed}
 use Rattle.bao_check.specs.Accepted.{IsAccepted, outboard_nodes}
@@ -20,7 +21,7 @@ use Rattle.bao_decode.specs.declared.decode_fault.DecodeFault.TheVariants as dec
 use Rattle.bao_decode.specs.declared.copy_pass.PassFault.{PassFault}
 use Rattle.bao_decode.specs.declared.copy_pass.PassFault.TheVariants.{Check, Input, Output}
 use Rattle.bao_decode.specs.Copies.{BesideStops, CopiesKnown, CopyStops, IsCopyBeside, IsEnoughOf, LeavesCopy, LeavesUnknown}
-use Rattle.bao_decode.specs.CopyPass.{IsCopyFault, IsGoodCopy, IsWholeCopy, PassStops, first_fault_of, second_fault_of}
+use Rattle.bao_decode.specs.CopyPass.{IsCopyFault, IsGoodCopy, IsVerifiedCopy, IsWholeCopy, PassStops, first_fault_of, second_fault_of}
 
 -- a copy that is accepted has no first fault
 apart : (o : Outline) (s : List ℕ) (f : CheckFault) → IsCopyFault o s f → IsGoodCopy o s → ⊥
@@ -72,8 +73,8 @@ second_unknown file path old new Output answer is = subst (LeavesUnknown file pa
 -- all was written, and flushed or not
 pub flushed_some : (o : Outline) (path : Bor (List ℕ)) (contents old mid new : Option (List ℕ)) (bytes : List ℕ) (count : ℕ) (result : Result ℕ DecodeFault) → IsWholeCopy contents o bytes
     → count ≡ length bytes → Appends old mid bytes → Keeps mid new → IfOk result (λ answer. answer ≡ count)
-    → IfOk result (λ answer. (x : List ℕ) × IsGoodCopy o x × (answer ≡ length x) × Appends old new x)
-flushed_some o path contents old mid new bytes count (Ok answer) whole is written kept same = (bytes, whole.are, same ∙ is, Appends-kept old mid new bytes written kept)
+    → IfOk result (λ answer. (x : List ℕ) × IsVerifiedCopy o x × (answer ≡ length x) × Appends old new x)
+flushed_some o path contents old mid new bytes count (Ok answer) whole is written kept same = (bytes, (whole.are, whole.each), same ∙ is, Appends-kept old mid new bytes written kept)
 flushed_some o path contents old mid new bytes count (Err fault) whole is written kept same = tt
 
 pub flushed_known : (contents : Option (List ℕ)) (faultless : Type 0) (o : Outline) (file path : Bor (List ℕ)) (old mid new : Option (List ℕ)) (bytes : List ℕ) (count : ℕ)
@@ -82,7 +83,7 @@ pub flushed_known : (contents : Option (List ℕ)) (faultless : Type 0) (o : Out
     → IfSome contents (λ s. CopiesKnown o faultless s file path old new result)
 flushed_known None faultless o file path old mid new bytes count result whole is written kept same fault_is = tt
 flushed_known (Some s) faultless o file path old mid new bytes count (Ok answer) whole is written kept same fault_is = (
-  good_known o s bytes whole,
+  (good_known o s bytes whole, subst AreBytes whole.known whole.each),
   same ∙ is ∙ ap length whole.known,
   subst (Appends old new) whole.known (Appends-kept old mid new bytes written kept),
 )
@@ -98,9 +99,9 @@ flushed_unknown file path old new (Err fault) is = subst (LeavesUnknown file pat
 
 -- what was written of a copy is what the contents have, where these are known
 pub copied_known : (o : Outline) (contents : Option (List ℕ)) (faultless : Type 0) (file path : Bor (List ℕ)) (old new : Option (List ℕ)) (result : Result ℕ DecodeFault)
-    → IfOk result (λ count. (bytes : List ℕ) × IsGoodCopy o bytes × (count ≡ length bytes) × Appends old new bytes)
+    → IfOk result (λ count. (bytes : List ℕ) × IsVerifiedCopy o bytes × (count ≡ length bytes) × Appends old new bytes)
     → IfSome contents (λ s. CopiesKnown o faultless s file path old new result)
-    → IfOk result (λ count. (bytes : List ℕ) × IfSome contents (λ s. bytes ≡ s) × IsGoodCopy o bytes × (count ≡ length bytes) × Appends old new bytes)
+    → IfOk result (λ count. (bytes : List ℕ) × IfSome contents (λ s. bytes ≡ s) × IsVerifiedCopy o bytes × (count ≡ length bytes) × Appends old new bytes)
 copied_known o None faultless file path old new (Ok count) some known = (some.0, tt, some.1, some.2, some.3)
 copied_known o (Some s) faultless file path old new (Ok count) some known = (s, refl, known.0, known.1, known.2)
 copied_known o None faultless file path old new (Err fault) some known = tt
@@ -115,16 +116,16 @@ kept_whole o bytes s low is good =
 pub kept_known : (o : Outline) (remaining : Option (List ℕ)) (bytes seen : List ℕ) (faultless : Type 0) (file path : Bor (List ℕ)) (old new : Option (List ℕ)) (result : Result ℕ DecodeFault)
     → seen ≡ bytes → length seen < 2 ^ 64 - 1 → IfSome remaining (λ s. bytes ≡ take (min (outline_claimed o + 1) (2 ^ 64 - 1)) s)
     → CopiesKnown o faultless seen file path old new result
-    → IfOk result (λ count. (bytes : List ℕ) × IfSome remaining (λ s. bytes ≡ s) × IsGoodCopy o bytes × (count ≡ length bytes) × Appends old new bytes)
+    → IfOk result (λ count. (bytes : List ℕ) × IfSome remaining (λ s. bytes ≡ s) × IsVerifiedCopy o bytes × (count ≡ length bytes) × Appends old new bytes)
 kept_known o None bytes seen faultless file path old new (Ok count) same low most known = (seen, tt, known.0, known.1, known.2)
-kept_known o (Some s) bytes seen faultless file path old new (Ok count) same low most known = (seen, kept_whole o seen s low (same ∙ most) known.0, known.0, known.1, known.2)
+kept_known o (Some s) bytes seen faultless file path old new (Ok count) same low most known = (seen, kept_whole o seen s low (same ∙ most) known.0.0, known.0, known.1, known.2)
 kept_known o remaining bytes seen faultless file path old new (Err fault) same low most known = tt
 
 -- an accepted outboard encoding is all that the file has
-pub whole_of : (mode : Mode) (root : List ℕ) (state : FileState) (text : List ℕ) → IsEnoughOf mode root state text → IsAccepted mode root text (outboard_nodes text) → AreOf state text
-whole_of mode root Unknown text enough accepted = tt
-whole_of mode root Absent text enough accepted = absurd enough
-whole_of mode root (Stored all) text enough accepted = enough.whole accepted
+pub whole_of : (mode : Mode) (root : List ℕ) (state : FileState) (text : List ℕ) → IsEnoughOf mode root state text → IsAccepted mode root text (outboard_nodes text) → AreBytes text → AreOf state text
+whole_of mode root Unknown text enough accepted bytes = bytes
+whole_of mode root Absent text enough accepted bytes = absurd enough
+whole_of mode root (Stored all) text enough accepted bytes = enough.whole accepted
 
 -- a copy beside an outline is one beside the encoding that the outline is
 pub beside_of : (o : Outline) (mode : Mode) (root text bytes : List ℕ) → IsOutline o mode root text → IsAccepted mode root text (outboard_nodes text) → IsGoodCopy o bytes

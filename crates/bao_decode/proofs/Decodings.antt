@@ -5,6 +5,7 @@ use Rattle.std.proofs.KnownBytes.{Appends-kept, Appends-nil, Keeps-refl}
 use Rattle.std.proofs.lemmas.List.{take_all}
 use Rattle.std.specs.Io.KnownBytes.{Appends, Keeps}
 use Rattle.b3tree.specs.declared.mode.Mode.{Mode}
+use Rattle.b3tree.specs.Valid.{AreBytes}
 use Rattle.bao_check.specs.Accepted.{slice_nodes}
 use Rattle.bao_check.specs.declared.fault.CheckFault.{CheckFault}
 use Rattle.bao_check.proofs.Laws.{first_fault-not_accepted}
@@ -15,7 +16,7 @@ use Rattle.bao_decode.specs.declared.decode_fault.DecodeFault.TheVariants as dec
 use Rattle.bao_decode.specs.declared.copy_pass.PassFault.{PassFault}
 use Rattle.bao_decode.specs.declared.copy_pass.PassFault.TheVariants.{Check, Input, Output}
 use Rattle.bao_decode.specs.CopyPass.{first_fault_of, only_fault_of, second_fault_of}
-use Rattle.bao_decode.specs.Ranges.{IsPartText, part_bytes, part_len, part_start, written_count}
+use Rattle.bao_decode.specs.Ranges.{IsPartText, IsVerifiedText, part_bytes, part_len, part_start, written_count}
 use Rattle.bao_decode.specs.TextPass.{DecodesKnown, DraftsKnown, IsDecoded, IsTextFault, IsWholeText, LeavesDraft, LeavesWritten, NamesDraftPaths, TextStops, WriteStops, WritesKnown, task_of_part}
 
 -- an encoding that is accepted has no first fault, but that it is too long
@@ -52,8 +53,8 @@ module _ (what : List ℕ → List ℕ) (mode : Mode) (root : List ℕ) (part : 
   -- all was written, and flushed or not
   pub text_flushed_some : (contents old mid new : Option (List ℕ)) (text : List ℕ) (count : ℕ) (result : Result ℕ DecodeFault) → IsWholeText contents mode root part text
       → count ≡ written_count part text → Appends old mid (what text) → Keeps mid new → IfOk result (λ answer. answer ≡ count)
-      → IfOk result (λ answer. (x : List ℕ) × IsPartText mode root part x × (answer ≡ written_count part x) × Appends old new (what x))
-  text_flushed_some contents old mid new text count (Ok answer) whole is written kept same = (text, whole.accepted, same ∙ is, Appends-kept old mid new (what text) written kept)
+      → IfOk result (λ answer. (x : List ℕ) × IsVerifiedText mode root part x × (answer ≡ written_count part x) × Appends old new (what x))
+  text_flushed_some contents old mid new text count (Ok answer) whole is written kept same = (text, (whole.accepted, whole.each), same ∙ is, Appends-kept old mid new (what text) written kept)
   text_flushed_some contents old mid new text count (Err fault) whole is written kept same = tt
 
   pub text_flushed_known : (contents : Option (List ℕ)) (faultless : Type 0) (file path : Bor (List ℕ)) (old mid new : Option (List ℕ)) (text : List ℕ) (count : ℕ)
@@ -62,7 +63,7 @@ module _ (what : List ℕ → List ℕ) (mode : Mode) (root : List ℕ) (part : 
       → IfSome contents (λ s. IsPartText mode root part s → WritesKnown what mode root part faultless s file path old new result)
   text_flushed_known None faultless file path old mid new text count result whole is written kept same fault_is = tt
   text_flushed_known (Some s) faultless file path old mid new text count (Ok answer) whole is written kept same fault_is = λ accepted. (
-    accepted,
+    (accepted, subst AreBytes whole.known whole.each),
     same ∙ is ∙ ap (written_count part) whole.known,
     subst (λ (x : List ℕ). Appends old new (what x)) whole.known (Appends-kept old mid new (what text) written kept),
   )
@@ -100,7 +101,7 @@ module _ (mode : Mode) (root : List ℕ) (part : Part) where
       → IfSome contents (λ s. DraftsKnown mode root part faultless s file path old new result)
   draft_flushed None faultless file path old mid new text count result whole is written kept same fault_is = tt
   draft_flushed (Some s) faultless file path old mid new text count (Ok answer) whole is written kept same fault_is = (
-    subst (IsPartText mode root part) whole.known whole.accepted,
+    (subst (IsPartText mode root part) whole.known whole.accepted, subst AreBytes whole.known whole.each),
     same ∙ is ∙ ap (written_count part) whole.known,
     subst (λ (x : List ℕ). Appends old new (part_bytes part x)) whole.known (Appends-kept old mid new (part_bytes part text) written kept),
   )
@@ -112,7 +113,7 @@ module _ (mode : Mode) (root : List ℕ) (part : Part) where
 
   -- what was written of an encoding is what the contents have, where these are known
   pub decoded_known : (contents : Option (List ℕ)) (faultless : Type 0) (file path : Bor (List ℕ)) (old new : Option (List ℕ)) (result : Result ℕ DecodeFault)
-      → IfOk result (λ count. (text : List ℕ) × IsPartText mode root part text × (count ≡ written_count part text) × Appends old new (part_bytes part text))
+      → IfOk result (λ count. (text : List ℕ) × IsVerifiedText mode root part text × (count ≡ written_count part text) × Appends old new (part_bytes part text))
       → IfSome contents (λ s. DecodesKnown mode root part faultless s file path old new result)
       → IfOk result (λ count. (text : List ℕ) × IfSome contents (λ s. text ≡ s) × IsDecoded mode root part text count old new)
   decoded_known None faultless file path old new (Ok count) some known = (some.0, tt, (some.1, some.2, some.3))
@@ -121,7 +122,7 @@ module _ (mode : Mode) (root : List ℕ) (part : Part) where
   decoded_known (Some s) faultless file path old new (Err fault) some known = tt
 
   pub drafted_known : (contents : Option (List ℕ)) (faultless : Type 0) (file path : Bor (List ℕ)) (old new : Option (List ℕ)) (result : Result ℕ DecodeFault)
-      → IfOk result (λ count. (text : List ℕ) × IsPartText mode root part text × (count ≡ written_count part text) × Appends old new (part_bytes part text))
+      → IfOk result (λ count. (text : List ℕ) × IsVerifiedText mode root part text × (count ≡ written_count part text) × Appends old new (part_bytes part text))
       → IfSome contents (λ s. DraftsKnown mode root part faultless s file path old new result)
       → IfOk result (λ count. (text : List ℕ) × IfSome contents (λ s. text ≡ s) × IsDecoded mode root part text count old new)
   drafted_known None faultless file path old new (Ok count) some known = (some.0, tt, (some.1, some.2, some.3))

@@ -4,6 +4,8 @@ use Rattle.std.proofs.KnownBytes.{Appends-nil, Appends-trans}
 use Rattle.std.proofs.lemmas.List.{append_assoc}
 use Rattle.std.specs.Io.KnownBytes.{Appends}
 use Rattle.b3tree.specs.declared.mode.Mode.{Mode}
+use Rattle.b3tree.specs.Valid.{AreBytes}
+use Rattle.b3tree.proofs.BlockWords.{AreBytes-append}
 use Rattle.bao_text.specs.Cut.{claimed}
 use Rattle.bao_text.specs.declared.fault.WriteFault.{WriteFault}
 use Rattle.bao_text.specs.Faults.{WroteOnly}
@@ -35,18 +37,20 @@ module _ (mode : Mode) (root : List ℕ) (part : Part) where
     pub decodes : HasDecodedAs check our_task text blob
     pub at_is : at ≡ length text
     pub long : 8 ≤ length text
+    pub each : AreBytes text
     pub given : GivenAt contents 0 text
     pub first_is : first ≡ first_written part (claimed text)
     pub last_is : last ≡ last_written part (claimed text)
     pub written : Appends old new text
 
-  pub copied_none : (contents : Option (List ℕ)) (total first last : ℕ) (check : Checking) (old new : Option (List ℕ)) (header : List ℕ) → length header ≡ 8 → GivenAt contents 0 header
+  pub copied_none : (contents : Option (List ℕ)) (total first last : ℕ) (check : Checking) (old new : Option (List ℕ)) (header : List ℕ) → length header ≡ 8 → AreBytes header → GivenAt contents 0 header
       → HasDecodedAs check our_task header [] → total ≡ claimed header → first ≡ first_written part total → last ≡ last_written part total → Appends old new header
       → IsCopied contents first last check 8 old new header []
-  copied_none contents total first last check old new header size given it is first_is last_is wrote = record {
+  copied_none contents total first last check old new header size bytes given it is first_is last_is wrote = record {
     decodes = it;
     at_is = sym size;
     long = omega (arith, size);
+    each = bytes;
     given = given;
     first_is = first_is ∙ ap (first_written part) is;
     last_is = last_is ∙ ap (last_written part) is;
@@ -55,14 +59,15 @@ module _ (mode : Mode) (root : List ℕ) (part : Part) where
 
   -- a block more
   pub copied_more : (contents : Option (List ℕ)) (first last : ℕ) (check after : Checking) (at taken : ℕ) (old mid new : Option (List ℕ)) (text blob more piece : List ℕ)
-      → IsCopied contents first last check at old mid text blob → length more ≡ taken → GivenAt contents at more → HasDecodedAs after our_task (text ++ more) (blob ++ piece)
+      → IsCopied contents first last check at old mid text blob → length more ≡ taken → AreBytes more → GivenAt contents at more → HasDecodedAs after our_task (text ++ more) (blob ++ piece)
       → Appends mid new more → IsCopied contents first last after (at + taken) old new (text ++ more) (blob ++ piece)
-  copied_more contents first last check after at taken old mid new text blob more piece it size given next wrote =
+  copied_more contents first last check after at taken old mid new text blob more piece it size bytes given next wrote =
       let claims : claimed (text ++ more) ≡ claimed text = claimed-append text more it.long in
       record {
         decodes = next;
         at_is = omega (arith, it.at_is, size, length-append text more);
         long = omega (arith, it.long, length-append text more);
+        each = AreBytes-append text more it.each bytes;
         given = given_more contents text more at it.at_is it.given given;
         first_is = it.first_is ∙ ap (first_written part) (sym claims);
         last_is = it.last_is ∙ ap (last_written part) (sym claims);
@@ -113,7 +118,7 @@ module _ (mode : Mode) (root : List ℕ) (part : Part) where
       → (x : List ℕ) × IsWholeText contents mode root part x × (last - first ≡ written_count part x) × Appends old new x
   copied_all contents first last check at old new text blob it accepted ends = (
     text,
-    record { accepted = accepted; known = known_all contents text at it.at_is it.given ends },
+    record { accepted = accepted; each = it.each; known = known_all contents text at it.at_is it.given ends },
     (λ i. it.last_is i - it.first_is i),
     it.written,
   )

@@ -1,14 +1,15 @@
 -- The bytes of a file that was opened.
 use Rattle.std.proofs.Common.{◌≡◌, ℕ, List, Option, None, Some, IfSome, IsSome, refl, sym, subst}
+use Rattle.b3tree.specs.Valid.{AreBytes}
 use Rattle.bao_files.specs.Disks.{FileState, Unknown, Absent, Stored, AreOf, Opens}
 use Rattle.bao_decode.specs.Opened.{IsUnread}
 
 -- they are the file's, where nothing was read yet
 pub unread_of_file : (state : FileState) (contents remaining : Option (List ℕ)) (bytes : List ℕ) → Opens state contents remaining
-    → IsUnread contents remaining bytes → AreOf state bytes
-unread_of_file Unknown contents remaining bytes opens unread = tt
-unread_of_file Absent contents remaining bytes opens unread = absurd opens
-unread_of_file (Stored s) contents remaining bytes opens unread =
+    → IsUnread contents remaining bytes → AreBytes bytes → AreOf state bytes
+unread_of_file Unknown contents remaining bytes opens unread are = are
+unread_of_file Absent contents remaining bytes opens unread are = absurd opens
+unread_of_file (Stored s) contents remaining bytes opens unread are =
     subst (λ (known : Option (List ℕ)). IsUnread known remaining bytes) opens.0 unread opens.1
 
 -- the contents, or what is left to be read, are all of it

@@ -5,6 +5,8 @@ use Rattle.std.proofs.KnownBytes.{Appends-nil, Keeps-refl}
 use Rattle.std.proofs.lemmas.Bool.{both_ways, cases_Bool, cases_lt, lt-ltb}
 use Rattle.std.specs.Io.KnownBytes.{Appends}
 use Rattle.b3tree.specs.declared.mode.Mode.{Mode}
+use Rattle.b3tree.specs.Valid.{AreBytes}
+use Rattle.b3tree.proofs.BlockWords.{AreBytes-nil}
 use Rattle.bao_files.specs.Disks.{FileState, Unknown, Absent, Stored}
 use Rattle.bao_text.specs.declared.kinds.Part.TheVariants.{Slice}
 use Rattle.bao_text.specs.Cut.{claimed, cut_text}
@@ -15,16 +17,16 @@ use Rattle.bao_decode.specs.declared.copy_pass.PassFault.TheVariants.{Check, Inp
 use Rattle.bao_decode.specs.CopyPass.{StopsShort, first_fault_of}
 use Rattle.bao_decode.specs.Cutting.{ClaimsLength, IsCutOf, cut_contents}
 use Rattle.bao_decode.specs.Opened.{OpensWith}
-use Rattle.bao_decode.specs.Ranges.{IsPartText, written_count}
+use Rattle.bao_decode.specs.Ranges.{IsVerifiedText, written_count}
 use Rattle.bao_decode.specs.TextPass.{DecodeStops, EncodesKnown, LeavesWritten}
 use Rattle.bao_decode.specs.Weaving.{CutBesideStops, IsCutBeside, are_whole, woven_contents, woven_text}
 use Rattle.bao_decode.proofs.Cuttings.{cut_known, cut_text-few}
 use Rattle.bao_decode.proofs.Weavings.{whole_fits, whole_parents, woven_len}
 
--- there is a list as long as any
-long_list : (n : ℕ) → (xs : List ℕ) × (n ≤ length xs)
-long_list zero = ([], omega arith)
-long_list (suc n) = let less = long_list n in (0 ∷ less.0, omega (arith, less.1))
+-- there are as many bytes as any number
+long_list : (n : ℕ) → (xs : List ℕ) × AreBytes xs × (n ≤ length xs)
+long_list zero = ([], AreBytes-nil, omega arith)
+long_list (suc n) = let less = long_list n in (0 ∷ less.0, record { at = elim [ zero ↦ omega arith | suc k ↦ less.1.at k ] }, omega (arith, less.2))
 
 module _ (mode : Mode) (root : List ℕ) (start len : ℕ) where
   -- the encoding ends before its length does
@@ -51,11 +53,11 @@ module _ (mode : Mode) (root : List ℕ) (start len : ℕ) where
 
   -- a slice that was accepted and written is cut out of the file
   pub slice_done : (state : FileState) (contents : Option (List ℕ)) (faultless : Type 0) (file path : Bor (List ℕ)) (old new : Option (List ℕ)) (count : ℕ) → OpensWith state contents
-      → ((text : List ℕ) × IsPartText mode root (Slice start len) text × (count ≡ written_count (Slice start len) text) × Appends old new text)
+      → ((text : List ℕ) × IsVerifiedText mode root (Slice start len) text × (count ≡ written_count (Slice start len) text) × Appends old new text)
       → IfSome contents (λ s. length s < 2 ^ 64 → EncodesKnown mode root (Slice start len) faultless (cut_text s start len) file path old new (Ok count))
-      → (text : List ℕ) × IsCutOf state start len text × IsPartText mode root (Slice start len) text × (count ≡ written_count (Slice start len) text) × Appends old new text
+      → (text : List ℕ) × IsCutOf state start len text × IsVerifiedText mode root (Slice start len) text × (count ≡ written_count (Slice start len) text) × Appends old new text
   slice_done Unknown contents faultless file path old new count opens some known =
-      let long = long_list (2 ^ 64) in (some.0, (long.0, tt, λ fits. absurd (omega (arith, fits, long.1))), some.1, some.2, some.3)
+      let long = long_list (2 ^ 64) in (some.0, (long.0, long.1, λ fits. absurd (omega (arith, fits, long.2))), some.1, some.2, some.3)
   slice_done Absent contents faultless file path old new count opens some known = absurd opens
   slice_done (Stored s) contents faultless file path old new count opens some known = elim (cases_lt (length s) (2 ^ 64)) [
     | inr long ↦ (some.0, (s, refl, λ fits. absurd (omega (arith, fits, long))), some.1, some.2, some.3)
@@ -102,18 +104,18 @@ module _ (mode : Mode) (root : List ℕ) (start len : ℕ) where
   -- a slice that was accepted and written is cut out of it
   pub beside_done : (outboard copy : FileState) (total : ℕ) (outline bytes ours theirs : Option (List ℕ)) (faultless : Type 0) (file path : Bor (List ℕ)) (old new : Option (List ℕ)) (count : ℕ)
       → OpensWith outboard outline → OpensWith copy bytes → ours ≡ outline → theirs ≡ bytes → ClaimsLength outline total
-      → ((text : List ℕ) × IsPartText mode root (Slice start len) text × (count ≡ written_count (Slice start len) text) × Appends old new text)
+      → ((text : List ℕ) × IsVerifiedText mode root (Slice start len) text × (count ≡ written_count (Slice start len) text) × Appends old new text)
       → IfSome (woven_contents total ours theirs) (λ w. length w < 2 ^ 64 → EncodesKnown mode root (Slice start len) faultless (cut_text w start len) file path old new (Ok count))
-      → (text : List ℕ) × IsCutBeside outboard copy start len text × IsPartText mode root (Slice start len) text × (count ≡ written_count (Slice start len) text) × Appends old new text
+      → (text : List ℕ) × IsCutBeside outboard copy start len text × IsVerifiedText mode root (Slice start len) text × (count ≡ written_count (Slice start len) text) × Appends old new text
   beside_done Absent copy total outline bytes ours theirs faultless file path old new count opens also ours_is theirs_is claims some known = absurd opens
   beside_done Unknown Absent total outline bytes ours theirs faultless file path old new count opens also ours_is theirs_is claims some known = absurd also
   beside_done Unknown Unknown total outline bytes ours theirs faultless file path old new count opens also ours_is theirs_is claims some known =
-      (some.0, ([], [], tt, tt, λ k. absurd k), some.1, some.2, some.3)
+      (some.0, ([], [], AreBytes-nil, AreBytes-nil, λ k. absurd k), some.1, some.2, some.3)
   beside_done Unknown (Stored b) total outline bytes ours theirs faultless file path old new count opens also ours_is theirs_is claims some known =
-      (some.0, ([], b, tt, refl, λ k. absurd k), some.1, some.2, some.3)
+      (some.0, ([], b, AreBytes-nil, refl, λ k. absurd k), some.1, some.2, some.3)
   beside_done (Stored o) Absent total outline bytes ours theirs faultless file path old new count opens also ours_is theirs_is claims some known = absurd also
   beside_done (Stored o) Unknown total outline bytes ours theirs faultless file path old new count opens also ours_is theirs_is claims some known =
-      (some.0, (o, [], refl, tt, λ j k. absurd k), some.1, some.2, some.3)
+      (some.0, (o, [], refl, AreBytes-nil, λ j k. absurd k), some.1, some.2, some.3)
   beside_done (Stored o) (Stored b) total outline bytes ours theirs faultless file path old new count opens also ours_is theirs_is claims some known = elim (cases_Bool (are_whole (claimed o) o b)) [
     | inr gone ↦ (some.0, (o, b, refl, refl, λ j k whole. absurd (both_ways (are_whole (claimed o) o b) gone whole)), some.1, some.2, some.3)
     | inl whole ↦

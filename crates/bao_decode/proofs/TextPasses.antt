@@ -6,6 +6,8 @@ use Rattle.std.proofs.lemmas.Bool.{cases_lt}
 use Rattle.std.proofs.lemmas.List.{append-nil, append_assoc, drop-append-le, drop-drop, drop_all, drop_at, length-take-le, take-append-drop, take-append-le, take-take, take_all, take_at}
 use Rattle.std.specs.Io.KnownBytes.{Appends}
 use Rattle.b3tree.specs.declared.mode.Mode.{Mode}
+use Rattle.b3tree.specs.Valid.{AreBytes}
+use Rattle.b3tree.proofs.BlockWords.{AreBytes-append}
 use Rattle.bao_text.specs.Cut.{claimed}
 use Rattle.bao_text.specs.declared.fault.WriteFault.{WriteFault}
 use Rattle.bao_text.specs.Faults.{WroteOnly}
@@ -174,17 +176,19 @@ module _ (mode : Mode) (root : List ℕ) (part : Part) where
     pub at_is : at ≡ length text
     pub long : 8 ≤ length text
     pub done_is : done ≡ length blob
+    pub each : AreBytes text
     pub given : GivenAt contents 0 text
     pub claims : claimed text ≡ total
     pub written : Appends old new (drop (skip_of total) (take (end_of total) blob))
 
-  pub begun_none : (contents : Option (List ℕ)) (total : ℕ) (check : Checking) (old : Option (List ℕ)) (header : List ℕ) → length header ≡ 8 → GivenAt contents 0 header
+  pub begun_none : (contents : Option (List ℕ)) (total : ℕ) (check : Checking) (old : Option (List ℕ)) (header : List ℕ) → length header ≡ 8 → AreBytes header → GivenAt contents 0 header
       → HasDecodedAs check own_task header [] → total ≡ claimed header → IsBegun contents total check 8 0 old old header []
-  begun_none contents total check old header size given it is = record {
+  begun_none contents total check old header size bytes given it is = record {
     decodes = it;
     at_is = sym size;
     long = omega (arith, size);
     done_is = refl;
+    each = bytes;
     given = given;
     claims = sym is;
     written = subst (Appends old old) (sym (nothing_between (skip_of total) (end_of total) [] refl)) (Appends-nil old);
@@ -192,9 +196,9 @@ module _ (mode : Mode) (root : List ℕ) (part : Part) where
 
   -- a block more
   pub begun_more : (contents : Option (List ℕ)) (total : ℕ) (check after : Checking) (at done taken filled : ℕ) (old mid new : Option (List ℕ)) (text blob more piece : List ℕ)
-      → IsBegun contents total check at done old mid text blob → length more ≡ taken → length piece ≡ filled → GivenAt contents at more → HasDecodedAs after own_task (text ++ more) (blob ++ piece)
+      → IsBegun contents total check at done old mid text blob → length more ≡ taken → length piece ≡ filled → AreBytes more → GivenAt contents at more → HasDecodedAs after own_task (text ++ more) (blob ++ piece)
       → Appends mid new (positions done (skip_of total) (end_of total) piece) → IsBegun contents total after (at + taken) (done + filled) old new (text ++ more) (blob ++ piece)
-  begun_more contents total check after at done taken filled old mid new text blob more piece it size filled_is given next wrote =
+  begun_more contents total check after at done taken filled old mid new text blob more piece it size filled_is bytes given next wrote =
       let place : Appends mid new (positions (length blob) (skip_of total) (end_of total) piece) =
       subst (λ (n : ℕ). Appends mid new (positions n (skip_of total) (end_of total) piece)) it.done_is wrote in
       record {
@@ -202,6 +206,7 @@ module _ (mode : Mode) (root : List ℕ) (part : Part) where
         at_is = omega (arith, it.at_is, size, length-append text more);
         long = omega (arith, it.long, length-append text more);
         done_is = omega (arith, it.done_is, filled_is, length-append blob piece);
+        each = AreBytes-append text more it.each bytes;
         given = given_more contents text more at it.at_is it.given given;
         claims = claimed-append text more it.long ∙ it.claims;
         written = subst (Appends old new) (sym (between_more (skip_of total) (end_of total) blob piece))
@@ -260,7 +265,7 @@ module _ (mode : Mode) (root : List ℕ) (part : Part) where
       → (x : List ℕ) × IsWholeText contents mode root part x × (last_written part total - first_written part total ≡ written_count part x) × Appends old new (part_bytes part x)
   begun_all contents total check at done old new text blob it accepted blob_is ends = (
     text,
-    record { accepted = accepted; known = known_all contents text at it.at_is it.given ends },
+    record { accepted = accepted; each = it.each; known = known_all contents text at it.at_is it.given ends },
     ap (λ (n : ℕ). last_written part n - first_written part n) (sym it.claims),
     subst (λ (T : Type 0). T) (λ i. Appends old new (drop (skip_of (sym it.claims i)) (take (end_of (sym it.claims i)) (sym blob_is i)))) it.written,
   )

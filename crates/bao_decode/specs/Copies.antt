@@ -15,7 +15,7 @@ use Rattle.bao_files.specs.Printed.{AppendsBeginning}
 use Rattle.bao_files.specs.declared.fault.FileFault.TheVariants.{Memory, Read, Write}
 use Rattle.bao_decode.specs.declared.decode_fault.DecodeFault.{DecodeFault}
 use Rattle.bao_decode.specs.declared.decode_fault.DecodeFault.TheVariants.{Check, File}
-use Rattle.bao_decode.specs.CopyPass.{IsCopyFault, IsGoodCopy}
+use Rattle.bao_decode.specs.CopyPass.{IsCopyFault, IsGoodCopy, IsVerifiedCopy}
 
 -- the one encoding is accepted as an outboard encoding under the root, and the bytes are, beside it, all chunks of the length that it claims
 abbrev pub IsCopyBeside : Mode → List ℕ → List ℕ → List ℕ → Type 0
@@ -32,7 +32,7 @@ LeavesCopy outline faultless copy file path old new (Check fault) = IsCopyFault 
 
 -- a copy of these bytes was accepted and written, or not
 abbrev pub CopiesKnown : Outline → Type 0 → List ℕ → Bor (List ℕ) → Bor (List ℕ) → Option (List ℕ) → Option (List ℕ) → Result ℕ DecodeFault → Type 0
-CopiesKnown outline faultless copy file path old new (Ok count) = IsGoodCopy outline copy × (count ≡ length copy) × Appends old new copy
+CopiesKnown outline faultless copy file path old new (Ok count) = IsVerifiedCopy outline copy × (count ≡ length copy) × Appends old new copy
 CopiesKnown outline faultless copy file path old new (Err fault) = LeavesCopy outline faultless copy file path old new fault
 
 -- what is known of a fault where the copy's bytes aren't: nothing was written of one that was refused, nor out of memory

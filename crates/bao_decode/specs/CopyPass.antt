@@ -1,6 +1,7 @@
 -- What a pass over a plain copy has verified and written, beside an outline.
 use Rattle.std.specs.Borrow.{Bor}
 use Rattle.std.specs.Prelude.{◌≡◌, ℕ, ◌+◌, ◌-◌, ◌*◌, ◌^◌, ◌<◌, ◌≤◌, min, List, length, Option, IfSome}
+use Rattle.b3tree.specs.Valid.{AreBytes}
 use Rattle.bao_check.specs.Bare.{AreBare, AreGoodBare, IsBareFault}
 use Rattle.bao_check.specs.declared.fault.CheckFault.{CheckFault}
 use Rattle.bao_check.specs.declared.fault.CheckFault.TheVariants as check
@@ -27,7 +28,11 @@ fault_from start check.Reader = check.Reader
 abbrev pub IsGoodCopy : Outline → List ℕ → Type 0
 IsGoodCopy outline bytes = AreBare (outline_mode outline) (outline_root outline) (outline_text outline) 0 (chunk_count (outline_claimed outline)) bytes
 
--- this is the first fault of bytes that aren't
+-- they are, and each is a number below 256
+abbrev pub IsVerifiedCopy : Outline → List ℕ → Type 0
+IsVerifiedCopy outline bytes = IsGoodCopy outline bytes × AreBytes bytes
+
+-- this is the first fault of bytes that aren't good
 abbrev pub IsCopyFault : Outline → List ℕ → CheckFault → Type 0
 IsCopyFault outline bytes fault = IsBareFault (outline_mode outline) (outline_root outline) (outline_text outline) 0 (chunk_count (outline_claimed outline)) bytes fault
 
@@ -38,6 +43,7 @@ IsGoodBefore outline bytes next = AreGoodBare (outline_mode outline) (outline_ro
 -- so many chunks from chunk `first` on were read and verified; after the last of all chunks nothing follows
 pub record IsPieceOf (contents : Option (List ℕ)) (outline : Outline) (first count : ℕ) (piece : List ℕ) : Type 0 where
   pub are : AreBare (outline_mode outline) (outline_root outline) (outline_text outline) first count piece
+  pub each : AreBytes piece
   pub given : GivenAt contents (1024 * first) piece
   pub ends : first + count ≡ chunk_count (outline_claimed outline) → IfSome contents (λ s. length s ≤ outline_claimed outline)
 
@@ -50,6 +56,7 @@ PieceStops contents faultless outline first Output = ⊥
 -- all of a copy was verified, and it is the contents, where these are known
 pub record IsWholeCopy (contents : Option (List ℕ)) (outline : Outline) (bytes : List ℕ) : Type 0 where
   pub are : IsGoodCopy outline bytes
+  pub each : AreBytes bytes
   pub known : IfSome contents (λ s. bytes ≡ s)
 
 -- what a pass over a copy of these bytes leaves, where it ends early

@@ -1,6 +1,7 @@
 -- what is written of an accepted encoding
 use Rattle.std.specs.Prelude.{◌≡◌, ℕ, ◌+◌, ◌-◌, ◌*◌, ◌/◌, ◌^◌, ◌<◌, ◌++◌, List, length, take, drop, min}
 use Rattle.b3tree.specs.declared.mode.Mode.{Mode}
+use Rattle.b3tree.specs.Valid.{AreBytes}
 use Rattle.bao_check.specs.declared.fault.CheckFault.{CheckFault}
 use Rattle.bao_check.specs.declared.fault.CheckFault.TheVariants as check
 use Rattle.bao_check.specs.Accepted.{IsAccepted, slice_nodes}
@@ -36,6 +37,10 @@ written_count part text = last_written part (claimed text) - first_written part 
 -- the encoding is accepted as that of the part of the blob with this root
 abbrev pub IsPartText : Mode → List ℕ → Part → List ℕ → Type 0
 IsPartText mode root part text = IsAccepted mode root text (slice_nodes text (part_start part) (part_len part))
+
+-- it is, and is made of bytes: numbers below 256
+abbrev pub IsVerifiedText : Mode → List ℕ → Part → List ℕ → Type 0
+IsVerifiedText mode root part text = IsPartText mode root part text × AreBytes text
 
 -- the position of the first byte of the first chunk that the encoding has
 abbrev pub first_decoded : Part → ℕ → ℕ

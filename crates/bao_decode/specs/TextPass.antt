@@ -3,6 +3,7 @@ use Rattle.std.specs.Borrow.{Bor}
 use Rattle.std.specs.Prelude.{◌≡◌, ◌⊎◌, ℕ, ◌^◌, ◌≤◌, List, length, Option, IfSome, Result, Ok, Err}
 use Rattle.std.specs.Io.KnownBytes.{Appends, Keeps}
 use Rattle.b3tree.specs.declared.mode.Mode.{Mode}
+use Rattle.b3tree.specs.Valid.{AreBytes}
 use Rattle.bao_check.specs.declared.fault.CheckFault.{CheckFault}
 use Rattle.bao_check.specs.declared.fault.CheckFault.TheVariants as check
 use Rattle.bao_check.specs.Waiting.{CheckTask, IsFaultAs}
@@ -13,7 +14,7 @@ use Rattle.bao_decode.specs.declared.copy_pass.PassFault.{PassFault}
 use Rattle.bao_decode.specs.declared.copy_pass.PassFault.TheVariants.{Check, Input, Output}
 use Rattle.bao_decode.specs.declared.decode_fault.DecodeFault.{DecodeFault}
 use Rattle.bao_decode.specs.declared.decode_fault.DecodeFault.TheVariants as decode
-use Rattle.bao_decode.specs.Ranges.{IsPartText, part_bytes, part_len, part_start, written_count}
+use Rattle.bao_decode.specs.Ranges.{IsPartText, IsVerifiedText, part_bytes, part_len, part_start, written_count}
 
 -- what an encoding of the part is checked as
 abbrev pub task_of_part : Mode → List ℕ → Part → CheckTask
@@ -29,9 +30,10 @@ StopsAs task faultless text (Check fault) = IsTextFault task text fault
 StopsAs task faultless text Input = ¬ faultless
 StopsAs task faultless text Output = ⊥
 
--- all of an encoding was verified, and it is the contents, where these are known
+-- all of an encoding was verified, it is made of bytes, and it is the contents, where these are known
 pub record IsWholeText (contents : Option (List ℕ)) (mode : Mode) (root : List ℕ) (part : Part) (text : List ℕ) : Type 0 where
   pub accepted : IsPartText mode root part text
+  pub each : AreBytes text
   pub known : IfSome contents (λ s. text ≡ s)
 
 -- what a pass over these bytes leaves that writes so much of them, where it ends early
@@ -75,7 +77,7 @@ NamesDraftPaths file path (decode.Check fault) = Unit {0}
 -- an encoding of these bytes was accepted, and so much of it written, or not
 abbrev pub WritesKnown : (List ℕ → List ℕ) → Mode → List ℕ → Part → Type 0 → List ℕ → Bor (List ℕ) → Bor (List ℕ) → Option (List ℕ) → Option (List ℕ) → Result ℕ DecodeFault → Type 0
 WritesKnown what mode root part faultless text file path old new (Ok count) =
-    IsPartText mode root part text × (count ≡ written_count part text) × Appends old new (what text)
+    IsVerifiedText mode root part text × (count ≡ written_count part text) × Appends old new (what text)
 WritesKnown what mode root part faultless text file path old new (Err fault) = LeavesWritten what mode root part faultless text file path old new fault
 
 -- what it has of the part
@@ -89,7 +91,7 @@ EncodesKnown mode root part faultless text file path old new result = WritesKnow
 -- the same of one pass
 abbrev pub DraftsKnown : Mode → List ℕ → Part → Type 0 → List ℕ → Bor (List ℕ) → Bor (List ℕ) → Option (List ℕ) → Option (List ℕ) → Result ℕ DecodeFault → Type 0
 DraftsKnown mode root part faultless text file path old new (Ok count) =
-    IsPartText mode root part text × (count ≡ written_count part text) × Appends old new (part_bytes part text)
+    IsVerifiedText mode root part text × (count ≡ written_count part text) × Appends old new (part_bytes part text)
 DraftsKnown mode root part faultless text file path old new (Err fault) = LeavesDraft mode root part faultless text file path old new fault
 
 -- what a fault says of a file that holds these bytes: there was no memory; or a read of it answered a fault, which on a disk without faults none
@@ -100,4 +102,4 @@ DecodeStops mode root part faultless text file path (decode.Check fault) = IsTex
 
 -- an encoding of these bytes was accepted, and what it has of the part, so many bytes, written
 abbrev pub IsDecoded : Mode → List ℕ → Part → List ℕ → ℕ → Option (List ℕ) → Option (List ℕ) → Type 0
-IsDecoded mode root part text count old new = IsPartText mode root part text × (count ≡ written_count part text) × Appends old new (part_bytes part text)
+IsDecoded mode root part text count old new = IsVerifiedText mode root part text × (count ≡ written_count part text) × Appends old new (part_bytes part text)

@@ -8,7 +8,7 @@ ghost use Rattle.bao_read.specs.Given.{GivenAt};
 ghost use Rattle.bao_text.specs.Choice.{chunk_count};
 ghost use Rattle.bao_decode.specs.CopyPass.{IsPieceOf, IsWholeCopy, PassStops, PieceStops, fault_from};
 
-use b3tree::CHUNK_LEN;
+use b3tree::{CHUNK_LEN, bytes_are};
 use bao_check::{CheckFault, Outline, check_bare};
 use bao_read::Source;
 use bao_text::{chunk_count, write_text};
@@ -108,7 +108,10 @@ fn read_piece<S: Source>(
     let start = CHUNK_LEN as u64 * first;
     let room = asked_len(total, first, count);
     let len = fill_most(copy, start, &mut buf[..room])?;
-    match check_bare(outline, first, count, &buf[..len]) {
+    let piece = &buf[..len];
+    // A law, so that the proof has what it says: nothing runs.
+    bytes_are(piece);
+    match check_bare(outline, first, count, piece) {
         Ok(_) => Ok(len),
         Err(fault) => Err(PassFault::Check(fault_of_copy(fault, start))),
     }

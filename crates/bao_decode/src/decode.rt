@@ -10,7 +10,7 @@ ghost use Rattle.bao_decode.specs.Opened.{IsNotThere, IsUnread};
 ghost use Rattle.bao_check.specs.declared.fault.CheckFault.TheVariants as CheckFault;
 ghost use Rattle.bao_decode.specs.Copies.{LeavesUnknown};
 ghost use Rattle.bao_decode.specs.DecodeFaults.{IsQuietDecode, NamesDecodePaths};
-ghost use Rattle.bao_decode.specs.Ranges.{IsFileFault, IsPartText, part_bytes, written_count};
+ghost use Rattle.bao_decode.specs.Ranges.{IsFileFault, IsPartText, IsVerifiedText, part_bytes, written_count};
 ghost use Rattle.bao_decode.specs.TextPass.{DecodeStops, DecodesKnown, DraftsKnown, IsDecoded, NamesDraftPaths};
 
 use crate::decode_fault::DecodeFault;
@@ -103,7 +103,7 @@ fn write_verified<'a, S: Source, W: Write>(
 ) -> Result<u64, DecodeFault<'a>>
     requires block { length block.old ≡ 294912 }
     requires room { length room.old ≡ 294912 }
-    ensures some { IfOk result (λ count. (text : List ℕ) × IsPartText mode.now root.now.0 part.now text × (count ≡ written_count part.now text)
+    ensures some { IfOk result (λ count. (text : List ℕ) × IsVerifiedText mode.now root.now.0 part.now text × (count ≡ written_count part.now text)
         × Appends (W.contents out.old) (W.contents out.new) (part_bytes part.now text)) }
     ensures known { IfSome (S.contents source.now) (λ s. IsPartText mode.now root.now.0 part.now s → DecodesKnown mode.now root.now.0 part.now (S.faultless source.now) s file.entry path.entry (W.contents out.old) (W.contents out.new) result) }
     ensures fault { IfErr result (LeavesUnknown file.entry path.entry (W.contents out.old) (W.contents out.new)) }
@@ -134,7 +134,7 @@ pub fn write_decoded<'a, S: Source, W: Write>(
     out: &mut W,
     path: &'a str,
 ) -> Result<u64, DecodeFault<'a>>
-    ensures some { IfOk result (λ count. (text : List ℕ) × IsPartText mode.now root.now.0 part.now text × (count ≡ written_count part.now text)
+    ensures some { IfOk result (λ count. (text : List ℕ) × IsVerifiedText mode.now root.now.0 part.now text × (count ≡ written_count part.now text)
         × Appends (W.contents out.old) (W.contents out.new) (part_bytes part.now text)) }
     ensures known { IfSome (S.contents source.now) (λ s. DecodesKnown mode.now root.now.0 part.now (S.faultless source.now) s file.entry path.entry (W.contents out.old) (W.contents out.new) result) }
     ensures fault { IfErr result (LeavesUnknown file.entry path.entry (W.contents out.old) (W.contents out.new)) }
@@ -183,7 +183,7 @@ pub fn write_draft<'a, S: Source, W: Write>(
     out: &mut W,
     path: &'a str,
 ) -> Result<u64, DecodeFault<'a>>
-    ensures some { IfOk result (λ count. (text : List ℕ) × IsPartText mode.now root.now.0 part.now text × (count ≡ written_count part.now text)
+    ensures some { IfOk result (λ count. (text : List ℕ) × IsVerifiedText mode.now root.now.0 part.now text × (count ≡ written_count part.now text)
         × Appends (W.contents out.old) (W.contents out.new) (part_bytes part.now text)) }
     ensures known { IfSome (S.contents source.now) (λ s. DraftsKnown mode.now root.now.0 part.now (S.faultless source.now) s file.entry path.entry (W.contents out.old) (W.contents out.new) result) }
     ensures paths { IfErr result (NamesDraftPaths file.entry path.entry) }
@@ -334,7 +334,7 @@ pub fn decode_on<'a, D: Disk, P: Progress>(
     path: &'a str,
     progress: &P,
 ) -> Result<u64, DecodeFault<'a>>
-    ensures done { IfOk result (λ count. (text : List ℕ) × AreOf (D.at disk.old file.now) text × IsPartText mode.now root.now.0 part.now text
+    ensures done { IfOk result (λ count. (text : List ℕ) × AreOf (D.at disk.old file.now) text × IsVerifiedText mode.now root.now.0 part.now text
         × (count ≡ written_count part.now text) × Puts (D.at disk.old) (D.at disk.new) path.now (Some (part_bytes part.now text))) }
     ensures kept { OnErr result (KeepsFiles (D.at disk.old) (D.at disk.new)) }
     ensures refused { IfErr result (λ fault. IsKnown (D.at disk.old path.now) → (text : List ℕ) → D.at disk.old file.now ≡ Stored text

@@ -7,7 +7,7 @@ ghost use Rattle.bao_decode.specs.TextPass.{EncodingStops, IsWholeText, task_of_
 
 use crate::copy_pass::PassFault;
 use crate::text_pass::{begin, next_block, written_of};
-use b3tree::{Hash, Mode};
+use b3tree::{Hash, Mode, bytes_are};
 use bao_check::Decoded;
 use bao_read::Source;
 use bao_text::{LENGTH_LEN, Part, claimed, write_text};
@@ -36,6 +36,8 @@ pub(crate) fn encoding_pass<S: Source, W: Write>(
         EncodingStops (task_of_part mode.now root.now.0 part.now) (S.faultless source.now) s (W.contents out.old) (W.contents out.new) fault)) }
 {
     let (mut checking, header) = begin(mode, root, part, source)?;
+    // A law, here and below, so that the proof has what it says: nothing runs.
+    bytes_are(&header);
     let (first, last) = written_of(part, claimed(&header));
     match write_text(&header, out) {
         Ok(()) => {}
@@ -49,6 +51,7 @@ pub(crate) fn encoding_pass<S: Source, W: Write>(
         block,
         room,
     )? {
+        bytes_are(block);
         match write_text(&block[..taken], out) {
             Ok(()) => {}
             Err(_) => return Err(PassFault::Output),

@@ -14,12 +14,12 @@ ghost use Rattle.bao_files.specs.Disks.{AreOf, Absent, IsKnown, IsStored, KeepsF
 ghost use Rattle.bao_files.specs.Extents.{extent_of};
 ghost use Rattle.bao_decode.specs.Copies.{BesideStops, CopiesKnown, CopyStops, IsCopyBeside, IsEnough, IsEnoughOf, LeavesUnknown};
 ghost use Rattle.bao_decode.specs.Opened.{IsNotThere, IsUnread};
-ghost use Rattle.bao_decode.specs.CopyPass.{IsGoodCopy, first_fault_of, only_fault_of, second_fault_of};
+ghost use Rattle.bao_decode.specs.CopyPass.{IsVerifiedCopy, first_fault_of, only_fault_of, second_fault_of};
 ghost use Rattle.bao_decode.specs.DecodeFaults.{IsQuietDecode, NamesDecodePaths, NamesEither};
 
 use crate::copy_pass::{PassFault, ROOM_LEN, copy_pass, fill_most};
 use crate::decode_fault::DecodeFault;
-use b3tree::{Hash, Mode};
+use b3tree::{Hash, Mode, bytes_are};
 use bao_check::{CheckFault, Outline, check_outboard};
 use bao_files::{Disk, Extent, FileFault, Progress, ReadFault, Shown, read_whole};
 use bao_read::Source;
@@ -237,7 +237,7 @@ pub fn write_copy<'a, S: Source, W: Write>(
     out: &mut W,
     path: &'a str,
 ) -> Result<u64, DecodeFault<'a>>
-    ensures some { IfOk result (λ count. (bytes : List ℕ) × IsGoodCopy outline.now bytes × (count ≡ length bytes) × Appends (W.contents out.old) (W.contents out.new) bytes) }
+    ensures some { IfOk result (λ count. (bytes : List ℕ) × IsVerifiedCopy outline.now bytes × (count ≡ length bytes) × Appends (W.contents out.old) (W.contents out.new) bytes) }
     ensures known { IfSome (S.contents copy.now) (λ s. CopiesKnown outline.now (S.faultless copy.now) s file.entry path.entry (W.contents out.old) (W.contents out.new) result) }
     ensures fault { IfErr result (LeavesUnknown file.entry path.entry (W.contents out.old) (W.contents out.new)) }
 {
@@ -283,7 +283,7 @@ fn write_input<'a, D: Disk, P: Progress>(
     progress: &P,
 ) -> Result<u64, DecodeFault<'a>>
     ensures ok { IfOk result (λ count. (bytes : List ℕ) × IsUnread (D.Input.contents input) (D.Input.remaining input) bytes
-        × IsGoodCopy outline.now bytes × (count ≡ length bytes) × Appends (D.Draft.contents out.old) (D.Draft.contents out.new) bytes) }
+        × IsVerifiedCopy outline.now bytes × (count ≡ length bytes) × Appends (D.Draft.contents out.old) (D.Draft.contents out.new) bytes) }
     ensures refused { IfErr result (λ fault. IsSome (D.Draft.contents out.old) → (bytes : List ℕ) → D.Input.contents input ≡ Some bytes
         → CopyStops outline.now (D.Input.faultless input) bytes file.entry path.entry fault) }
     ensures err { IfErr result IsQuietDecode }
@@ -331,6 +331,8 @@ pub fn decode_copy_on<'a, D: Disk, P: Progress>(
     ensures paths { IfErr result (NamesEither outboard.entry copy.entry path.entry) }
 {
     let text = read_outboard_on(alloc, disk, mode, root, outboard)?;
+    // A law, so that the proof has what it says: nothing runs.
+    bytes_are(text.as_slice());
     let outline = match check_outboard(alloc, mode, root, text.as_slice()) {
         Ok(outline) => outline,
         Err(fault) => return Err(DecodeFault::Check(fault)),

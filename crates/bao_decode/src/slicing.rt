@@ -10,7 +10,7 @@ ghost use Rattle.bao_decode.specs.Copies.{LeavesUnknown};
 ghost use Rattle.bao_decode.specs.Cutting.{IsCutOf};
 ghost use Rattle.bao_decode.specs.DecodeFaults.{IsQuietDecode, NamesDecodePaths, NamesEither};
 ghost use Rattle.bao_decode.specs.Opened.{IsNotThere};
-ghost use Rattle.bao_decode.specs.Ranges.{IsPartText, written_count};
+ghost use Rattle.bao_decode.specs.Ranges.{IsVerifiedText, written_count};
 ghost use Rattle.bao_decode.specs.TextPass.{DecodeStops, EncodesKnown};
 ghost use Rattle.bao_decode.specs.Weaving.{CutBesideStops, IsCutBeside, are_whole};
 
@@ -40,7 +40,7 @@ fn write_encoding<'a, S: Source, W: Write>(
     out: &mut W,
     path: &'a str,
 ) -> Result<u64, DecodeFault<'a>>
-    ensures some { IfOk result (λ count. (text : List ℕ) × IsPartText mode.now root.now.0 part.now text × (count ≡ written_count part.now text)
+    ensures some { IfOk result (λ count. (text : List ℕ) × IsVerifiedText mode.now root.now.0 part.now text × (count ≡ written_count part.now text)
         × Appends (W.contents out.old) (W.contents out.new) text) }
     ensures known { IfSome (S.contents source.now) (λ s. EncodesKnown mode.now root.now.0 part.now (S.faultless source.now) s file.entry path.entry (W.contents out.old) (W.contents out.new) result) }
     ensures fault { IfErr result (LeavesUnknown file.entry path.entry (W.contents out.old) (W.contents out.new)) }
@@ -95,7 +95,7 @@ pub fn write_slice<'a, S: Source, W: Write>(
     out: &mut W,
     path: &'a str,
 ) -> Result<u64, DecodeFault<'a>>
-    ensures some { IfOk result (λ count. (text : List ℕ) × IsPartText mode.now root.now.0 (Part.Slice start len) text × (count ≡ written_count (Part.Slice start len) text)
+    ensures some { IfOk result (λ count. (text : List ℕ) × IsVerifiedText mode.now root.now.0 (Part.Slice start len) text × (count ≡ written_count (Part.Slice start len) text)
         × Appends (W.contents out.old) (W.contents out.new) text) }
     ensures known { IfSome (S.contents encoding.now) (λ s. length s < 2 ^ 64 → EncodesKnown mode.now root.now.0 (Part.Slice start len) (S.faultless encoding.now) (cut_text s start len) file.entry path.entry
         (W.contents out.old) (W.contents out.new) result) }
@@ -136,7 +136,7 @@ pub fn slice_on<'a, D: Disk>(
     file: &'a str,
     path: &'a str,
 ) -> Result<u64, DecodeFault<'a>>
-    ensures done { IfOk result (λ count. (text : List ℕ) × IsCutOf (D.at disk.old file.now) start len text × IsPartText mode.now root.now.0 (Part.Slice start len) text
+    ensures done { IfOk result (λ count. (text : List ℕ) × IsCutOf (D.at disk.old file.now) start len text × IsVerifiedText mode.now root.now.0 (Part.Slice start len) text
         × (count ≡ written_count (Part.Slice start len) text) × Puts (D.at disk.old) (D.at disk.new) path.now (Some text)) }
     ensures slice { (blob : List ℕ) → IsKnown (D.at disk.old path.now) → D.at disk.old file.now ≡ Stored (combined_text mode.now blob) → length (combined_text mode.now blob) < 2 ^ 64
         → OnOk result (D.at disk.new path.now ≡ Stored (slice_text mode.now blob start len)) }
@@ -176,7 +176,7 @@ pub fn slice_beside_on<'a, D: Disk>(
     path: &'a str,
 ) -> Result<u64, DecodeFault<'a>>
     ensures done { IfOk result (λ count. (text : List ℕ) × IsCutBeside (D.at disk.old outboard.now) (D.at disk.old copy.now) start len text
-        × IsPartText mode.now root.now.0 (Part.Slice start len) text × (count ≡ written_count (Part.Slice start len) text)
+        × IsVerifiedText mode.now root.now.0 (Part.Slice start len) text × (count ≡ written_count (Part.Slice start len) text)
         × Puts (D.at disk.old) (D.at disk.new) path.now (Some text)) }
     ensures slice { (blob : List ℕ) → IsKnown (D.at disk.old path.now) → D.at disk.old outboard.now ≡ Stored (outboard_text mode.now blob) → D.at disk.old copy.now ≡ Stored blob
         → length (combined_text mode.now blob) < 2 ^ 63 → OnOk result (D.at disk.new path.now ≡ Stored (slice_text mode.now blob start len)) }

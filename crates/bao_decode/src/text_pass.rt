@@ -11,7 +11,7 @@ ghost use Rattle.bao_decode.specs.Ranges.{first_decoded, first_written, last_wri
 ghost use Rattle.bao_decode.specs.TextPass.{IsWholeText, TextStops, StopsAs, task_of_part};
 
 use crate::copy_pass::{PassFault, fill_most};
-use b3tree::{CHUNK_LEN, Hash, Mode};
+use b3tree::{CHUNK_LEN, Hash, Mode, bytes_are};
 use bao_check::{CheckFault, Checking, Decoded};
 use bao_read::Source;
 use bao_text::{Choice, LENGTH_LEN, Part, claimed, write_text};
@@ -151,6 +151,8 @@ pub(crate) fn text_pass<S: Source, W: Write>(
         TextStops (task_of_part mode.now root.now.0 part.now) (S.faultless source.now) part.now s (W.contents out.old) (W.contents out.new) fault)) }
 {
     let (mut checking, header) = begin(mode, root, part, source)?;
+    // A law, here and below, so that the proof has what it says: nothing runs.
+    bytes_are(&header);
     let total = claimed(&header);
     let (first, last) = written_of(part, total);
     let base = decoded_from(part, total);
@@ -164,6 +166,7 @@ pub(crate) fn text_pass<S: Source, W: Write>(
         block,
         room,
     )? {
+        bytes_are(block);
         match write_text(between(&room[..filled], done, skip, end), out) {
             Ok(()) => {}
             Err(_) => return Err(PassFault::Output),

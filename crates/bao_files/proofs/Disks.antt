@@ -1,13 +1,14 @@
 -- What is known of a file that was opened, and of a draft that was put.
 use Rattle.std.specs.Prelude.{◌≡◌, ℕ, List, [], Option, None, Some, IfSome}
 use Rattle.std.proofs.Common.{ap, refl, subst}
+use Rattle.b3tree.specs.Valid.{AreBytes}
 use Rattle.std.specs.Io.KnownBytes.{Appends}
 use Rattle.bao_files.specs.Disks.{FileState, Unknown, Absent, Stored, AreOf, IsKnown, Opens, Puts}
 
 -- what holds of some bytes, and of the contents where these are known, holds of the file's
 pub of_file : (state : FileState) (contents remaining : Option (List ℕ)) (P : List ℕ → Type 0) → Opens state contents remaining
-    → IfSome contents (λ s. remaining ≡ Some s → P s) → ((bytes : List ℕ) × P bytes) → (bytes : List ℕ) × AreOf state bytes × P bytes
-of_file Unknown contents remaining P opens all some = (some.0, tt, some.1)
+    → IfSome contents (λ s. remaining ≡ Some s → P s) → ((bytes : List ℕ) × AreBytes bytes × P bytes) → (bytes : List ℕ) × AreOf state bytes × P bytes
+of_file Unknown contents remaining P opens all some = (some.0, some.1, some.2)
 of_file Absent contents remaining P opens all some = absurd opens
 of_file (Stored s) contents remaining P opens all some =
     (s, refl, subst (λ (known : Option (List ℕ)). IfSome known (λ t. remaining ≡ Some t → P t)) opens.0 all opens.1)

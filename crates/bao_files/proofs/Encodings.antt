@@ -22,9 +22,9 @@ answer_again made file path (Err fault) = Err (fault_at_paths file path fault)
 pub encodes_again : (contents : Option (List ℕ)) (mode : Mode) (size : ℕ) (bytes : List ℕ) (file path : Bor (List ℕ)) (old new : Option (List ℕ)) (made : Hash) (text : List ℕ)
     (written : Result Unit AgainFault) → IsMadeEncoding mode Outboard size bytes made.0 text → EncodesAgain contents mode bytes old new written
     → EncodesLike contents mode bytes file path old new (answer_again made file path written)
-encodes_again contents mode size bytes file path old new made text (Ok done) is said = (said.0, said.1, said.3, (is.hash_is.hash_is ∙ sym said.2, said.4.0))
-encodes_again contents mode size bytes file path old new made text (Err Input) is said = (said.0, said.1, said.3, inr (inr (refl, refl, said.4.1)))
-encodes_again contents mode size bytes file path old new made text (Err Output) is said = (said.0, said.1, said.3, inr (inl (refl, said.4.1)))
+encodes_again contents mode size bytes file path old new made text (Ok done) is said = (said.0, said.1, said.3 is.hash_is.are, said.4, (is.hash_is.hash_is ∙ sym said.2, said.5.0))
+encodes_again contents mode size bytes file path old new made text (Err Input) is said = (said.0, said.1, said.3 is.hash_is.are, said.4, inr (inr (refl, refl, said.5.1)))
+encodes_again contents mode size bytes file path old new made text (Err Output) is said = (said.0, said.1, said.3 is.hash_is.are, said.4, inr (inl (refl, said.5.1)))
 
 -- so many bytes of outboard encoding were made
 pub made_len : (mode : Mode) (size : ℕ) (bytes answer text : List ℕ) → IsMadeEncoding mode Outboard size bytes answer text → length text ≡ 8 + 64 * (chunk_count size - 1)

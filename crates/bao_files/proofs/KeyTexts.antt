@@ -4,7 +4,6 @@ use Rattle.std.proofs.lemmas.List.{append_cancel_right, length-take-le, take-app
 use Rattle.std.proofs.Math.Seq.{take-append-add}
 use Rattle.std.proofs.KnownBytes.{Consumes-trans}
 use Rattle.std.specs.Io.KnownBytes.{Consumes, IsAtEnd}
-use Rattle.std.specs.List.{AllPass}
 use borrow.Rule.Slice.PartMut.{put_mid, post_of}
 use Rattle.hex.specs.Hex.{decode_of, is_hex_digit}
 use Rattle.bao_files.specs.Printed.{IsDigits}

@@ -2,6 +2,7 @@
 use Rattle.std.specs.Borrow.{Bor}
 use Rattle.std.proofs.Common.{◌≡◌, ℕ, List, length, Option, Some, Result, Ok, Err, IfErr, IsErrAnd, inl, inr, sym, subst}
 use Rattle.b3tree.specs.declared.mode.Mode.{Mode}
+use Rattle.b3tree.specs.Valid.{AreBytes}
 use Rattle.bao_read.specs.Given.{HasOther}
 use Rattle.bao_files.specs.Encoded.{Encodes, IsAfterReading, IsReadOnce}
 use Rattle.bao_files.specs.declared.fault.FileFault.{FileFault}
@@ -21,11 +22,11 @@ after mode kind bytes file path old new fault read (inr (inr h)) = absurd (read 
 -- so it is of a known file that no read of fails
 pub known_after : (mode : Mode) (kind : Kind) (contents : Option (List ℕ)) (faultless : Type 0) (size : ℕ) (file path : Bor (List ℕ)) (old new : Option (List ℕ)) (fault : FileFault)
     (bytes : List ℕ) → contents ≡ Some bytes → faultless → size ≡ length bytes → IsReadOnce kind (length bytes)
-    → ((some : List ℕ) × Encodes mode kind some file path old new (Err fault)) → (fault ≡ Read file → IsReadOnce kind size → HasOther contents faultless size) → IsAfterReading path fault
+    → ((some : List ℕ) × AreBytes some × Encodes mode kind some file path old new (Err fault)) → (fault ≡ Read file → IsReadOnce kind size → HasOther contents faultless size) → IsAfterReading path fault
 known_after mode kind contents faultless size file path old new fault bytes there sure is once encodes read =
     let unread : fault ≡ Read file → ⊥ = λ failed.
     (subst (λ (c : Option (List ℕ)). HasOther c faultless size) there (read failed (subst (IsReadOnce kind) (sym is) once))) sure (sym is) in
-    after mode kind encodes.0 file path old new fault unread encodes.1
+    after mode kind encodes.0 file path old new fault unread encodes.2
 
 -- what holds of the fault that is passed on holds of the answer
 pub passed_on : {X : Type 0} (result : Result X FileFault) (fault : FileFault) (P : FileFault → Type 0) → IsErrAnd result (λ e. e ≡ fault) → P fault → IfErr result P

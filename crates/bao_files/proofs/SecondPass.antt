@@ -12,7 +12,8 @@ use Rattle.b3tree.specs.Bytes.{bytes_of, words_of}
 use Rattle.b3tree.specs.Hashing.{hash, root_hash, rooted}
 use Rattle.b3tree.specs.Pieces.{piece}
 use Rattle.b3tree.specs.Tree.{left_len, parent_input, subtree_cv, top_input}
-use Rattle.b3tree.specs.Valid.{IsKeyed}
+use Rattle.b3tree.specs.Valid.{AreBytes, IsKeyed}
+use Rattle.b3tree.proofs.BlockWords.{AreBytes-append, AreBytes-drop, AreBytes-take}
 use Rattle.b3tree.proofs.HashOutput.{length-bytes_of, length-out}
 use Rattle.b3tree.proofs.Pieces.{piece-piece}
 use Rattle.b3tree.proofs.Ranges.{top_input-IsInput, words_of-cv}
@@ -65,15 +66,16 @@ sends_after front text old mid new (Ok done) all sent = (Appends-trans old mid n
 sends_after front text old mid new (Err fault) all sent = (tt, part_rest old mid new front text all sent.1)
 
 pub replaces_same : (contents : Option (List ℕ)) (mode : Mode) (first : ℕ) (before : List ℕ) → Replaces contents mode first before before
-replaces_same contents mode first before = record { len_is = refl; value = refl; given = λ h. h }
+replaces_same contents mode first before = record { len_is = refl; value = refl; are = λ h. h; given = λ h. h }
 
 -- bytes that were verified
 pub replaces_read : (contents : Option (List ℕ)) (mode : Mode) (first : ℕ) (before again asked : List ℕ) → length again ≡ length before
-    → subtree_cv mode first before ≡ asked → subtree_cv mode first again ≡ asked → GivenAt contents (1024 * first) again
+    → subtree_cv mode first before ≡ asked → subtree_cv mode first again ≡ asked → AreBytes again → GivenAt contents (1024 * first) again
     → Replaces contents mode first before again
-replaces_read contents mode first before again asked len_is before_is again_is given = record {
+replaces_read contents mode first before again asked len_is before_is again_is bytes given = record {
   len_is = len_is;
   value = again_is ∙ sym before_is;
+  are = λ _. bytes;
   given = λ _. given;
 }
 
@@ -238,6 +240,7 @@ joins contents total mode first l parent near_parents far_parents before near fa
       replaces = record {
         len_is = len_is;
         value = ap cv top;
+        are = λ bytes. AreBytes-append near far (one.are (AreBytes-take l before bytes)) (other.are (AreBytes-drop l before bytes));
         given = λ given.
             let halves = given_parts contents (1024 * first) l before (omega (arith, parted.below)) given in
             let far_given : GivenAt contents (1024 * (first + l / 1024)) far = other.given (subst (λ (p : ℕ). GivenAt contents p (drop l before)) (sym place_before) halves.1) in

@@ -5,6 +5,7 @@ use Rattle.std.specs.Io.KnownBytes.{Appends}
 use Rattle.b3tree.specs.declared.mode.Mode.{Mode}
 use Rattle.b3tree.specs.Hashing.{hash}
 use Rattle.b3tree.specs.Tree.{subtree_cv}
+use Rattle.b3tree.specs.Valid.{AreBytes}
 use Rattle.bao_read.specs.Given.{GivenAt}
 use Rattle.bao_text.specs.Pieces.{whole_text}
 use Rattle.bao_text.specs.Texts.{combined_text}
@@ -18,10 +19,11 @@ use Rattle.bao_files.specs.Encoded.{AppendsPart}
 abbrev pub Sends : List ℕ → Option (List ℕ) → Option (List ℕ) → Result Unit AgainFault → Type 0
 Sends text old new result = OnOk result (Appends old new text) × OnErr result (AppendsPart old new text)
 
--- bytes that have the value of those before, whose first chunk has the number `first`, and are the contents' if those are
+-- what has the value of those before, whose first chunk has the number `first`, is made of bytes if those are, and is the contents' if those are
 pub record Replaces (contents : Option (List ℕ)) (mode : Mode) (first : ℕ) (before again : List ℕ) : Type 0 where
   pub len_is : length again ≡ length before
   pub value : subtree_cv mode first again ≡ subtree_cv mode first before
+  pub are : AreBytes before → AreBytes again
   pub given : GivenAt contents (1024 * first) before → GivenAt contents (1024 * first) again
 
 -- the encoding of such bytes was written, as that of a subtree of a blob of `total` bytes, or a beginning of it
@@ -33,6 +35,7 @@ WritesAgain contents total mode first before old new result =
 abbrev pub EncodesAgain : Option (List ℕ) → Mode → List ℕ → Option (List ℕ) → Option (List ℕ) → Result Unit AgainFault → Type 0
 EncodesAgain contents mode before old new result =
     (again : List ℕ) × (length again ≡ length before) × (hash mode again ≡ hash mode before)
+    × (AreBytes before → AreBytes again)
     × (GivenAt contents 0 before → GivenAt contents 0 again)
     × Sends (combined_text mode again) old new result
 

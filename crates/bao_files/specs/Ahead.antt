@@ -2,6 +2,7 @@
 use Rattle.std.specs.Prelude.{◌≡◌, ℕ, ◌*◌, List, length, Option, None, Ok, IfOk, IfSome}
 use Rattle.b3tree.specs.declared.mode.Mode.{Mode}
 use Rattle.b3tree.specs.Tree.{subtree_cv}
+use Rattle.b3tree.specs.Valid.{AreBytes}
 use Rattle.bao_read.specs.Given.{GivenAt}
 use Rattle.bao_text.specs.declared.choice.Choice.{Choice}
 use Rattle.bao_text.specs.Texts.{subtree_text}
@@ -12,6 +13,7 @@ use Rattle.bao_files.specs.declared.ahead.Pieces.{Pieces}
 -- are known
 pub record IsPieceOf (contents : Option (List ℕ)) (choice : Choice) (mode : Mode) (first len : ℕ) (value text : List ℕ) : Type 0 where
   pub bytes : List ℕ
+  pub are : AreBytes bytes
   pub len_is : length bytes ≡ len
   pub given : GivenAt contents (1024 * first) bytes
   pub value_is : subtree_cv mode first bytes ≡ value

@@ -1,5 +1,6 @@
 -- what is known of the files at paths, and what a task does to them
 use Rattle.std.specs.Prelude.{◌≡◌, ◌≢◌, ℕ, List, Option, Some, IfSome, ⊤}
+use Rattle.b3tree.specs.Valid.{AreBytes}
 
 -- what is known of a path: nothing, or that no file is there, or the bytes of the one that is
 pub data FileState : Type 0 where
@@ -19,9 +20,9 @@ IsStored Unknown = ⊥
 IsStored Absent = ⊥
 IsStored (Stored bytes) = ⊤
 
--- these are the bytes of the file there, as far as they are known: where none is there are none
+-- these are the bytes of the file there: those that it is known to have, or, where that is unknown, some bytes; where none is there are none
 abbrev pub AreOf : FileState → List ℕ → Type 0
-AreOf Unknown bytes = ⊤
+AreOf Unknown bytes = AreBytes bytes
 AreOf Absent bytes = ⊥
 AreOf (Stored s) bytes = bytes ≡ s
 

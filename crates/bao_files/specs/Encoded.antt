@@ -5,6 +5,7 @@ use Rattle.std.specs.Io.KnownBytes.{Appends, Keeps}
 use Rattle.b3tree.specs.declared.mode.Mode.{Mode}
 use Rattle.b3tree.specs.declared.values.Hash.{Hash}
 use Rattle.b3tree.specs.Hashing.{hash}
+use Rattle.b3tree.specs.Valid.{AreBytes}
 use Rattle.bao_text.specs.declared.fault.WriteFault.{WriteFault}
 use Rattle.bao_text.specs.declared.fault.WriteFault.TheVariants as text
 use Rattle.bao_read.specs.Given.{GivenAt, IsHashOf}
@@ -48,7 +49,7 @@ Encodes mode kind bytes file path old new (Err fault) =
 -- the same of bytes that have the hash of these, and are the contents if these are
 abbrev pub EncodesLike : Option (List ℕ) → Mode → List ℕ → Bor (List ℕ) → Bor (List ℕ) → Option (List ℕ) → Option (List ℕ) → Result Hash FileFault → Type 0
 EncodesLike contents mode bytes file path old new result =
-    (again : List ℕ) × (length again ≡ length bytes) × (GivenAt contents 0 bytes → GivenAt contents 0 again)
+    (again : List ℕ) × (length again ≡ length bytes) × AreBytes again × (GivenAt contents 0 bytes → GivenAt contents 0 again)
     × Encodes mode Combined again file path old new result
 
 -- Its file is read once: it is no combined encoding, or of fewer than 4 MiB. Else the file is read a second time while its encoding is written.

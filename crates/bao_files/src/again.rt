@@ -5,6 +5,7 @@ ghost use Rattle.std.specs.Prelude.{◌≡◌, ℕ, ◌+◌, ◌-◌, ◌*◌, �
 ghost use Rattle.std.specs.Io.KnownBytes.{Appends};
 ghost use Rattle.b3tree.specs.Bytes.{words_of};
 ghost use Rattle.b3tree.specs.Tree.{subtree_cv, top_input};
+ghost use Rattle.b3tree.specs.Valid.{AreBytes};
 ghost use Rattle.bao_read.specs.Given.{GivenAt};
 ghost use Rattle.bao_text.specs.Choice.{chunk_count, of_combined};
 ghost use Rattle.bao_text.specs.Pieces.{HasParents, whole_text};
@@ -14,7 +15,7 @@ ghost use Rattle.bao_files.specs.Ahead.{AreRead, AreUnread};
 ghost use Rattle.bao_files.specs.Encoded.{AppendsPart};
 
 use crate::ahead::Pieces;
-use b3tree::{CHUNK_LEN, Cv, Mode, cv, left_len, top_input};
+use b3tree::{CHUNK_LEN, Cv, Mode, bytes_are, cv, left_len, top_input};
 use bao_read::{Source, fill};
 use bao_text::{CV_LEN, Choice, LENGTH_LEN, PARENT_LEN, write_text};
 use std::io::Write;
@@ -49,11 +50,14 @@ fn read_chunk<S: Source>(
 ) -> Result<(), AgainFault>
     requires { 1024 * first + length chunk.old ≤ 2 ^ 64 - 1 }
     ensures given { OnOk result (GivenAt (S.contents source.now) (1024 * first) chunk.new) }
+    ensures are { OnOk result (AreBytes chunk.new) }
     ensures value { OnOk result (subtree_cv mode.now first chunk.new ≡ asked.now.0) }
 {
     if fill(source, CHUNK_LEN as u64 * first, chunk).is_err() {
         return Err(AgainFault::Input);
     }
+    // A law, so that the proof has what it says: nothing runs.
+    bytes_are(chunk);
     if Cv(cv(&top_input(mode, first, chunk))) != *asked {
         return Err(AgainFault::Input);
     }

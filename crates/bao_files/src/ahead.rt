@@ -8,7 +8,7 @@ ghost use Rattle.bao_files.specs.Again.{Sends};
 ghost use Rattle.bao_files.specs.Ahead.{AreRead, AreUnread, IsPieceOf, IsRead, IsUnread};
 
 use crate::again::{AgainFault, send};
-use b3tree::{CHUNK_LEN, Cv, Mode, cv};
+use b3tree::{CHUNK_LEN, Cv, Mode, bytes_are, cv};
 use bao_read::{Source, fill};
 use bao_text::{Choice, append_subtree, subtree_size};
 use std::alloc::{AllocError, Global};
@@ -57,6 +57,8 @@ fn make<S: Source>(
     if fill(source, CHUNK_LEN as u64 * first, bytes).is_err() {
         return Err(AgainFault::Input);
     }
+    // A law, so that the proof has what it says: nothing runs.
+    bytes_are(bytes);
     text.clear();
     match append_subtree(choice, mode, first, bytes, text) {
         Ok(top) => Ok(Some(Cv(cv(&top)))),

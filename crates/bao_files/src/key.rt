@@ -1,10 +1,12 @@
 ghost use Rattle.std.specs.Prelude.{◌≡◌, ◌⊎◌, ◌<◌, ◌≤◌, ◌++◌, ◌∷◌, ℕ, List, [], length, take, IfErr, IfOk, IfSome};
 ghost use Rattle.std.specs.Io.KnownBytes.{Consumes, IsAtEnd};
+ghost use Rattle.b3tree.specs.Valid.{AreBytes};
 ghost use Rattle.bao_files.specs.Keys.{GivesKey, IsKeyText};
 
 use crate::digits::decoded;
 use crate::fault::FileFault;
 use crate::input::ReadFault;
+use b3tree::bytes_are;
 use std::io::Read;
 
 // The most bytes of a file that matter to the key in it: 64 digits, a line end, and a byte that is one too many.
@@ -57,13 +59,18 @@ pub fn read_key<'a, I: Read>(
     path: &'a str,
 ) -> Result<Option<[u8; 32]>, FileFault<'a>>
     ensures key { IfOk result (λ key. IfSome (I.remaining input.old) (λ left. GivesKey left key)) }
-    ensures some { IfOk result (λ key. (bytes : List ℕ) × GivesKey bytes key) }
+    ensures some { IfOk result (λ key. (bytes : List ℕ) × AreBytes bytes × GivesKey bytes key) }
     ensures taken { (taken : List ℕ) × (length taken ≤ 66) × Consumes (I.remaining input.old) (I.remaining input.new) taken }
     ensures fault { IfErr result (λ fault. fault ≡ FileFault.Read path.entry) }
 {
     let mut room = [0; MOST_LEN];
     match read_start(input, &mut room) {
-        Ok(count) => Ok(key_of(&room[..count])),
+        Ok(count) => {
+            let bytes = &room[..count];
+            // A law, so that the proof has what it says: nothing runs.
+            bytes_are(bytes);
+            Ok(key_of(bytes))
+        }
         Err(_) => Err(FileFault::Read(path)),
     }
 }

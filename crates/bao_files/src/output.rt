@@ -2,6 +2,7 @@ ghost use Rattle.bao_read.specs.Given.{HasOther};
 ghost use Rattle.std.specs.Prelude.{◌≡◌, ◌≢◌, ◌⊎◌, ℕ, ◌+◌, ◌-◌, ◌*◌, ◌<◌, ◌≤◌, List, length, None, Ok, IfErr, IfOk, IfSome, OnErr, OnOk, Some};
 ghost use Rattle.std.specs.Io.KnownBytes.{Appends};
 ghost use Rattle.b3tree.specs.Hashing.{hash};
+ghost use Rattle.b3tree.specs.Valid.{AreBytes};
 ghost use Rattle.bao_text.specs.Faults.{WroteOnly};
 ghost use Rattle.bao_text.specs.Texts.{joined};
 ghost use Rattle.bao_files.specs.Disks.{AreOf, Absent, IsKnown, KeepsFiles, Puts, Stored};
@@ -20,7 +21,7 @@ use crate::fault::FileFault;
 use crate::input::{LEAST_SHARED_LEN, read_input, read_placed};
 use crate::progress::Progress;
 use crate::shown::Shown;
-use b3tree::{Hash, Mode};
+use b3tree::{Hash, Mode, bytes_are};
 use bao_read::{ReadFault, Source, WORKERS, outboard_source, slice_source};
 use bao_text::{
     Encoding, WriteFault, outboard, outboard_len, slice, write_combined, write_text, write_texts,
@@ -239,7 +240,7 @@ pub fn encode_input<'a, R: Threads + Sync + AllocGlobal, I: Read + Source + Sync
 ) -> Result<Hash, FileFault<'a>>
     ensures all { IfSome (I.contents input.old) (λ s. I.remaining input.old ≡ Some s
         → Encodes mode.now encoding s file.entry path.entry (W.contents out.old) (W.contents out.new) result) }
-    ensures some { (bytes : List ℕ) × Encodes mode.now encoding bytes file.entry path.entry (W.contents out.old) (W.contents out.new) result }
+    ensures some { (bytes : List ℕ) × AreBytes bytes × Encodes mode.now encoding bytes file.entry path.entry (W.contents out.old) (W.contents out.new) result }
     ensures read { IfErr result (λ fault. fault ≡ FileFault.Read file.entry → IsReadOnce encoding size → HasOther (I.contents input.old) (I.faultless input.old) size) }
 {
     let alloc = rt.alloc();
@@ -253,6 +254,8 @@ pub fn encode_input<'a, R: Threads + Sync + AllocGlobal, I: Read + Source + Sync
         Ok(None) if size >= LEAST_SHARED_LEN => read_input(alloc, input, size, file)?,
         Ok(None) | Err(_) => read_placed(alloc, input, size, file)?,
     };
+    // A law, so that the proof has what it says: nothing runs.
+    bytes_are(bytes.as_slice());
     let written = write_encoding(alloc, mode, encoding, bytes.as_slice(), out);
     answer_at(written, path)
 }

@@ -3,6 +3,7 @@ ghost use Rattle.std.specs.Io.KnownBytes.{Consumes, IsAtEnd};
 ghost use Rattle.b3tree.specs.declared.mode.Mode.{Mode};
 ghost use Rattle.b3tree.specs.Hashing.{stream};
 ghost use Rattle.b3tree.specs.Taken.{Holds};
+ghost use Rattle.b3tree.specs.Valid.{AreBytes};
 ghost use Rattle.bao_files.specs.Disks.{AreOf};
 ghost use Rattle.bao_files.specs.Printed.{OnOutput, Prints, digits_line};
 
@@ -12,7 +13,7 @@ use crate::fault::FileFault;
 use crate::input::ReadFault;
 use crate::progress::Progress;
 use crate::shown::Shown;
-use b3tree::{Hash, Hasher, Mode};
+use b3tree::{Hash, Hasher, Mode, bytes_are};
 use bao_read::{Source, WORKERS, hash_source};
 use std::alloc::Global;
 use std::io::{Read, Write};
@@ -33,7 +34,7 @@ fn hash_some<R: Read>(
 ) -> Result<usize, ReadFault>
     requires { 0 < length piece.old }
     ensures room { length piece.new ≡ length piece.old }
-    ensures taken { IfOk result (λ count. (taken : List ℕ) × Consumes (R.remaining reader.old) (R.remaining reader.new) taken
+    ensures taken { IfOk result (λ count. (taken : List ℕ) × Consumes (R.remaining reader.old) (R.remaining reader.new) taken × AreBytes taken
         × ((mode : Mode) (s : List ℕ) → Holds hasher.old mode s → Holds hasher.new mode (s ++ taken))) }
     ensures end { IfOk result (λ count. count ≡ 0 → IsAtEnd (R.remaining reader.new)) }
     ensures fault { IfErr result (λ fault. fault ≡ ReadFault.Reader) }
@@ -42,7 +43,10 @@ fn hash_some<R: Read>(
         Ok(count) => count,
         Err(_) => return Err(ReadFault::Reader),
     };
-    match hasher.update(&piece[..count]) {
+    let taken = &piece[..count];
+    // A law, so that the proof has what it says: nothing runs.
+    bytes_are(taken);
+    match hasher.update(taken) {
         Ok(()) => Ok(count),
         Err(_) => Err(ReadFault::Reader),
     }
@@ -59,7 +63,7 @@ pub fn hash_reader<R: Read>(
 ) -> Result<Hasher, ReadFault>
     requires { 0 < length piece.old }
     ensures all { IfOk result (λ hasher. IfSome (R.remaining reader.old) (λ left. Holds hasher mode.now left)) }
-    ensures some { IfOk result (λ hasher. (bytes : List ℕ) × Holds hasher mode.now bytes) }
+    ensures some { IfOk result (λ hasher. (bytes : List ℕ) × AreBytes bytes × Holds hasher mode.now bytes) }
     ensures end { OnOk result (IsAtEnd (R.remaining reader.new)) }
     ensures fault { IfErr result (λ fault. fault ≡ ReadFault.Reader) }
 {
@@ -90,7 +94,7 @@ pub fn print_reader<'a, R: Read, W: Write>(
     requires { at + len ≤ 2 ^ 64 - 1 }
     ensures all { IfSome (R.remaining reader.old) (λ left.
         Prints (digits_line (stream mode.now left at len)) (W.contents out.old) (W.contents out.new) result) }
-    ensures some { (bytes : List ℕ) × Prints (digits_line (stream mode.now bytes at len)) (W.contents out.old) (W.contents out.new) result }
+    ensures some { (bytes : List ℕ) × AreBytes bytes × Prints (digits_line (stream mode.now bytes at len)) (W.contents out.old) (W.contents out.new) result }
     ensures end { OnOk result (IsAtEnd (R.remaining reader.new)) }
     ensures fault { IfErr result (λ fault. (fault ≡ FileFault.Memory) ⊎ (fault ≡ FileFault.Output) ⊎ (fault ≡ FileFault.Read path.entry)) }
 {
@@ -110,7 +114,7 @@ fn shared_hash<R: AllocGlobal + Threads + Sync, I: Source + Sync>(
     len: Option<u64>,
 ) -> Option<Hash>
     ensures all { IfSome result (λ hash. IfSome (I.contents input.now) (λ s. hash.0 ≡ stream mode.now s 0 32)) }
-    ensures some { IfSome result (λ hash. (bytes : List ℕ) × (hash.0 ≡ stream mode.now bytes 0 32)) }
+    ensures some { IfSome result (λ hash. (bytes : List ℕ) × AreBytes bytes × (hash.0 ≡ stream mode.now bytes 0 32)) }
 {
     hash_source(rt, rt.alloc(), mode, input, len?, WORKERS).ok()
 }
@@ -131,7 +135,7 @@ pub fn print_input<'a, R: AllocGlobal + Threads + Sync, I: Read + Source + Sync,
     requires { at + len ≤ 2 ^ 64 - 1 }
     ensures all { IfSome (I.contents input.old) (λ s. I.remaining input.old ≡ Some s
         → Prints (digits_line (stream mode.now s at len)) (W.contents out.old) (W.contents out.new) result) }
-    ensures some { (bytes : List ℕ) × Prints (digits_line (stream mode.now bytes at len)) (W.contents out.old) (W.contents out.new) result }
+    ensures some { (bytes : List ℕ) × AreBytes bytes × Prints (digits_line (stream mode.now bytes at len)) (W.contents out.old) (W.contents out.new) result }
     ensures fault { IfErr result (λ fault. (fault ≡ FileFault.Memory) ⊎ (fault ≡ FileFault.Output) ⊎ (fault ≡ FileFault.Read path.entry)) }
 {
     if at == 0 && len == HASH_LEN {

@@ -3,7 +3,7 @@ use Rattle.std.specs.Borrow.{Bor}
 use Rattle.std.proofs.Common.{◌≡◌, ◌⊎◌, ℕ, ◌^◌, ◌<◌, List, length, Result, Ok, Err, OnOk, ap, subst, ◌∙◌, inl, inr}
 use Rattle.b3tree.specs.declared.mode.Mode.{Mode}
 use Rattle.b3tree.specs.declared.values.Hash.{Hash}
-use Rattle.b3tree.specs.Valid.{IsKeyed}
+use Rattle.b3tree.specs.Valid.{AreBytes, IsKeyed}
 use Rattle.bao_check.proofs.Laws.{first_fault-not_accepted}
 use Rattle.bao_check.proofs.Written.{claimed-chosen_text, outboard_accepted}
 use Rattle.bao_check.specs.Accepted.{IsAccepted, outboard_nodes}
@@ -26,13 +26,14 @@ use Rattle.bao_tasks.specs.FromFiles.{CollidesBeside, CollidesBesideOutline, IsF
 use Rattle.bao_tasks.specs.Gathered.{HasOutlineIn}
 
 -- what was accepted is what the file has, as far as that is known
-pub are_of : (state : FileState) (mode : Mode) (root text : List ℕ) → IsEnoughOf mode root state text → IsAccepted mode root text (outboard_nodes text) → AreOf state text
-are_of Unknown mode root text enough accepted = tt
-are_of Absent mode root text enough accepted = enough
-are_of (Stored all) mode root text enough accepted = enough.whole accepted
+pub are_of : (state : FileState) (mode : Mode) (root text : List ℕ) → IsEnoughOf mode root state text → IsAccepted mode root text (outboard_nodes text) → AreBytes text → AreOf state text
+are_of Unknown mode root text enough accepted bytes = bytes
+are_of Absent mode root text enough accepted bytes = enough
+are_of (Stored all) mode root text enough accepted bytes = enough.whole accepted
 
-pub outline_in : (state : FileState) (mode : Mode) (root text : List ℕ) → IsEnoughOf mode root state text → IsAccepted mode root text (outboard_nodes text) → HasOutlineIn state mode root
-outline_in state mode root text enough accepted = (text, are_of state mode root text enough accepted, accepted)
+pub outline_in : (state : FileState) (mode : Mode) (root text : List ℕ) → IsEnoughOf mode root state text → IsAccepted mode root text (outboard_nodes text) → AreBytes text
+    → HasOutlineIn state mode root
+outline_in state mode root text enough accepted bytes = (text, are_of state mode root text enough accepted bytes, accepted)
 
 pub where_ok : {T E : Type 0} (r : Result T E) (P : Type 0) → P → OnOk r P
 where_ok (Ok x) P p = p

@@ -4,6 +4,8 @@ use Rattle.std.proofs.KnownBytes.{Appends-kept, Appends-trans}
 use Rattle.std.proofs.Math.Seq.{take-add}
 use Rattle.std.proofs.lemmas.List.{length-drop, length-take-le, take-take, take_all, take_at}
 use Rattle.std.specs.Io.KnownBytes.{Appends}
+use Rattle.b3tree.specs.Valid.{AreBytes}
+use Rattle.b3tree.proofs.BlockWords.{AreBytes-append}
 use Rattle.bao_files.specs.Printed.{AppendsBeginning}
 use Rattle.bao_tasks.specs.declared.gathered_fault.GatheredFault.{GatheredFault}
 use Rattle.bao_tasks.specs.declared.gathered_fault.GatheredFault.TheVariants.{Gather}
@@ -30,6 +32,13 @@ pub more_written : (old mid out : Option (List ℕ)) (blob rest new : List ℕ) 
 more_written old mid out blob rest new at n within is before now =
     subst (λ (xs : List ℕ). Appends old out xs) (ap (λ (xs : List ℕ). take at blob ++ xs) (part_is blob rest new at n within is) ∙ sym (take-add at n blob))
     (Appends-trans old mid out (take at blob) (take n new) before now)
+
+-- which is made of bytes, as what was written before
+pub more_bytes : (blob rest new : List ℕ) (at n : ℕ) → n ≤ length blob - at → new ≡ take n (drop at blob) ++ rest → AreBytes (take at blob) → AreBytes (take n new)
+    → AreBytes (take (at + n) blob)
+more_bytes blob rest new at n within is before now =
+    subst AreBytes (ap (λ (xs : List ℕ). take at blob ++ xs) (part_is blob rest new at n within is) ∙ sym (take-add at n blob))
+    (AreBytes-append (take at blob) (take n new) before now)
 
 -- or a beginning of the part
 pub part_written : (old mid out : Option (List ℕ)) (blob rest new : List ℕ) (at n : ℕ) (fault : WriteFault) → n ≤ length blob - at

@@ -4,6 +4,7 @@ use Rattle.std.specs.Prelude.{◌≡◌, ◌⊎◌, ℕ, ◌*◌, ◌≤◌, Boo
 use Rattle.std.specs.Io.KnownBytes.{Appends, Keeps}
 use Rattle.b3tree.specs.declared.mode.Mode.{Mode}
 use Rattle.b3tree.specs.Hashing.{hash}
+use Rattle.b3tree.specs.Valid.{AreBytes}
 use Rattle.bao_text.specs.Texts.{combined_text}
 use Rattle.bao_check.specs.Accepted.{IsAccepted, outboard_nodes}
 use Rattle.gather.specs.declared.fault.GatherFault.{GatherFault}
@@ -34,9 +35,9 @@ abbrev pub Fits : Bool → ℕ → ℕ → Type 0
 Fits true capacity n = Unit {0}
 Fits false capacity n = n ≤ 1024 * capacity
 
--- the blob has this root, and fits
+-- the blob has this root, fits, and is made of bytes: numbers below 256
 abbrev pub HasRootAndFits : Gathering → Mode → List ℕ → List ℕ → Type 0
-HasRootAndFits how mode root blob = (hash mode blob ≡ root) × Fits how.long how.capacity (length blob)
+HasRootAndFits how mode root blob = (hash mode blob ≡ root) × Fits how.long how.capacity (length blob) × AreBytes blob
 
 -- there was no memory for the encoding, and nothing was written, or writing to this path failed, and a beginning of it was
 abbrev pub IsUnwritten : Bor (List ℕ) → List ℕ → Option (List ℕ) → Option (List ℕ) → FileFault → Type 0
@@ -48,10 +49,10 @@ abbrev pub IsUnwrittenWhole : Bor (List ℕ) → List ℕ → Option (List ℕ) 
 IsUnwrittenWhole path text old new fault =
     ((fault ≡ Gather Memory) × Keeps old new) ⊎ ((fault ≡ File Encoding) × Keeps old new) ⊎ ((fault ≡ File (Write path)) × AppendsBeginning old new text)
 
--- the text of such a blob of `count` bytes was written
+-- the text of such a blob, made of `count` bytes, was written
 abbrev pub WritesBlob : Gathering → Mode → List ℕ → Option (List ℕ) → Option (List ℕ) → ℕ → Type 0
 WritesBlob how mode root old new count =
-    (blob : List ℕ) × IsGathered how mode root blob × (count ≡ length blob) × Appends old new (gathered_text how.encode mode blob)
+    (blob : List ℕ) × IsGathered how mode root blob × (count ≡ length blob) × Appends old new (gathered_text how.encode mode blob) × AreBytes blob
 
 -- a beginning of that of such a blob was written
 abbrev pub BeginsBlob : Gathering → Mode → List ℕ → Option (List ℕ) → Option (List ℕ) → Type 0

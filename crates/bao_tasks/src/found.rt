@@ -1,11 +1,12 @@
 ghost use Rattle.std.specs.Prelude.{◌≡◌, ◌<◌, IfErr, IfOk, OnErr, OnOk, length};
 ghost use Rattle.std.specs.Io.KnownBytes.{Appends};
+ghost use Rattle.b3tree.specs.Valid.{AreBytes};
 ghost use Rattle.bao_files.specs.Printed.{AppendsBeginning};
 ghost use Rattle.bao_text.specs.Faults.{WroteOnly};
 ghost use Rattle.bao_tasks.specs.Gathered.{IsUnwritten, IsUnwrittenWhole, gathered_text};
 
 use crate::gathered_fault::GatheredFault;
-use b3tree::Mode;
+use b3tree::{Mode, bytes_are};
 use bao_files::FileFault;
 use bao_read::PIECE_LEN;
 use bao_text::{WriteFault, write_combined, write_text};
@@ -19,12 +20,16 @@ fn write_parts<W: Write>(blob: &mut Whole, part: &mut [u8], out: &mut W) -> Resu
     requires room { 0 < length part.old }
     ensures same { blob.new ≡ blob.old }
     ensures text { OnOk result (Appends (W.contents out.old) (W.contents out.new) blob.old) }
+    ensures are { OnOk result (AreBytes blob.old) }
     ensures err { OnErr result (AppendsBeginning (W.contents out.old) (W.contents out.new) blob.old) }
 {
     let mut at: u64 = 0;
     'parts: while at < blob.len() {
         let count = blob.read(at, part);
-        match write_text(&part[..count], out) {
+        let next = &part[..count];
+        // A law, so that the proof has what it says: nothing runs.
+        bytes_are(next);
+        match write_text(next, out) {
             Ok(()) => at += count as u64,
             Err(fault) => return Err(fault),
         }
@@ -41,6 +46,7 @@ fn write_in_parts<'a, W: Write>(
 ) -> Result<u64, GatheredFault<'a>>
     ensures count { IfOk result (λ count. count ≡ length blob.old) }
     ensures text { OnOk result (Appends (W.contents out.old) (W.contents out.new) blob.old) }
+    ensures are { OnOk result (AreBytes blob.old) }
     ensures fault { IfErr result (IsUnwrittenWhole path.entry blob.old (W.contents out.old) (W.contents out.new)) }
 {
     let Ok(mut part) = vec![in alloc; 0u8; PIECE_LEN] else {
@@ -112,6 +118,7 @@ pub(crate) fn write_found<'a, W: Write>(
 ) -> Result<u64, GatheredFault<'a>>
     ensures count { IfOk result (λ count. count ≡ length blob) }
     ensures text { OnOk result (Appends (W.contents out.old) (W.contents out.new) (gathered_text encode mode.now blob)) }
+    ensures are { OnOk result (AreBytes blob) }
     ensures fault { IfErr result (IsUnwrittenWhole path.entry (gathered_text encode mode.now blob) (W.contents out.old) (W.contents out.new)) }
 {
     let mut blob = blob;
@@ -122,5 +129,7 @@ pub(crate) fn write_found<'a, W: Write>(
         return Err(GatheredFault::Gather(GatherFault::Memory));
     };
     drop(blob);
+    // A law, so that the proof has what it says: nothing runs.
+    bytes_are(bytes.as_slice());
     Ok(write_whole(alloc, mode, encode, bytes.as_slice(), path, out)?)
 }

@@ -28,7 +28,7 @@ use crate::notes::Notes;
 use crate::watched::Watched;
 use crate::worth::{Worth, worth_of_copy, worth_of_encoding};
 use crate::writing::write_gathered;
-use b3tree::{CHUNK_LEN, Hash, Mode};
+use b3tree::{CHUNK_LEN, Hash, Mode, bytes_are};
 use bao_check::check_outboard;
 use bao_decode::read_outboard_on;
 use bao_files::{Disk, FileFault, Progress, STANDARD_INPUT};
@@ -647,6 +647,8 @@ pub fn gather_beside_on<'a, R: AllocGlobal + Threads + Sync, D: Disk, P: Progres
     mode.is_keyed();
     let alloc = rt.alloc();
     let text = read_outboard_on(alloc, disk, mode, root, outboard)?;
+    // A law, so that the proof has what it says: nothing runs.
+    bytes_are(text.as_slice());
     let outline = match check_outboard(alloc, mode, root, text.as_slice()) {
         Ok(outline) => outline,
         Err(fault) => return Err(GatheredFault::Outboard(fault)),

@@ -10,7 +10,7 @@ ghost use Rattle.bao_tasks.specs.Replayed.{AreOfAll, IsAcceptedRun, IsRefusedRun
 ghost use Rattle.bao_tasks.specs.RerunFaults.{IsOfNoFile, NamesRead};
 
 use crate::rerun_fault::RerunFault;
-use b3tree::{Hash, Mode};
+use b3tree::{Hash, Mode, bytes_are};
 use bao_files::{Disk, FileFault, read_input};
 use bao_script::{ScriptFault, parse, replay_script};
 use std::alloc::Global;
@@ -24,7 +24,10 @@ fn read_one<'a, D: Disk>(alloc: Global, disk: &D, path: &'a str) -> Result<Vec<u
     let Some(extent) = disk.extent(&file) else {
         return Err(FileFault::Read(path));
     };
-    read_input(alloc, &mut file, extent.len, path)
+    let bytes = read_input(alloc, &mut file, extent.len, path)?;
+    // A law, so that the proof has what it says: nothing runs.
+    bytes_are(bytes.as_slice());
+    Ok(bytes)
 }
 
 // The bytes of all files, in the order of the paths. The fault names the first that can't be read.

@@ -9,6 +9,7 @@ use Rattle.bao_text.specs.declared.fault.WriteFault.{WriteFault}
 use Rattle.bao_text.specs.declared.fault.WriteFault.TheVariants.{Memory, Writer}
 use Rattle.bao_text.specs.Faults.{WroteOnly}
 use Rattle.b3tree.specs.declared.mode.Mode.{Mode}
+use Rattle.b3tree.proofs.BlockWords.{AreBytes-append, AreBytes-nil}
 use Rattle.b3tree.specs.Taken.{Holds}
 use Rattle.store_core.specs.declared.fixed.Fixed.{Fixed}
 use Rattle.store_core.specs.declared.history.Piece.{Piece}
@@ -21,6 +22,7 @@ nothing handed fixed at out hasher = (
   [],
   refl,
   record {
+    are = AreBytes-nil;
     each = none_at handed fixed at [] refl;
     wrote = Appends-nil out;
     took = λ mode s holds. subst (λ (t : List ℕ). Holds hasher mode t) (sym (append-nil s)) holds;
@@ -37,6 +39,7 @@ more handed fixed at m n a b c h i j first second =
       xs ++ ys,
       omega (arith, length-append xs ys, first.1, second.1),
       record {
+        are = AreBytes-append xs ys first.2.are second.2.are;
         each = both_at handed fixed at xs ys first.2.each next;
         wrote = Appends-trans a b c xs ys first.2.wrote second.2.wrote;
         took = λ mode s holds. subst (λ (t : List ℕ). Holds j mode t) (append_assoc s xs ys) (second.2.took mode (s ++ xs) (first.2.took mode s holds));

@@ -5,6 +5,7 @@ use Rattle.b3tree.specs.declared.hasher.Hasher.{Hasher}
 use Rattle.b3tree.specs.declared.mode.Mode.{Mode}
 use Rattle.b3tree.specs.Hashing.{hash}
 use Rattle.b3tree.specs.Taken.{Holds}
+use Rattle.b3tree.specs.Valid.{AreBytes}
 use Rattle.bao_text.specs.Choice.{chunk_count}
 use Rattle.gather.specs.declared.fault.GatherFault.TheVariants.{Memory, NotTheRoot, Starved, TooLarge, Unfinished}
 use Rattle.gather.specs.HandedOut.{IsExcused}
@@ -28,8 +29,9 @@ pub record HasRoomFor (hasher : Hasher) (len : ℕ) : Type 0 where
   pub holds : Holds hasher mode taken
   pub fits : length taken + len < 2 ^ 64
 
--- These bytes, from a place on, are those of each blob with the root; they were written, and taken into the hash.
+-- These bytes, numbers below 256, from a place on, are those of each blob with the root; they were written, and taken into the hash.
 pub record IsWritten (handed : Piece → Type 0) (fixed : Fixed) (at : ℕ) (bytes : List ℕ) (old new : Option (List ℕ)) (before after : Hasher) : Type 0 where
+  pub are : AreBytes bytes
   pub each : AreBytesAt handed fixed at bytes
   pub wrote : Appends old new bytes
   pub took : TookIn before after bytes
@@ -48,6 +50,7 @@ WroteBeginning old new bytes = (count : ℕ) × (count ≤ length bytes) × Appe
 
 -- The bytes of a window were to be taken into the hash and written: they were, or a beginning was written, since writing failed.
 pub record IsPut (bytes : List ℕ) (old new : Option (List ℕ)) (before after : Hasher) (result : Result Unit WindowsFault) : Type 0 where
+  pub are : AreBytes bytes
   pub took : TookIn before after bytes
   pub text : OnOk result (Appends old new bytes)
   pub begun : WroteBeginning old new bytes
@@ -57,12 +60,13 @@ pub record IsPut (bytes : List ℕ) (old new : Option (List ℕ)) (before after 
 abbrev pub WroteBlob : (Piece → Type 0) → Wanted → ℕ → Option (List ℕ) → Option (List ℕ) → ℕ → Type 0
 WroteBlob handed wanted capacity old new count =
     (blob : List ℕ) × (hash wanted.mode blob ≡ wanted.root.0) × (chunk_count (length blob) ≤ capacity) × (count ≡ length blob)
-    × AreTheBlob handed (fixed_for wanted) blob × Appends old new blob
+    × AreTheBlob handed (fixed_for wanted) blob × Appends old new blob × AreBytes blob
 
 -- so many bytes of each blob with the root, from the first on, were, and their hash is the root
 abbrev pub WroteAll : (Piece → Type 0) → Wanted → ℕ → Option (List ℕ) → Option (List ℕ) → Type 0
 WroteAll handed wanted total old new =
     (bytes : List ℕ) × (hash wanted.mode bytes ≡ wanted.root.0) × (length bytes ≡ total) × AreBytesAt handed (fixed_for wanted) 0 bytes × Appends old new bytes
+    × AreBytes bytes
 
 -- no source has some part of a window, or there is no memory, or writing failed
 abbrev pub IsOfWindow : WindowsFault → Type 0

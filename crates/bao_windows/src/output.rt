@@ -1,12 +1,13 @@
 ghost use Rattle.std.specs.Prelude.{◌≡◌, ◌+◌, ◌<◌, length, IfErr, OnOk};
 ghost use Rattle.std.specs.Io.KnownBytes.{Appends};
+ghost use Rattle.b3tree.specs.Valid.{AreBytes};
 ghost use Rattle.bao_windows.specs.declared.fault.WindowsFault.TheVariants as WindowsFault;
 ghost use Rattle.bao_windows.specs.Windows.{window_bytes};
 ghost use Rattle.bao_windows.specs.Written.{HasRoomFor, IsPut, TookIn, WroteBeginning};
 
 use crate::fault::WindowsFault;
 use crate::window::Slot;
-use b3tree::Hasher;
+use b3tree::{Hasher, bytes_are};
 use bao_text::write_text;
 use std::io::Write;
 use std::thread::{Threads, join_mut};
@@ -17,10 +18,14 @@ const FEW_GROUPS: usize = 16;
 // Takes the bytes of a window into the hash.
 fn take_in(window: &[Slot], hasher: &mut Hasher)
     requires { HasRoomFor hasher.old (length (window_bytes window.now)) }
-    ensures { TookIn hasher.old hasher.new (window_bytes window.now) }
+    ensures took { TookIn hasher.old hasher.new (window_bytes window.now) }
+    ensures are { AreBytes (window_bytes window.now) }
 {
     for slot in window {
-        match hasher.update(slot.bytes.as_slice()) {
+        let bytes = slot.bytes.as_slice();
+        // A law, so that the proof has what it says: nothing runs.
+        bytes_are(bytes);
+        match hasher.update(bytes) {
             Ok(()) => {}
             Err(_) => unreachable!(),
         }
@@ -60,7 +65,8 @@ pub(crate) fn put_window<R: Threads + Sync, W: Write>(
         rt,
         &mut || -> ()
             requires { HasRoomFor hasher.now (length (window_bytes window.now)) }
-            ensures { TookIn hasher.entry.now hasher.exit.now (window_bytes window.entry.now) }
+            ensures took { TookIn hasher.entry.now hasher.exit.now (window_bytes window.entry.now) }
+            ensures are { AreBytes (window_bytes window.entry.now) }
         { take_in(window, hasher) },
         &mut || -> Result<(), WindowsFault>
             ensures text { OnOk result (Appends (W.contents out.entry.now) (W.contents out.exit.now) (window_bytes window.entry.now)) }

@@ -6,6 +6,7 @@ use Rattle.std.specs.Io.KnownBytes.{Appends}
 use Rattle.std.proofs.lemmas.Bool.{cases_Bool, true≢false}
 use Rattle.std.proofs.lemmas.Option.{same_Some}
 use Rattle.std.proofs.lemmas.Slice.Eq.{bytes_eq-Decides}
+use Rattle.b3tree.specs.Valid.{AreBytes}
 use Rattle.b3tree.specs.declared.mode.Mode.{Mode}
 use Rattle.b3tree.specs.declared.values.Hash.{Hash as Root32}
 use Rattle.b3tree.specs.Hashing.{hash}
@@ -97,26 +98,26 @@ module _ (at a b : List ℕ → FileState) (old one other : Option (List ℕ)) w
   blob_same m (DecodeCopy root outboard verbose copy out) s xs same gathers ours theirs printed also = absurd gathers
   blob_same m (Replay root capacity script files) s xs same gathers ours theirs printed also = absurd gathers
 
-  -- the hash of each is the root
-  hash_is : (m : Mode) (r s : Task) (xs ys : List ℕ) → SameTask r s → Gathers r → IsRight at m r xs → IsRight at m s ys → hash m xs ≡ hash m ys
-  hash_is m (Gather root workers capacity long outboard salvage encode verbose missing files out) (Gather root' workers' capacity' long' outboard' salvage' encode' verbose' missing' files' out') xs ys same gathers ours theirs =
+  -- both are made of bytes, and have one hash
+  both_are : (m : Mode) (r s : Task) (xs ys : List ℕ) → SameTask r s → Gathers r → IsRight at m r xs → IsRight at m s ys → AreBytes xs × AreBytes ys × (hash m xs ≡ hash m ys)
+  both_are m (Gather root workers capacity long outboard salvage encode verbose missing files out) (Gather root' workers' capacity' long' outboard' salvage' encode' verbose' missing' files' out') xs ys same gathers ours theirs =
       let our_key = ours.1.0.0.0 in
       let their_key = theirs.1.0.0.0 in
       let there : decode_of root.now ≡ Ok their_key = ap decode_of same.0 ∙ theirs.1.0.0.1.0 in
       let keys : our_key ≡ their_key = let first = ours.1.0.0.1.0 in cc in
-      ours.1.0.0.1.1 ∙ keys ∙ sym theirs.1.0.0.1.1
-  hash_is m (Gather root workers capacity long outboard salvage encode verbose missing files out) (Hash from' count' file') xs ys same gathers ours theirs = absurd same
-  hash_is m (Gather root workers capacity long outboard salvage encode verbose missing files out) (Encode encoding' file' out') xs ys same gathers ours theirs = absurd same
-  hash_is m (Gather root workers capacity long outboard salvage encode verbose missing files out) (CutSlice root' start' len' outboard' verbose' file' out') xs ys same gathers ours theirs = absurd same
-  hash_is m (Gather root workers capacity long outboard salvage encode verbose missing files out) (Decode root' part' verbose' file' out') xs ys same gathers ours theirs = absurd same
-  hash_is m (Gather root workers capacity long outboard salvage encode verbose missing files out) (DecodeCopy root' outboard' verbose' copy' out') xs ys same gathers ours theirs = absurd same
-  hash_is m (Gather root workers capacity long outboard salvage encode verbose missing files out) (Replay root' capacity' script' files') xs ys same gathers ours theirs = absurd same
-  hash_is m (Hash from count file) s xs ys same gathers ours theirs = absurd gathers
-  hash_is m (Encode encoding file out) s xs ys same gathers ours theirs = absurd gathers
-  hash_is m (CutSlice root start len outboard verbose file out) s xs ys same gathers ours theirs = absurd gathers
-  hash_is m (Decode root part verbose file out) s xs ys same gathers ours theirs = absurd gathers
-  hash_is m (DecodeCopy root outboard verbose copy out) s xs ys same gathers ours theirs = absurd gathers
-  hash_is m (Replay root capacity script files) s xs ys same gathers ours theirs = absurd gathers
+      (ours.1.0.0.1.2, theirs.1.0.0.1.2, ours.1.0.0.1.1 ∙ keys ∙ sym theirs.1.0.0.1.1)
+  both_are m (Gather root workers capacity long outboard salvage encode verbose missing files out) (Hash from' count' file') xs ys same gathers ours theirs = absurd same
+  both_are m (Gather root workers capacity long outboard salvage encode verbose missing files out) (Encode encoding' file' out') xs ys same gathers ours theirs = absurd same
+  both_are m (Gather root workers capacity long outboard salvage encode verbose missing files out) (CutSlice root' start' len' outboard' verbose' file' out') xs ys same gathers ours theirs = absurd same
+  both_are m (Gather root workers capacity long outboard salvage encode verbose missing files out) (Decode root' part' verbose' file' out') xs ys same gathers ours theirs = absurd same
+  both_are m (Gather root workers capacity long outboard salvage encode verbose missing files out) (DecodeCopy root' outboard' verbose' copy' out') xs ys same gathers ours theirs = absurd same
+  both_are m (Gather root workers capacity long outboard salvage encode verbose missing files out) (Replay root' capacity' script' files') xs ys same gathers ours theirs = absurd same
+  both_are m (Hash from count file) s xs ys same gathers ours theirs = absurd gathers
+  both_are m (Encode encoding file out) s xs ys same gathers ours theirs = absurd gathers
+  both_are m (CutSlice root start len outboard verbose file out) s xs ys same gathers ours theirs = absurd gathers
+  both_are m (Decode root part verbose file out) s xs ys same gathers ours theirs = absurd gathers
+  both_are m (DecodeCopy root outboard verbose copy out) s xs ys same gathers ours theirs = absurd gathers
+  both_are m (Replay root capacity script files) s xs ys same gathers ours theirs = absurd gathers
 
   module _ (words : List Text) where
     prints_agree : (r s : Request) → AsksFor words r → AsksFor words s → SameRequest r s → Gathers r.task → IsKeyKnown at r → PrintsLine r at a old one → PrintsLine s at b old other
@@ -143,7 +144,9 @@ module _ (at a b : List ℕ → FileState) (old one other : Option (List ℕ)) w
             ours = ours.1;
             theirs = theirs.1;
             apart = apart;
-            same = hash_is m r.task s.task ours.1 theirs.1 same.0 gathers ours.4 right;
+            our_bytes = (both_are m r.task s.task ours.1 theirs.1 same.0 gathers ours.4 right).0;
+            their_bytes = (both_are m r.task s.task ours.1 theirs.1 same.0 gathers ours.4 right).1;
+            same = (both_are m r.task s.task ours.1 theirs.1 same.0 gathers ours.4 right).2;
             our_files = ours.5;
             their_files = did;
             our_line = ours.6;

@@ -58,7 +58,7 @@ module _ (at : List ℕ → FileState) (m : Mode) (sure : Type 0) (xs : List ℕ
       let also : HasFault (IsTextFault (task_of_part m right.0.0 (Slice start len)) (cut_text known.0 start len)) =
       subst (λ (T : Type 0). T) (λ i. HasFault (IsTextFault (task_of_part m (key i) (Slice (sym same.1 i) (sym same.2 i))) (cut_text known.0 (sym same.1 i) (sym same.2 i)))) fault in
       accepted_apart m right.0.0 (Slice start len) (cut_text known.0 start len) (omega (arith, cut_text-few known.0 start len, short))
-      (subst (IsPartText m right.0.0 (Slice start len)) one right.0.1.1) also
+      (subst (IsPartText m right.0.0 (Slice start len)) one right.0.1.1.0) also
   judged (CutSlice root start len None verbose file out) (CutSlice root' start' len' (Some outboard) verbose' file' out') same known judge right refused =
       let no : None ≡ Some outboard.now = same.3 in cc
   judged (CutSlice root start len (Some outboard) verbose file out) (CutSlice root' start' len' None verbose' file' out') same known judge right refused =
@@ -73,14 +73,14 @@ module _ (at : List ℕ → FileState) (m : Mode) (sure : Type 0) (xs : List ℕ
       let also : HasFault (IsTextFault (task_of_part m right.0.0 (Slice start len)) (cut_text woven start len)) =
       subst (λ (T : Type 0). T) (λ i. HasFault (IsTextFault (task_of_part m (key i) (Slice (sym same.1 i) (sym same.2 i))) (cut_text woven (sym same.1 i) (sym same.2 i)))) fault in
       accepted_apart m right.0.0 (Slice start len) (cut_text woven start len) (woven_short known.0 known.1 start len known.4)
-      (subst (IsPartText m right.0.0 (Slice start len)) one right.0.1.1) also
+      (subst (IsPartText m right.0.0 (Slice start len)) one right.0.1.1.0) also
   judged (Decode root part verbose file out) (Decode root' part' verbose' file' out') same known judge right refused =
       let there : at file.now ≡ Stored xs = stored_there (at file.now) xs known right.1 in
       let key : refused.0 ≡ right.0.0 = one_key root.now root'.now right.0.0 refused.0 same.0 right.0.1.0 refused.1.0 in
       let fault = refused.1.1.1 (subst (λ (p : List ℕ). IsKnown (at p)) same.3 judge.0) xs (subst (λ (p : List ℕ). at p ≡ Stored xs) same.2 there) in
       let also : HasFault (IsTextFault (task_of_part m right.0.0 part) xs) =
       subst (λ (T : Type 0). T) (λ i. HasFault (IsTextFault (task_of_part m (key i) (sym same.1 i)) xs)) fault in
-      accepted_apart m right.0.0 part xs (judge.1 xs there) right.0.1.1 also
+      accepted_apart m right.0.0 part xs (judge.1 xs there) right.0.1.1.0 also
   judged (DecodeCopy root outboard verbose copy out) (DecodeCopy root' outboard' verbose' copy' out') same known judge right refused =
       let outline : List ℕ = right.1.1.0 in
       let beside : at outboard.now ≡ Stored outline = stored_there (at outboard.now) outline judge.1 right.1.1.1 in

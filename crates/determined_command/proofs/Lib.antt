@@ -4,3 +4,4 @@ pub mod Lists
 pub mod Judged
 pub mod Holders
 pub mod Absent
+pub mod Below

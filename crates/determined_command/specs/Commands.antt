@@ -4,6 +4,7 @@ use Rattle.std.specs.Io.KnownBytes.{Appends}
 use Rattle.std.specs.Option.{option_copied}
 use Rattle.b3tree.specs.declared.mode.Mode.{Mode}
 use Rattle.b3tree.specs.Hashing.{hash}
+use Rattle.b3tree.specs.Valid.{AreBytes}
 use Rattle.clap.specs.Words.{Text}
 use Rattle.bao_text.specs.Cut.{claimed}
 use Rattle.bao_decode.specs.Weaving.{are_whole}
@@ -106,6 +107,8 @@ pub record PutTwo (words : List Text) (at a b : List ℕ → FileState) (old one
   pub ours : List ℕ
   pub theirs : List ℕ
   pub apart : ours ≢ theirs
+  pub our_bytes : AreBytes ours
+  pub their_bytes : AreBytes theirs
   pub same : hash mode ours ≡ hash mode theirs
   pub our_files : Writes at a mode request.task (list_of request.task) ours
   pub their_files : Writes at b mode also.task (list_of also.task) theirs

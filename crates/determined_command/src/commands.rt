@@ -3,12 +3,14 @@
 ghost use Rattle.std.specs.Prelude.{◌≡◌, ◌≢◌, ◌⊎◌, ℕ, List, map, string_bytes};
 ghost use Rattle.std.specs.Io.KnownBytes.{Keeps};
 ghost use Rattle.b3tree.specs.declared.mode.Mode.{Mode};
+ghost use Rattle.b3tree.specs.Valid.{AreBytes};
 ghost use Rattle.bao_command.specs.ModeWords.{HasMode};
 ghost use Rattle.bao_command.specs.Outcome.{AreRefused};
-ghost use Rattle.bao_command.specs.Tasks.{Gathers, ReadsList};
+ghost use Rattle.bao_command.specs.Tasks.{Gathers, IsRight, ReadsList, Replays};
 ghost use Rattle.bao_request.specs.declared.tasks.Request.{Request};
+ghost use Rattle.bao_request.specs.declared.tasks.Task.{Task};
 ghost use Rattle.bao_request.specs.CommandLine.{AsksFor, AsksForHelp};
-ghost use Rattle.bao_files.specs.Disks.{KeepsFiles};
+ghost use Rattle.bao_files.specs.Disks.{KeepsFiles, Unknown};
 ghost use Rattle.determined_command.specs.Commands.{BothKeep, CollidesAsked, IsGatheredUnder, IsJudged, IsKeyKnown, IsOfKnown, LacksFile, PutTwo, SamePrinted, SameStatus, SameVerdict};
 ghost use Rattle.determined_files.specs.Agreeing.{SameWhereKnown};
 
@@ -163,3 +165,8 @@ pub fn list_read_refused<
 {
     command(rt, disk, words, out, err, progress)
 }
+
+// Of files of which nothing is known, as the system's own, the line is of bytes: numbers below 256. A schedule's is the text of its replies.
+pub fn lines_are_of_bytes()
+    ensures { (mode : Mode) (task : Task) (bytes : List ℕ) → IsRight (λ _. Unknown) mode task bytes → ¬ Replays task → AreBytes bytes }
+{}

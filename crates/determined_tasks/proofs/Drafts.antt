@@ -28,9 +28,9 @@ module _ (mode : Mode) (root : List ℕ) (part : Part) (text : List ℕ) (low : 
       → AgreeUnless (λ m n. m ≡ n) (MayComeOfCopy faultless file path) (MayComeOfCopy also_faultless file path) r s
   draft_answers faultless also_faultless file path old also a b (Ok m) (Ok k) p q = p.1 ∙ sym q.1
   draft_answers faultless also_faultless file path old also a b (Ok m) (Err (File y)) p q = file_may also_faultless file path also b y q
-  draft_answers faultless also_faultless file path old also a b (Ok m) (Err (Check y)) p q = absurd (apart (part_bytes part) mode root part text low y q.0 p.0)
+  draft_answers faultless also_faultless file path old also a b (Ok m) (Err (Check y)) p q = absurd (apart (part_bytes part) mode root part text low y q.0 p.0.0)
   draft_answers faultless also_faultless file path old also a b (Err (File x)) (Ok k) p q = file_may faultless file path old a x p
-  draft_answers faultless also_faultless file path old also a b (Err (Check x)) (Ok k) p q = absurd (apart (part_bytes part) mode root part text low x p.0 q.0)
+  draft_answers faultless also_faultless file path old also a b (Err (Check x)) (Ok k) p q = absurd (apart (part_bytes part) mode root part text low x p.0 q.0.0)
   draft_answers faultless also_faultless file path old also a b (Err (File x)) (Err y) p q = inr (inl (file_may faultless file path old a x p))
   draft_answers faultless also_faultless file path old also a b (Err (Check x)) (Err (File y)) p q = inr (inr (file_may also_faultless file path also b y q))
   draft_answers faultless also_faultless file path old also a b (Err (Check x)) (Err (Check y)) p q = inl (ap (λ k. Check k) (one (part_bytes part) mode root part text low x y p.0 q.0))

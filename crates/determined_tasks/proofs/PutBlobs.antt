@@ -38,6 +38,8 @@ module _ (mode : Mode) (root : List ℕ) (before one other : List ℕ → FileSt
           ours = p.0;
           theirs = q.0;
           apart = apart;
+          our_bytes = p.1.2;
+          their_bytes = q.1.2;
           our_hash = p.1.0;
           their_hash = q.1.0;
           our_count = p.2;

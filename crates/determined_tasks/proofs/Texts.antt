@@ -38,7 +38,7 @@ module _ (what : List ℕ → List ℕ) (mode : Mode) (root : List ℕ) (part : 
   -- no read of so short an encoding has to fail
   comes : (faultless : Type 0) (file path : Bor (List ℕ)) (old new : Option (List ℕ)) (r : Result ℕ DecodeFault) → WritesKnown what mode root part faultless text file path old new r
       → Comes Good IsFault (written_count part text) (what text) apart one faultless file path old new r
-  comes faultless file path old new (Ok count) h = h
+  comes faultless file path old new (Ok count) h = (h.0.0, h.1, h.2)
   comes faultless file path old new (Err (Check fault)) h = h
   comes faultless file path old new (Err (File fault)) (inl h) = inl h
   comes faultless file path old new (Err (File fault)) (inr (inl (is, inl fails, began))) = inr (inl (is, fails, began))

@@ -7,6 +7,7 @@ use Rattle.bao_files.specs.Disks.{FileState, Puts}
 use Rattle.bao_files.specs.declared.fault.FileFault.{FileFault}
 use Rattle.bao_files.specs.declared.fault.FileFault.TheVariants.{Read, Write, Output, Encoding, Memory}
 use Rattle.bao_tasks.specs.declared.gathered_fault.GatheredFault.{GatheredFault}
+use Rattle.b3tree.specs.Valid.{AreBytes}
 use Rattle.bao_tasks.specs.declared.gathered_fault.GatheredFault.TheVariants.{File, Outboard, Gather}
 use Rattle.bao_tasks.specs.Gathered.{gathered_text}
 use Rattle.gather.specs.declared.fault.GatherFault.TheVariants.{NotTheRoot}
@@ -17,6 +18,8 @@ pub record WroteCollision (mode : Mode) (root : List ℕ) (encode : Bool) (old a
   pub ours : List ℕ
   pub theirs : List ℕ
   pub apart : ours ≢ theirs
+  pub our_bytes : AreBytes ours
+  pub their_bytes : AreBytes theirs
   pub our_hash : hash mode ours ≡ root
   pub their_hash : hash mode theirs ≡ root
   pub our_count : m ≡ length ours
@@ -50,6 +53,8 @@ pub record PutCollision (mode : Mode) (root : List ℕ) (encode : Bool) (before 
   pub ours : List ℕ
   pub theirs : List ℕ
   pub apart : ours ≢ theirs
+  pub our_bytes : AreBytes ours
+  pub their_bytes : AreBytes theirs
   pub our_hash : hash mode ours ≡ root
   pub their_hash : hash mode theirs ≡ root
   pub our_count : m ≡ length ours

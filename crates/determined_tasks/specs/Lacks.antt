@@ -1,5 +1,5 @@
 -- What two looks for the bytes that no source has have in common.
-use Rattle.std.specs.Prelude.{◌≡◌, ◌<◌}
+use Rattle.std.specs.Prelude.{◌≡◌}
 use Rattle.bao_tasks.specs.declared.missing.Lack.{Lack}
 use Rattle.bao_tasks.specs.declared.missing.Lack.TheVariants.{End, Missing}
 use Rattle.bao_tasks.specs.declared.missing.MissingParts.{MissingParts}

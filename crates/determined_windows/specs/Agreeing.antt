@@ -3,6 +3,7 @@ use Rattle.std.specs.Prelude.{◌≡◌, ◌≢◌, ◌⊎◌, ℕ, ◌^◌, ◌
 use Rattle.std.specs.Io.KnownBytes.{Appends}
 use Rattle.b3tree.specs.declared.mode.Mode.{Mode}
 use Rattle.b3tree.specs.Hashing.{hash}
+use Rattle.b3tree.specs.Valid.{AreBytes}
 use Rattle.bao_check.specs.Outline.{outline_claimed}
 use Rattle.bao_text.specs.Choice.{chunk_count}
 use Rattle.bao_windows.specs.Copies.{HaveCopies, IsOwn}
@@ -23,6 +24,8 @@ pub record WroteCollision (mode : Mode) (root : List ℕ) (old a b : Option (Lis
   pub ours : List ℕ
   pub theirs : List ℕ
   pub apart : ours ≢ theirs
+  pub our_bytes : AreBytes ours
+  pub their_bytes : AreBytes theirs
   pub our_hash : hash mode ours ≡ root
   pub their_hash : hash mode theirs ≡ root
   pub our_count : m ≡ length ours

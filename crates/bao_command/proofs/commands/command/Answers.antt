@@ -1,4 +1,4 @@
-use Rattle.std.proofs.Common.{◌≢◌, ◌⊎◌, ℕ, List, [], Option, inl, inr, map, string_bytes, subst, sym, ◌∙◌}
+use Rattle.std.proofs.Common.{◌≢◌, ◌⊎◌, ℕ, List, Option, inl, inr, map, string_bytes, subst, sym, ◌∙◌}
 use Rattle.clap.specs.Words.{HasKind, IsAmong, Text, fault_of, kind_of}
 use Rattle.clap.specs.declared.error.Error.{Error}
 use Rattle.clap.specs.declared.error.kind.ErrorKind.TheVariants.{OutOfMemory}

@@ -1,4 +1,4 @@
-use Rattle.std.proofs.Common.{◌≡◌, ℕ, List, refl, subst, sym, ap}
+use Rattle.std.proofs.Common.{ℕ, List, subst, sym}
 use Rattle.bao_tasks.specs.Replayed.{IsRun, OfFiles}
 use Rattle.bao_command.specs.Printed.{CommandPrints}
 use Rattle.bao_command.specs.Tasks.{IsReplay}

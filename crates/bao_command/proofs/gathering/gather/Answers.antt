@@ -136,7 +136,7 @@ returns-in-Ok-gathered-clause-answer g c =
           subst (λ (r : Result ℕ GatheredFault). OnOk r (HasOutlineIn (at w.in-Some.outboard.now) mode key)) (sym w.gathered-is ∙ c.in-Ok-gathered.is) w.gather_beside_on-gathered.ensures.outline in
           rw w.in-Some.is (key, (c.in_ok-root.ensures.ok, outline))
     ] in
-    let right : IsRightBlob at mode digits how c.args.paths.outboard made.0 = (((key, (c.in_ok-root.ensures.ok, made.1.0)), made.1.1), beside) in
+    let right : IsRightBlob at mode digits how c.args.paths.outboard made.0 = (((key, (c.in_ok-root.ensures.ok, made.1.0, made.1.2)), made.1.1), beside) in
     let line : List ℕ = ok_line (length made.0) in
     let old = g.O.Write.contents c.args.out.now in
     let new = g.O.Write.contents c.print_count.new.out in
@@ -171,7 +171,7 @@ returns-in-Ok-gathered-clause-files g c =
           subst (λ (r : Result ℕ GatheredFault). OnOk r (HasOutlineIn (at w.in-Some.outboard.now) mode key)) (sym w.gathered-is ∙ c.in-Ok-gathered.is) w.gather_beside_on-gathered.ensures.outline in
           rw w.in-Some.is (key, (c.in_ok-root.ensures.ok, outline))
     ] in
-    let right : IsRightBlob at mode digits how c.args.paths.outboard made.0 = (((key, (c.in_ok-root.ensures.ok, made.1.0)), made.1.1), beside) in
+    let right : IsRightBlob at mode digits how c.args.paths.outboard made.0 = (((key, (c.in_ok-root.ensures.ok, made.1.0, made.1.2)), made.1.1), beside) in
     let few : length c.args.files.now ≤ 64 = omega (arith, c.if-files-gt-MOST_FILES.false) in
     print_left at (g.D.Disk.at c.list_nothing.new.disk) mode digits how c.args.paths.outboard out c.args.paths.list (length c.args.files.now) between made.0 c.told.result c.told.ensures.file few right made.3
     c.in_ok-list_nothing-in-Ok-gathered.ensures.lists
@@ -203,7 +203,7 @@ returns-in_err-list_nothing-in-Ok-gathered-clause-files g c =
           subst (λ (r : Result ℕ GatheredFault). OnOk r (HasOutlineIn (at w.in-Some.outboard.now) mode key)) (sym w.gathered-is ∙ c.in-Ok-gathered.is) w.gather_beside_on-gathered.ensures.outline in
           rw w.in-Some.is (key, (c.in_ok-root.ensures.ok, outline))
     ] in
-    let right : IsRightBlob at mode digits how c.args.paths.outboard made.0 = (((key, (c.in_ok-root.ensures.ok, made.1.0)), made.1.1), beside) in
+    let right : IsRightBlob at mode digits how c.args.paths.outboard made.0 = (((key, (c.in_ok-root.ensures.ok, made.1.0, made.1.2)), made.1.1), beside) in
     let few : length c.args.files.now ≤ 64 = omega (arith, c.if-files-gt-MOST_FILES.false) in
     let quiet = c.in_err-list_nothing-in-Ok-gathered.ensures.quiet in
     let result : Result Unit Fault = c.from_residual-in_err-list_nothing-in-Ok-gathered.result in

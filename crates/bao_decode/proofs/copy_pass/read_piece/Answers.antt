@@ -21,6 +21,7 @@ returns-in-Ok-clause-piece g c =
     let are = c.in-Ok.ensures.accepted.0 refl in
     record {
       are = are;
+      each = c.bytes_are.ensures;
       given = subst (GivenAt contents (1024 * c.args.first)) (sym same) c.in_ok-len.ensures.given;
       ends = λ last.
           ends_known contents (1024 * c.args.first + len) total (omega (arith, part_len, are.ends, last, c.requires.chunks.0))

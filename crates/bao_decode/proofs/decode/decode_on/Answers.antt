@@ -9,7 +9,7 @@ returns-clause-done g c =
     let input = c.in_ok-input.input in
     let done = c.in_ok-count.ensures.ok in (
       done.0,
-      unread_of_file (before c.args.file.now) (g.D.Input.Source.contents input) (g.D.Input.Read.remaining input) done.0 c.in_ok-input.ensures.opened done.1,
+      unread_of_file (before c.args.file.now) (g.D.Input.Source.contents input) (g.D.Input.Read.remaining input) done.0 c.in_ok-input.ensures.opened done.1 done.2.0.1,
       done.2.0,
       done.2.1,
       puts_text before (g.D.Disk.at c.finish.new.self) c.args.path.now (g.D.Draft.Write.contents c.in-Ok.out) (g.D.Draft.Write.contents c.write_input.new.out)

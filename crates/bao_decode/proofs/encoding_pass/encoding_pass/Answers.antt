@@ -2,6 +2,8 @@ use Rattle.std.proofs.Common.{◌≡◌, ◌+◌, ◌^◌, ◌≤◌, ℕ, List,
 use Rattle.std.proofs.lemmas.List.{length-take}
 use Rattle.std.proofs.lemmas.Result.{err_from_is_err_and}
 use Rattle.std.specs.Io.KnownBytes.{Appends}
+use Rattle.b3tree.specs.Valid.{AreBytes}
+use Rattle.b3tree.proofs.BlockWords.{AreBytes-take}
 use Rattle.bao_check.specs.Checking.{HasDecodedAs}
 use Rattle.bao_check.specs.declared.checking.Decoded.{Decoded}
 use Rattle.bao_check.proofs.ChunkBytes.{some_of}
@@ -83,7 +85,8 @@ blocks-2-preserved g c =
         copied.0 ++ next.0,
         copied.1 ++ piece,
         copied_more c.args.mode.now c.args.root.now.0 c.args.part.now contents c.written_of-first.result.0 c.written_of-first.result.1 c.blocks-2.checking c.next_block.new.checking c.blocks-2.at
-            c.in-Some.field-0.taken old mid new copied.0 copied.1 next.0 piece copied.2 next.1 next.3 next.4 (subst (Appends mid new) (sym next.2) c.in-Ok-write_text.ensures.text),
+            c.in-Some.field-0.taken old mid new copied.0 copied.1 next.0 piece copied.2 next.1
+            (subst AreBytes (sym next.2) (AreBytes-take c.in-Some.field-0.taken c.next_block.new.block c.bytes_are-in-Some.ensures)) next.3 next.4 (subst (Appends mid new) (sym next.2) c.in-Ok-write_text.ensures.text),
       );
     }
 

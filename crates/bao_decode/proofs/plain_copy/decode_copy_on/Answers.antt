@@ -1,5 +1,6 @@
 use Rattle.std.proofs.Common.{◌≡◌, ℕ, List, [], Err, IfErr, refl, sym, ap, subst, ◌∙◌}
 use Rattle.std.proofs.lemmas.Result.{err_from_is_err_and}
+use Rattle.b3tree.specs.Valid.{AreBytes}
 use Rattle.bao_check.specs.Accepted.{IsAccepted, outboard_nodes}
 use Rattle.bao_files.specs.Disks.{IsKnown, Stored}
 use Rattle.bao_files.proofs.Disks.{puts_text}
@@ -16,7 +17,7 @@ returns-in_err-count-clause-refused g c =
     let root = c.args.root.now.0 in
     let fault : DecodeFault = c.in_err-count.field-0.0 in
     let input = c.in_ok-input.input in
-    let text : List ℕ = c.as_slice.result.now in
+    let text : List ℕ = c.as_slice-2.result.now in
     let accepted : IsAccepted mode root text (outboard_nodes text) = c.in-Ok.ensures.accepted.0 refl in
     let p = err_from_is_err_and c.from_residual-in_err-count.result c.from_residual-in_err-count.ensures.1 in
     let is : c.from_residual-in_err-count.result ≡ Err fault = p.1 ∙ ap Err p.2 in
@@ -24,9 +25,9 @@ returns-in_err-count-clause-refused g c =
     → BesideStops mode root (g.D.Disk.faultless c.args.disk.now) outline bytes c.args.outboard c.args.copy c.args.path f)) (sym is)
     (λ known outline bytes at_outboard at_copy.
     let whole = whole_of mode root (before c.args.outboard.now) c.in_ok-text.text.items c.in_ok-text.ensures.enough
-    (subst (λ (t : List ℕ). IsAccepted mode root t (outboard_nodes t)) c.as_slice.ensures.value accepted) in
+    (subst (λ (t : List ℕ). IsAccepted mode root t (outboard_nodes t)) c.as_slice-2.ensures.value accepted) (subst AreBytes c.as_slice.ensures.value c.bytes_are.ensures) in
     beside_stops c.in-Ok.outline mode root text outline bytes (g.D.Input.Source.faultless input) (g.D.Disk.faultless c.args.disk.now) c.args.outboard c.args.copy c.args.path fault
-    c.in-Ok.ensures.outline accepted (c.as_slice.ensures.value ∙ stored_is (before c.args.outboard.now) c.in_ok-text.text.items outline at_outboard whole) c.in_ok-input.ensures.sure
+    c.in-Ok.ensures.outline accepted (c.as_slice-2.ensures.value ∙ stored_is (before c.args.outboard.now) c.in_ok-text.text.items outline at_outboard whole) c.in_ok-input.ensures.sure
     (c.in_err-count.ensures.refused (is_some (g.D.Draft.Write.contents c.in-Ok-draft.out) [] (c.in-Ok-draft.ensures known)) bytes
     (contents_of_file (before c.args.copy.now) (g.D.Input.Source.contents input) (g.D.Input.Read.remaining input) bytes at_copy c.in_ok-input.ensures.opened)))
 
@@ -36,16 +37,16 @@ returns-clause-done g c =
     let mode = c.args.mode.now in
     let root = c.args.root.now.0 in
     let input = c.in_ok-input.input in
-    let text : List ℕ = c.as_slice.result.now in
+    let text : List ℕ = c.as_slice-2.result.now in
     let all : List ℕ = c.in_ok-text.text.items in
     let accepted : IsAccepted mode root text (outboard_nodes text) = c.in-Ok.ensures.accepted.0 refl in
-    let known : IsAccepted mode root all (outboard_nodes all) = subst (λ (t : List ℕ). IsAccepted mode root t (outboard_nodes t)) c.as_slice.ensures.value accepted in
+    let known : IsAccepted mode root all (outboard_nodes all) = subst (λ (t : List ℕ). IsAccepted mode root t (outboard_nodes t)) c.as_slice-2.ensures.value accepted in
     let done = c.in_ok-count.ensures.ok in (
       all,
       done.0,
-      whole_of mode root (before c.args.outboard.now) all c.in_ok-text.ensures.enough known,
-      unread_of_file (before c.args.copy.now) (g.D.Input.Source.contents input) (g.D.Input.Read.remaining input) done.0 c.in_ok-input.ensures.opened done.1,
-      subst (λ (t : List ℕ). IsCopyBeside mode root t done.0) c.as_slice.ensures.value (beside_of c.in-Ok.outline mode root text done.0 c.in-Ok.ensures.outline accepted done.2),
+      whole_of mode root (before c.args.outboard.now) all c.in_ok-text.ensures.enough known (subst AreBytes c.as_slice.ensures.value c.bytes_are.ensures),
+      unread_of_file (before c.args.copy.now) (g.D.Input.Source.contents input) (g.D.Input.Read.remaining input) done.0 c.in_ok-input.ensures.opened done.1 done.2.1,
+      subst (λ (t : List ℕ). IsCopyBeside mode root t done.0) c.as_slice-2.ensures.value (beside_of c.in-Ok.outline mode root text done.0 c.in-Ok.ensures.outline accepted done.2.0),
       done.3,
       puts_text before (g.D.Disk.at c.finish.new.self) c.args.path.now (g.D.Draft.Write.contents c.in-Ok-draft.out) (g.D.Draft.Write.contents c.write_input.new.out)
           done.0 c.in-Ok-draft.ensures done.4 c.in_ok-finish.ensures.put,

@@ -1,6 +1,6 @@
 use Rattle.std.proofs.Common.{◌≡◌, ℕ, List, length, IfOk, subst, arith}
 use Rattle.std.specs.Io.KnownBytes.{Appends}
-use Rattle.bao_decode.specs.CopyPass.{IsGoodCopy}
+use Rattle.bao_decode.specs.CopyPass.{IsVerifiedCopy}
 use Rattle.bao_decode.specs.Opened.{IsUnread}
 use Rattle.bao_files.proofs.Results.{with_right}
 use Rattle.bao_decode.proofs.Copying.{copied_known, kept_known}
@@ -14,7 +14,7 @@ returns-clause-ok g c =
     let o = c.args.outline.now in
     let old = g.D.Draft.Write.contents c.args.out.now in
     let new = g.D.Draft.Write.contents c.write_copy.new.out in
-    subst (λ i. IfOk c.write_copy.result (λ count. (x : List ℕ) × IsUnread (g.D.Input.Source.contents i) remaining x × IsGoodCopy o x × (count ≡ length x) × Appends old new x)) c.over-shown.ensures
+    subst (λ i. IfOk c.write_copy.result (λ count. (x : List ℕ) × IsUnread (g.D.Input.Source.contents i) remaining x × IsVerifiedCopy o x × (count ≡ length x) × Appends old new x)) c.over-shown.ensures
     (with_right c.write_copy.result _ (λ count done. (done.0, unread_of_contents (g.D.Input.Source.contents source) remaining done.0 done.1, done.2, done.3, done.4))
     (copied_known o (g.D.Input.Source.contents source) (g.D.Input.Source.faultless source) c.args.file c.args.path old new c.write_copy.result c.write_copy.ensures.some c.write_copy.ensures.known))
 

@@ -2,6 +2,8 @@ use Rattle.std.proofs.Common.{◌≡◌, ◌+◌, ◌-◌, ◌^◌, ◌≤◌, �
 use Rattle.std.proofs.lemmas.List.{length-take-le}
 use Rattle.std.proofs.lemmas.Result.{err_from_is_err_and}
 use Rattle.std.specs.Io.KnownBytes.{Appends}
+use Rattle.b3tree.specs.Valid.{AreBytes}
+use Rattle.b3tree.proofs.BlockWords.{AreBytes-take}
 use Rattle.bao_check.specs.Checking.{HasDecodedAs}
 use Rattle.bao_check.specs.declared.checking.Decoded.{Decoded}
 use Rattle.bao_check.proofs.ChunkBytes.{some_of}
@@ -24,7 +26,7 @@ blocks-2-init g c =
         header,
         [],
         begun_none c.args.mode.now c.args.root.now.0 c.args.part.now (g.S.Source.contents c.args.source.now) c.claimed-total.result c.in_ok-checking.checking (g.W.Write.contents c.args.out.now)
-            header c.in_ok-checking.ensures.size c.in_ok-checking.ensures.given c.in_ok-checking.ensures.decodes c.claimed-total.ensures,
+            header c.in_ok-checking.ensures.size c.bytes_are.ensures c.in_ok-checking.ensures.given c.in_ok-checking.ensures.decodes c.claimed-total.ensures,
       );
     }
 
@@ -141,7 +143,8 @@ blocks-2-preserved g c =
         begun.0 ++ next.0,
         begun.1 ++ piece,
         begun_more c.args.mode.now c.args.root.now.0 part contents total c.blocks-2.checking c.next_block.new.checking c.blocks-2.at c.blocks-2.done taken filled
-            (g.W.Write.contents c.args.out.now) mid new begun.0 begun.1 next.0 piece begun.2 next.1 (length-take-le filled c.next_block.new.room some.2) next.3 next.4
+            (g.W.Write.contents c.args.out.now) mid new begun.0 begun.1 next.0 piece begun.2 next.1 (length-take-le filled c.next_block.new.room some.2)
+            (subst AreBytes (sym next.2) (AreBytes-take taken c.next_block.new.block c.bytes_are-in-Some.ensures)) next.3 next.4
             (subst (Appends mid new) sent c.in-Ok.ensures.text),
       );
     }

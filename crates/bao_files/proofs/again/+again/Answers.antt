@@ -21,7 +21,7 @@ write_subtree-returns-then-n-clause-written g t c = λ total before choice has l
     chunk_whole total c.args.mode.now c.args.first again has.start (omega (arith, size, c.if-n.true)) in (
       again,
       replaces_read (g.S.Source.contents c.args.source.now) c.args.mode.now c.args.first before again c.args.asked.now.0 (size ∙ sym len) value
-          c.in_ok-read_chunk.ensures.value c.in_ok-read_chunk.ensures.given,
+          c.in_ok-read_chunk.ensures.value c.in_ok-read_chunk.ensures.are c.in_ok-read_chunk.ensures.given,
       sends_same again (whole_text total c.args.mode.now c.args.first again) (g.W.Write.contents c.args.out.now) (g.W.Write.contents c.send.new.out) c.send.result (sym text) c.send.ensures,
     )
 

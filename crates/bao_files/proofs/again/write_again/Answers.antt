@@ -28,6 +28,7 @@ returns-in_err-send g c = λ before text len.
       before,
       λ i. length before,
       λ i. hash mode before,
+      λ bytes. bytes,
       λ given. given,
       sends_err (combined_text mode before) old new c.from_residual.result p.0 p.1 part,
     )
@@ -51,6 +52,7 @@ returns g c = λ before text len.
       again,
       made.2.len_is,
       hash_again mode again before made.1,
+      made.2.are,
       made.2.given,
       sends_same (length_text total ++ whole_text total mode 0 again) (combined_text mode again) old new c.write_parts.result (sym (combined_again mode total again len_is)) sent,
     )

@@ -1,4 +1,4 @@
-use Rattle.std.proofs.Common.{List, ℕ, ◌≡◌, ◌≢◌, [], ◌∷◌, ◌++◌, None, Some, inl, inr, refl}
+use Rattle.std.proofs.Common.{[], ◌∷◌, None, Some, inl, inr, refl}
 use Rattle.std.proofs.lemmas.Bool.Decides.{Decides-eqb}
 use Rattle.std.proofs.lemmas.Slice.Eq.{strip_suffix_is}
 use Rattle.bao_files.proofs.KeyTexts.{digits_alone, digits_before}

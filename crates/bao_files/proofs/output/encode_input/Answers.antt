@@ -14,6 +14,7 @@ returns-clause-some g c =
     let made = c.in-Some.ensures.some in
     let said = c.encode_again.ensures made.0 made.1 in (
       said.0,
+      said.2,
       subst (λ (kind : Encoding). Encodes c.args.mode.now kind said.0 c.args.file c.args.path (g.W.Write.contents c.args.out.now) (g.W.Write.contents c.encode_again.new.out) c.encode_again.result)
-          (sym c.in-Combined.is) said.3,
+          (sym c.in-Combined.is) said.4,
     )

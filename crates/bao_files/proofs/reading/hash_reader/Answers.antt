@@ -1,11 +1,12 @@
 use Rattle.std.proofs.Common.{◌≡◌, ℕ, List, [], ◌++◌, refl, subst, sym, ◌<◌}
 use Rattle.std.proofs.KnownBytes.{Consumes-all, Consumes-nil, Consumes-trans}
 use Rattle.bao_files.proofs.Results.{with_some}
+use Rattle.b3tree.proofs.BlockWords.{AreBytes-append, AreBytes-nil}
 use Rattle.b3tree.specs.Taken.{Holds}
 use Rattle.bao_files.proofs.reading.hash_reader.Goals as goal
 
 pub reads-init : goal.reads-init
-reads-init g c = (c.requires, ([], Consumes-nil (g.R.Read.remaining c.args.reader.now), c.new-hasher.ensures))
+reads-init g c = (c.requires, ([], Consumes-nil (g.R.Read.remaining c.args.reader.now), AreBytes-nil, c.new-hasher.ensures))
 
 pub reads-preserved : goal.reads-preserved
 reads-preserved g c =
@@ -17,7 +18,8 @@ reads-preserved g c =
       (
         taken ++ piece,
         Consumes-trans (g.R.Read.remaining c.args.reader.now) (g.R.Read.remaining c.reads.reader) (g.R.Read.remaining c.hash_some.new.reader) taken piece before.1 given.1,
-        given.2 c.args.mode.now taken before.2,
+        AreBytes-append taken piece before.2 given.2,
+        given.3 c.args.mode.now taken before.3,
       ),
     )
 
@@ -34,7 +36,7 @@ returns-then-branch-eq0-clause-all g c =
     with_some
     old
     _
-    (λ left (same : taken ++ piece ≡ [] ++ left). subst (Holds c.hash_some.new.hasher c.args.mode.now) same (given.2 c.args.mode.now taken before.2))
+    (λ left (same : taken ++ piece ≡ [] ++ left). subst (Holds c.hash_some.new.hasher c.args.mode.now) same (given.3 c.args.mode.now taken before.3))
     (Consumes-all old new (taken ++ piece) [] (taken ++ piece) all end refl)
 
 pub returns-then-branch-eq0-clause-some : goal.returns-then-branch-eq0-clause-some
@@ -42,5 +44,6 @@ returns-then-branch-eq0-clause-some g c =
     let taken : List ℕ = c.reads.invariant.1.0 in
     let piece : List ℕ = c.in_ok-hash_some.ensures.taken.0 in (
       taken ++ piece,
-      c.in_ok-hash_some.ensures.taken.2 c.args.mode.now taken c.reads.invariant.1.2,
+      AreBytes-append taken piece c.reads.invariant.1.2 c.in_ok-hash_some.ensures.taken.2,
+      c.in_ok-hash_some.ensures.taken.3 c.args.mode.now taken c.reads.invariant.1.3,
     )

@@ -10,7 +10,7 @@ returns-in-Ok-clause-all g c =
 pub returns-in-Ok-clause-some : goal.returns-in-Ok-clause-some
 returns-in-Ok-clause-some g c =
     let bytes : List ℕ = c.in-Ok.ensures.some.0 in
-    (bytes, c.print_output.ensures.prints c.args.mode.now bytes c.in-Ok.ensures.some.1)
+    (bytes, c.in-Ok.ensures.some.1, c.print_output.ensures.prints c.args.mode.now bytes c.in-Ok.ensures.some.2)
 
 pub returns-clause-all : goal.returns-clause-all
 returns-clause-all g c = if_some (g.R.Read.remaining c.args.reader.now) (λ left. Keeps-refl (g.W.Write.contents c.args.out.now))

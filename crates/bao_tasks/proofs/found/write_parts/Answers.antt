@@ -1,5 +1,5 @@
 use Rattle.std.proofs.Common.{◌≡◌, ◌-◌, ◌≤◌, ℕ, List, ◌++◌, length, take, drop, arith, ap, ◌∙◌}
-use Rattle.bao_tasks.proofs.Parts.{more_written, part_written}
+use Rattle.bao_tasks.proofs.Parts.{more_bytes, more_written, part_written}
 use Rattle.bao_tasks.proofs.found.write_parts.Goals as goal
 
 pub parts-preserved : goal.parts-preserved
@@ -16,6 +16,7 @@ parts-preserved g c =
       same = c.read-count.ensures.same ∙ same;
       within = omega (arith, within, c.parts.invariant.within);
       written = more_written _ _ _ blob (drop n c.parts.part) c.read-count.new.out at n within read c.parts.invariant.written c.in-Ok.ensures.text;
+      are = more_bytes blob (drop n c.parts.part) c.read-count.new.out at n within read c.parts.invariant.are c.bytes_are.ensures;
     }
 
 pub returns-in-Err-clause-err : goal.returns-in-Err-clause-err

@@ -1,5 +1,6 @@
 use Rattle.std.specs.Borrow.{Bor}
-use Rattle.std.proofs.Common.{ℕ, List, IfErr, Ok, Err, Result, refl, sym, subst, inl, inr}
+use Rattle.std.proofs.Common.{ℕ, List, IfErr, Ok, Err, Result, refl, sym, subst, ◌∙◌, inl, inr}
+use Rattle.b3tree.specs.Valid.{AreBytes}
 use Rattle.bao_decode.specs.Copies.{IsEnoughOf}
 use Rattle.bao_files.specs.Disks.{FileState}
 use Rattle.gather.specs.declared.form.Form.TheVariants.{Bare}
@@ -27,18 +28,19 @@ returns-in-Err-clause-paths g c = inl tt
 pub returns-clause-outline : goal.returns-clause-outline
 returns-clause-outline g c =
     let state : FileState = g.D.Disk.at c.args.disk.now c.args.outboard.now in
-    let text : List ℕ = c.as_slice.result.now in
+    let text : List ℕ = c.as_slice-2.result.now in
     let read : IsEnoughOf c.args.mode.now c.args.root.now.0 state text =
-    subst (λ (t : List ℕ). IsEnoughOf c.args.mode.now c.args.root.now.0 state t) (sym c.as_slice.ensures.value) c.in_ok-text.ensures.enough in
+    subst (λ (t : List ℕ). IsEnoughOf c.args.mode.now c.args.root.now.0 state t) (sym c.as_slice-2.ensures.value) c.in_ok-text.ensures.enough in
     where_ok c.gather_on.result (HasOutlineIn state c.args.mode.now c.args.root.now.0)
-    (outline_in state c.args.mode.now c.args.root.now.0 text read (c.in-Ok.ensures.accepted.0 refl))
+    (outline_in state c.args.mode.now c.args.root.now.0 text read (c.in-Ok.ensures.accepted.0 refl)
+    (subst AreBytes (c.as_slice.ensures.value ∙ sym c.as_slice-2.ensures.value) c.bytes_are.ensures))
 
 pub returns-in-Err-clause-available : goal.returns-in-Err-clause-available
 returns-in-Err-clause-available g c = λ surely known blob is room some few own copies.
     let state : FileState = g.D.Disk.at c.args.disk.now c.args.outboard.now in
-    let text : List ℕ = c.as_slice.result.now in
+    let text : List ℕ = c.as_slice-2.result.now in
     let read : IsEnoughOf c.args.mode.now c.args.root.now.0 state text =
-    subst (λ (t : List ℕ). IsEnoughOf c.args.mode.now c.args.root.now.0 state t) (sym c.as_slice.ensures.value) c.in_ok-text.ensures.enough in
+    subst (λ (t : List ℕ). IsEnoughOf c.args.mode.now c.args.root.now.0 state t) (sym c.as_slice-2.ensures.value) c.in_ok-text.ensures.enough in
     let fixed : Fixed = fixed_as c.args.root.now c.args.mode.now c.args.how.capacity in
     inr
     (absurd {A = CollidesBeside fixed c.args.how.capacity (g.D.Disk.at c.args.disk.now) c.args.files.now blob}
@@ -47,9 +49,9 @@ returns-in-Err-clause-available g c = λ surely known blob is room some few own 
 pub returns-clause-available : goal.returns-clause-available
 returns-clause-available g c = λ surely known blob is room some few own copies.
     let state : FileState = g.D.Disk.at c.args.disk.now c.args.outboard.now in
-    let text : List ℕ = c.as_slice.result.now in
+    let text : List ℕ = c.as_slice-2.result.now in
     let read : IsEnoughOf c.args.mode.now c.args.root.now.0 state text =
-    subst (λ (t : List ℕ). IsEnoughOf c.args.mode.now c.args.root.now.0 state t) (sym c.as_slice.ensures.value) c.in_ok-text.ensures.enough in
+    subst (λ (t : List ℕ). IsEnoughOf c.args.mode.now c.args.root.now.0 state t) (sym c.as_slice-2.ensures.value) c.in_ok-text.ensures.enough in
     let outline = own_outline c.args.root.now c.args.mode.now c.args.how.capacity blob text state c.is_keyed.ensures is few read own c.in-Ok.outline c.in-Ok.ensures.outline
     (c.in-Ok.ensures.accepted.0 refl) some in
     beside_of (IsPutAt (g.D.Disk.at c.args.disk.now) (g.D.Disk.at c.gather_on.new.disk) c.args.path.now c.args.how c.args.mode.now blob c.gather_on.result)
@@ -65,9 +67,10 @@ returns-clause-available g c = λ surely known blob is room some few own copies.
 pub returns-clause-right : goal.returns-clause-right
 returns-clause-right g c = λ surely known blob is.
     let at : List ℕ → FileState = g.D.Disk.at c.args.disk.now in
-    let text : List ℕ = c.as_slice.result.now in
+    let text : List ℕ = c.as_slice-2.result.now in
     let read : IsEnoughOf c.args.mode.now c.args.root.now.0 (at c.args.outboard.now) text =
-    subst (λ (t : List ℕ). IsEnoughOf c.args.mode.now c.args.root.now.0 (at c.args.outboard.now) t) (sym c.as_slice.ensures.value) c.in_ok-text.ensures.enough in
+    subst (λ (t : List ℕ). IsEnoughOf c.args.mode.now c.args.root.now.0 (at c.args.outboard.now) t) (sym c.as_slice-2.ensures.value) c.in_ok-text.ensures.enough in
     outlined_of (IsRightAt at (g.D.Disk.at c.gather_on.new.disk) c.args.path.now c.args.how c.args.mode.now blob c.gather_on.result) c.in-Ok.outline c.args.root.now c.args.mode.now
-    c.args.how.capacity at c.args.outboard.now c.args.files.now blob text (are_of (at c.args.outboard.now) c.args.mode.now c.args.root.now.0 text read (c.in-Ok.ensures.accepted.0 refl))
+    c.args.how.capacity at c.args.outboard.now c.args.files.now blob text (are_of (at c.args.outboard.now) c.args.mode.now c.args.root.now.0 text read (c.in-Ok.ensures.accepted.0 refl)
+    (subst AreBytes (c.as_slice.ensures.value ∙ sym c.as_slice-2.ensures.value) c.bytes_are.ensures))
     c.in-Ok.ensures.outline (c.gather_on.ensures.right surely known blob is)

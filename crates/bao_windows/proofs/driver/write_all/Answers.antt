@@ -92,4 +92,4 @@ returns-clause-blob g c =
     let wrote = c.windows.invariant.wrote in
     let size : length wrote.0 ≡ c.args.total = omega (arith, wrote.1, c.windows.invariant.place, c.windows-test.false) in
     let hashed : c.finalize.result.0 ≡ hash mode wrote.0 = c.finalize.ensures mode wrote.0 (wrote.2.took mode [] c.new-hasher.ensures) in
-    (wrote.0, sym hashed ∙ alike c.finalize.result.0 root.0 (sym c.if-ne.false ∙ c.ne.ensures), size, wrote.2.each, wrote.2.wrote)
+    (wrote.0, sym hashed ∙ alike c.finalize.result.0 root.0 (sym c.if-ne.false ∙ c.ne.ensures), size, wrote.2.each, wrote.2.wrote, wrote.2.are)

@@ -30,6 +30,7 @@ returns-in-Ok-flush-clause-blob g c =
       sym all.2,
       the_blob (IsFrom c.args.wanted.now g.S.Source.contents g.S.Source.faultless c.args.sources.now) (fixed_for c.args.wanted.now) all.0 c.in-Ok.total all.3 all.2 c.in-Ok.ensures.each,
       Appends-kept _ _ _ all.0 all.4 c.flush.ensures.bytes,
+      all.5,
     )
 
 pub returns-in-Err-clause-covered : goal.returns-in-Err-clause-covered

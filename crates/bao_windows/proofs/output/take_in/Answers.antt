@@ -14,7 +14,7 @@ unreachable-requires c =
     let mode : Mode = c.requires.mode in
     let s : List ℕ = c.requires.taken in
     let done : List ℕ = window_bytes (take i window) in
-    let long : 2 ^ 64 - 1 < length (s ++ done) + length c.as_slice.result.now =
-    (c.update.ensures.refused mode (s ++ done) (c.loop-slot.invariant mode s c.requires.holds)).0 (err_is _ _ c.in-Err.is) in
+    let long : 2 ^ 64 - 1 < length (s ++ done) + length c.as_slice-bytes.result.now =
+    (c.update.ensures.refused mode (s ++ done) (c.loop-slot.invariant.0 mode s c.requires.holds)).0 (err_is _ _ c.in-Err.is) in
     never_long s done slot.bytes.items (window_bytes (drop (i + 1) window)) (window_bytes window) c.requires.fits (parted_at window i slot c.loop-slot-test.true c.slot-item.is)
-    (omega (arith, long, ap (λ (xs : List ℕ). length xs) c.as_slice.ensures.value))
+    (omega (arith, long, ap (λ (xs : List ℕ). length xs) c.as_slice-bytes.ensures.value))

@@ -18,9 +18,9 @@ returns-clause-answer g c = λ known text at low.
     let s = c.decode_on-2.result in
     let also : theirs c.args.file.now ≡ Stored text = sym (c.requires c.args.file.now) ∙ at in
     decodes_agree mode root part text low (g.D.Disk.faultless c.args.ours.now) (g.E.Disk.faultless c.args.theirs.now) c.args.file c.args.path r s
-    (with_right r _ (λ m p. let same = stored_is (ours c.args.file.now) p.0 text at p.1 in (subst (IsPartText mode root part) same p.2, p.3 ∙ ap (written_count part) same)) c.decode_on.ensures.done)
+    (with_right r _ (λ m p. let same = stored_is (ours c.args.file.now) p.0 text at p.1 in (subst (IsPartText mode root part) same p.2.0, p.3 ∙ ap (written_count part) same)) c.decode_on.ensures.done)
     (with_fault r _ (λ f refused. refused known text at) c.decode_on.ensures.refused)
-    (with_right s _ (λ m p. let same = stored_is (theirs c.args.file.now) p.0 text also p.1 in (subst (IsPartText mode root part) same p.2, p.3 ∙ ap (written_count part) same)) c.decode_on-2.ensures.done)
+    (with_right s _ (λ m p. let same = stored_is (theirs c.args.file.now) p.0 text also p.1 in (subst (IsPartText mode root part) same p.2.0, p.3 ∙ ap (written_count part) same)) c.decode_on-2.ensures.done)
     (with_fault s _ (λ f refused. refused (subst IsKnown (c.requires c.args.path.now) known) text also) c.decode_on-2.ensures.refused)
 
 pub returns-clause-absent : goal.returns-clause-absent

@@ -25,11 +25,11 @@ returns-clause-answer g c = λ known outline bytes at_outboard at_copy whole.
     slices_beside_agree mode root start len outline bytes whole c.args.outboard c.args.copy c.args.path (g.D.Disk.faultless c.args.ours.now) (g.E.Disk.faultless c.args.theirs.now) r s
     (with_right r _
     (λ m p. part_is mode root (Slice start len) p.0 cut m
-    (cut_beside_is (ours c.args.outboard.now) (ours c.args.copy.now) outline bytes p.0 start len at_outboard at_copy whole p.1) p.2 p.3) c.slice_beside_on.ensures.done)
+    (cut_beside_is (ours c.args.outboard.now) (ours c.args.copy.now) outline bytes p.0 start len at_outboard at_copy whole p.1) p.2.0 p.3) c.slice_beside_on.ensures.done)
     (with_fault r _ (λ f refused. refused known outline bytes at_outboard at_copy whole) c.slice_beside_on.ensures.refused)
     (with_right s _
     (λ m p. part_is mode root (Slice start len) p.0 cut m
-    (cut_beside_is (theirs c.args.outboard.now) (theirs c.args.copy.now) outline bytes p.0 start len also_outboard also_copy whole p.1) p.2 p.3) c.slice_beside_on-2.ensures.done)
+    (cut_beside_is (theirs c.args.outboard.now) (theirs c.args.copy.now) outline bytes p.0 start len also_outboard also_copy whole p.1) p.2.0 p.3) c.slice_beside_on-2.ensures.done)
     (with_fault s _ (λ f refused. refused (subst IsKnown (c.requires c.args.path.now) known) outline bytes also_outboard also_copy whole) c.slice_beside_on-2.ensures.refused)
 
 pub returns-clause-absent : goal.returns-clause-absent

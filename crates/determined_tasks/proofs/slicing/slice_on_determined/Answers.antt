@@ -23,9 +23,9 @@ returns-clause-answer g c = λ known text there short.
     let also : theirs c.args.file.now ≡ Stored text = sym (c.requires c.args.file.now) ∙ there in
     decodes_agree mode root (Slice start len) cut (omega (arith, cut_text-few text start len, short)) (g.D.Disk.faultless c.args.ours.now) (g.E.Disk.faultless c.args.theirs.now) c.args.file
     c.args.path r s
-    (with_right r _ (λ m p. part_is mode root (Slice start len) p.0 cut m (cut_is (ours c.args.file.now) text p.0 start len there (omega (arith, short)) p.1) p.2 p.3) c.slice_on.ensures.done)
+    (with_right r _ (λ m p. part_is mode root (Slice start len) p.0 cut m (cut_is (ours c.args.file.now) text p.0 start len there (omega (arith, short)) p.1) p.2.0 p.3) c.slice_on.ensures.done)
     (with_fault r _ (λ f refused. refused known text there short) c.slice_on.ensures.refused)
-    (with_right s _ (λ m p. part_is mode root (Slice start len) p.0 cut m (cut_is (theirs c.args.file.now) text p.0 start len also (omega (arith, short)) p.1) p.2 p.3) c.slice_on-2.ensures.done)
+    (with_right s _ (λ m p. part_is mode root (Slice start len) p.0 cut m (cut_is (theirs c.args.file.now) text p.0 start len also (omega (arith, short)) p.1) p.2.0 p.3) c.slice_on-2.ensures.done)
     (with_fault s _ (λ f refused. refused (subst IsKnown (c.requires c.args.path.now) known) text also short) c.slice_on-2.ensures.refused)
 
 pub returns-clause-absent : goal.returns-clause-absent
