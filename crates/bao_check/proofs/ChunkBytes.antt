@@ -21,9 +21,10 @@ use Rattle.bao_check.specs.Checking.{IsNodeFault}
 use Rattle.bao_check.specs.Decoded.{Decodes, Kind, chunk_bytes, decoded, kind, kinds_size, subtree_kinds, waiting_kinds}
 use Rattle.bao_check.specs.Waiting.{AllPass, AllStop, CheckTask, HasRefused, HasRefusedIn, HasTaken, IsFaultAs, chunk_waits, is_chunk_first, last_part, next_size, part_size}
 use Rattle.bao_check.specs.Whole.{HasWholeAhead}
-use Rattle.bao_check.proofs.Feeding.{all_taken_from, whole_there}
+use Rattle.bao_check.specs.Walk.{Passes}
+use Rattle.bao_check.proofs.Feeding.{all_taken_from, ends, stands}
 use Rattle.bao_check.proofs.Sizes.{wants_whole}
-use Rattle.bao_check.proofs.WholeText.{claimed-append}
+use Rattle.bao_check.proofs.Subtrees.{claimed-append}
 
 kinds-append : (xs ys : List TreeNode) → map kind (xs ++ ys) ≡ map kind xs ++ map kind ys
 kinds-append [] ys = refl
@@ -168,8 +169,8 @@ pub taken_nothing : (mode : Mode) (choice : Choice) (parts : List Part) → HasT
 taken_nothing mode choice parts = record {
   passes = λ taken more end h.
       subst (λ (s : List ℕ). AllPass mode choice parts ((taken ++ []) ++ more) (length s) end) (append-nil taken) h;
-  stops = λ taken more fault h.
-      subst (λ (s : List ℕ). AllStop mode choice parts ((taken ++ []) ++ more) (length s) fault) (append-nil taken) h;
+  stops = λ taken more fault end h.
+      subst (λ (s : List ℕ). AllStop mode choice parts ((taken ++ []) ++ more) (length s) fault end) (append-nil taken) h;
 }
 
 text_of_both : (taken one other more : List ℕ) → ((taken ++ one) ++ other) ++ more ≡ (taken ++ (one ++ other)) ++ more
@@ -188,43 +189,46 @@ taken_both mode choice a b c one other first second = record {
       subst (λ (s : List ℕ). AllPass mode choice a s (length taken) end) (text_of_first taken one other more)
       (first.passes taken (other ++ more) end
       (subst (λ (s : List ℕ). AllPass mode choice b s (length (taken ++ one)) end) (append_assoc (taken ++ one) other more) middle));
-  stops = λ taken more fault h.
-      let later : AllStop mode choice c (((taken ++ one) ++ other) ++ more) (length ((taken ++ one) ++ other)) fault =
-      subst (λ (T : Type 0). T) (λ i. AllStop mode choice c (sym (text_of_both taken one other more) i) (length (sym (append_assoc taken one other) i)) fault) h in
-      let middle : AllStop mode choice b (((taken ++ one) ++ other) ++ more) (length (taken ++ one)) fault = second.stops (taken ++ one) more fault later in
-      subst (λ (s : List ℕ). AllStop mode choice a s (length taken) fault) (text_of_first taken one other more)
-      (first.stops taken (other ++ more) fault
-      (subst (λ (s : List ℕ). AllStop mode choice b s (length (taken ++ one)) fault) (append_assoc (taken ++ one) other more) middle));
+  stops = λ taken more fault end h.
+      let later : AllStop mode choice c (((taken ++ one) ++ other) ++ more) (length ((taken ++ one) ++ other)) fault end =
+      subst (λ (T : Type 0). T) (λ i. AllStop mode choice c (sym (text_of_both taken one other more) i) (length (sym (append_assoc taken one other) i)) fault end) h in
+      let middle : AllStop mode choice b (((taken ++ one) ++ other) ++ more) (length (taken ++ one)) fault end = second.stops (taken ++ one) more fault end later in
+      subst (λ (s : List ℕ). AllStop mode choice a s (length taken) fault end) (text_of_first taken one other more)
+      (first.stops taken (other ++ more) fault end
+      (subst (λ (s : List ℕ). AllStop mode choice b s (length (taken ++ one)) fault end) (append_assoc (taken ++ one) other more) middle));
 }
 
 -- a node that is refused after others were taken
-pub refused_later : (mode : Mode) (choice : Choice) (a b : List Part) (at used place : ℕ) (bytes : List ℕ) (fault : CheckFault) → used ≤ length bytes → place ≡ at + used
-    → HasTaken mode choice a b (take used bytes) → HasRefused mode choice b place (drop used bytes) fault → HasRefusedIn mode choice a b at used bytes fault
-refused_later mode choice a b at used place bytes fault within place_is taken refused = record {
+pub refused_later : (mode : Mode) (choice : Choice) (a b : List Part) (at used place size : ℕ) (bytes : List ℕ) (fault : CheckFault) → used ≤ length bytes → place ≡ at + used
+    → HasTaken mode choice a b (take used bytes) → HasRefused mode choice b place size (drop used bytes) fault → HasRefusedIn mode choice a b at used bytes fault
+refused_later mode choice a b at used place size bytes fault within place_is taken refused = record {
   within = within;
   taken = taken;
   is = refused.is ∙ ap Mismatch place_is;
   stops = λ had more at_is.
       let front : List ℕ = take used bytes in
-      let size : length (had ++ front) ≡ length had + used = omega (arith, length-append had front, length-take-le used bytes within) in
-      let here : AllStop mode choice b (((had ++ front) ++ drop used bytes) ++ more) (length (had ++ front)) fault =
-      refused.stops (had ++ front) more (omega (arith, size, at_is, place_is)) in
+      let end : ℕ = length (had ++ front) + size in
+      let front_len : length (had ++ front) ≡ length had + used = omega (arith, length-append had front, length-take-le used bytes within) in
+      let here : AllStop mode choice b (((had ++ front) ++ drop used bytes) ++ more) (length (had ++ front)) fault end =
+      refused.stops (had ++ front) more (omega (arith, front_len, at_is, place_is)) in
       let all : (had ++ front) ++ (drop used bytes ++ more) ≡ (had ++ bytes) ++ more =
-      text_of_first had front (drop used bytes) more ∙ ap (λ (s : List ℕ). (had ++ s) ++ more) (take-append-drop used bytes) in
-      subst (λ (s : List ℕ). AllStop mode choice a s (length had) fault) all
-      (taken.stops had (drop used bytes ++ more) fault
-      (subst (λ (s : List ℕ). AllStop mode choice b s (length (had ++ front)) fault) (append_assoc (had ++ front) (drop used bytes) more) here));
+      text_of_first had front (drop used bytes) more ∙ ap (λ (s : List ℕ). (had ++ s) ++ more) (take-append-drop used bytes) in (
+        end,
+        subst (λ (s : List ℕ). AllStop mode choice a s (length had) fault end) all
+            (taken.stops had (drop used bytes ++ more) fault end
+            (subst (λ (s : List ℕ). AllStop mode choice b s (length (had ++ front)) fault end) (append_assoc (had ++ front) (drop used bytes) more) here)),
+      );
 }
 
 -- a node that stands at the front of more bytes is refused there
-pub refused_front : (mode : Mode) (choice : Choice) (parts : List Part) (at n : ℕ) (bytes : List ℕ) (fault : CheckFault) → n ≤ length bytes
-    → HasRefused mode choice parts at (take n bytes) fault → HasRefused mode choice parts at bytes fault
-refused_front mode choice parts at n bytes fault within refused = record {
+pub refused_front : (mode : Mode) (choice : Choice) (parts : List Part) (at n size : ℕ) (bytes : List ℕ) (fault : CheckFault) → n ≤ length bytes
+    → HasRefused mode choice parts at size (take n bytes) fault → HasRefused mode choice parts at size bytes fault
+refused_front mode choice parts at n size bytes fault within refused = record {
   is = refused.is;
   stops = λ had more at_is.
       let all : (had ++ take n bytes) ++ (drop n bytes ++ more) ≡ (had ++ bytes) ++ more =
       text_of_first had (take n bytes) (drop n bytes) more ∙ ap (λ (s : List ℕ). (had ++ s) ++ more) (take-append-drop n bytes) in
-      subst (λ (s : List ℕ). AllStop mode choice parts s (length had) fault) all (refused.stops had (drop n bytes ++ more) at_is);
+      subst (λ (s : List ℕ). AllStop mode choice parts s (length had) fault (length had + size)) all (refused.stops had (drop n bytes ++ more) at_is);
 }
 
 pub decodes_nothing : (choice : Choice) (parts : List Part) → Decodes choice parts parts [] []
@@ -273,14 +277,19 @@ parent_decodes choice before rest after part node is wanted parent len after_is 
 pub whole_size : (part : Part) (choice : Choice) (mode : Mode) (len : ℕ) (bytes : List ℕ) → HasWholeAhead part.asked choice mode part.number part.len len bytes
     → kinds_size (subtree_kinds choice part.number part.len) ≡ len
 whole_size part choice mode len bytes whole =
-    omega (arith, kinds_size-nodes (subtree_nodes choice part.number part.len [] 0), (whole.passes [] [] 0).ends, length-take-le len bytes whole.there)
+    omega (arith, kinds_size-nodes (subtree_nodes choice part.number part.len [] 0), (whole.passes (take len bytes) 0 ([], sym (append-nil (take len bytes))) [] 0).ends)
 
 -- is taken
 pub whole_taken_from : (mode : Mode) (choice : Choice) (before after : List Part) (part : Part) (len : ℕ) (bytes : List ℕ) → before ≡ after ++ part ∷ []
     → wants choice (1024 * part.number) part.len ≡ true → HasWholeAhead part.asked choice mode part.number part.len len bytes → HasTaken mode choice before after (take len bytes)
 whole_taken_from mode choice before after part len bytes is wanted whole =
-    all_taken_from mode choice before after part (take len bytes) is (λ taken more.
-    whole_there part.asked mode choice part.number part.len taken (take len bytes) more wanted (whole.passes taken))
+    let size : length (take len bytes) ≡ len = length-take-le len bytes whole.there in
+    all_taken_from mode choice before after part (take len bytes) is (λ taken more. record {
+      within = omega (arith, length-append (taken ++ take len bytes) more);
+      passes =
+          subst (λ (k : ℕ). (sides : List Side) (source : ℕ) → Passes part.asked sides mode ((taken ++ take len bytes) ++ more) (length taken) k (subtree_nodes choice part.number part.len sides source))
+          (sym (ends taken (take len bytes) len size)) (whole.passes ((taken ++ take len bytes) ++ more) (length taken) (stands taken (take len bytes) more));
+    })
 
 -- and its chunks
 pub whole_decodes : (mode : Mode) (choice : Choice) (before after : List Part) (part : Part) (len : ℕ) (bytes : List ℕ) → before ≡ after ++ part ∷ []

@@ -5,7 +5,7 @@ use Rattle.std.specs.Prelude.{IsNone}
 use Rattle.std.proofs.Math.Seq.{drop-cons}
 use Rattle.std.proofs.lemmas.Bool.{cases_Bool, cases_lt, eqb-true, le-leb, lt-leb}
 use Rattle.std.proofs.lemmas.Option.{get_or_from_slice_get, slice_get-get_or, slice_get_within}
-use Rattle.std.proofs.lemmas.List.{append-nil, append_assoc, drop_all, drop_at, length-map, length-take-le, map-append, take-append-drop, take_at}
+use Rattle.std.proofs.lemmas.List.{append-nil, append_assoc, drop_all, drop_at, length-map, map-append, take-append-drop, take_at}
 use Rattle.b3tree.specs.declared.mode.Mode.{Mode}
 use Rattle.b3tree.specs.Chunk.{last_chunk_input}
 use Rattle.b3tree.specs.Tree.{IsLeftLen, left_len, parent_input}
@@ -14,24 +14,24 @@ use Rattle.bao_text.specs.declared.walk.Subtree.{Subtree}
 use Rattle.bao_text.specs.Choice.{of_slice, wants}
 use Rattle.bao_text.specs.Cut.{claimed}
 use Rattle.bao_text.specs.NodeNames.{AreWaiting}
-use Rattle.bao_text.specs.Nodes.{Side, left, right, subtree_nodes}
+use Rattle.bao_text.specs.Nodes.{left, right}
 use Rattle.bao_text.proofs.NodeNaming.{AreWaiting-last, Parted, Taken, parted, taken_last}
-use Rattle.bao_text.proofs.SubtreeNodes.{subtree_nodes-unwanted}
 use Rattle.bao_check.specs.declared.asked.Asked.{Asked}
 use Rattle.bao_check.specs.declared.fault.CheckFault.{CheckFault}
 use Rattle.bao_check.specs.declared.fault.CheckFault.TheVariants.{Short, Mismatch, Trailing}
+use Rattle.b3word.specs.declared.input.Input.{Input}
+use Rattle.bao_check.specs.declared.form.Form.TheVariants.{Slice}
 use Rattle.bao_check.specs.declared.part.Part.{Part}
 use Rattle.bao_check.specs.Accepted.{part_value, slice_nodes}
 use Rattle.bao_check.specs.Checking.{IsNodeFault}
 use Rattle.bao_check.specs.Subtree.{PassesIn, StopsIn}
-use Rattle.bao_check.specs.Waiting.{AllPass, AllStop, AreParts, FirstPass, FirstStop, HasRefused, HasRefusedIn, HasTaken, IsBefore, IsAcceptedAs, IsFaultAs, CheckTask, WaitsIn, last_part, next_size, part_size, shape}
-use Rattle.bao_check.specs.Walk.{Grows, Meets, Passes, Stops, asked_root}
+use Rattle.bao_check.specs.Waiting.{AllPass, AllStop, AreParts, FirstPass, FirstStop, HasRefused, HasRefusedIn, HasTaken, IsBefore, IsAcceptedAs, IsFaultAs, IsStopAs, CheckTask, WaitsIn, last_part, next_size, part_size, shape}
+use Rattle.bao_check.specs.Walk.{Meets, asked_root, chunk_at, parent_at}
+use Rattle.bao_check.specs.Whole.{StandsAt}
 use Rattle.bao_check.proofs.Parts.{below}
 use Rattle.bao_check.proofs.Laws.{first_fault-not_accepted}
 use Rattle.bao_check.proofs.Sizes.{wants_whole}
-use Rattle.bao_check.proofs.Subtrees.{both_pass, far_part_stops, passes_in, stops_in, take_on, top_accepted, top_stopped, top_trailing}
-use Rattle.bao_check.proofs.Walking.{TookParent, chunk_passes, chunk_stops, leaf_nodes, near_stops, none_passes, parent_stops}
-use Rattle.bao_check.proofs.WholeText.{claimed-append}
+use Rattle.bao_check.proofs.Subtrees.{both_pass, claimed-append, far_part_stops, first_fault, near_part_stops, pass_chunk, pass_unwanted, stop_chunk, stop_parent, top_accepted, top_stopped, top_trailing}
 
 -- a part put last comes first
 pub AllPass-last : (mode : Mode) (choice : Choice) (parts : List Part) (part : Part) (text : List ℕ) (at end : ℕ)
@@ -49,49 +49,38 @@ AllPass-first mode choice (first ∷ later) part text at end h =
     let r : FirstPass part.asked part.number part.len mode choice later text at h.0 = AllPass-first mode choice later part text at h.0 h.1 in
     (r.0, r.1, (h.0, r.2, h.2))
 
-pub AllStop-last : (mode : Mode) (choice : Choice) (parts : List Part) (part : Part) (text : List ℕ) (at : ℕ) (fault : CheckFault)
-    → FirstStop part.asked part.number part.len mode choice parts text at fault → AllStop mode choice (parts ++ part ∷ []) text at fault
-AllStop-last mode choice [] part text at fault (inl h) = inr (at, refl, h)
-AllStop-last mode choice [] part text at fault (inr h) = absurd h.2
-AllStop-last mode choice (first ∷ later) part text at fault (inl h) = inl (AllStop-last mode choice later part text at fault (inl h))
-AllStop-last mode choice (first ∷ later) part text at fault (inr (middle, passes, inl h)) = inl (AllStop-last mode choice later part text at fault (inr (middle, passes, h)))
-AllStop-last mode choice (first ∷ later) part text at fault (inr (middle, passes, inr h)) =
+pub AllStop-last : (mode : Mode) (choice : Choice) (parts : List Part) (part : Part) (text : List ℕ) (at : ℕ) (fault : CheckFault) (end : ℕ)
+    → FirstStop part.asked part.number part.len mode choice parts text at fault end → AllStop mode choice (parts ++ part ∷ []) text at fault end
+AllStop-last mode choice [] part text at fault end (inl h) = inr (at, refl, h)
+AllStop-last mode choice [] part text at fault end (inr h) = absurd h.2
+AllStop-last mode choice (first ∷ later) part text at fault end (inl h) = inl (AllStop-last mode choice later part text at fault end (inl h))
+AllStop-last mode choice (first ∷ later) part text at fault end (inr (middle, passes, inl h)) = inl (AllStop-last mode choice later part text at fault end (inr (middle, passes, h)))
+AllStop-last mode choice (first ∷ later) part text at fault end (inr (middle, passes, inr h)) =
     inr (h.0, AllPass-last mode choice later part text at h.0 (middle, passes, h.1), h.2)
 
-pub AllStop-first : (mode : Mode) (choice : Choice) (parts : List Part) (part : Part) (text : List ℕ) (at : ℕ) (fault : CheckFault)
-    → AllStop mode choice (parts ++ part ∷ []) text at fault → FirstStop part.asked part.number part.len mode choice parts text at fault
-AllStop-first mode choice [] part text at fault (inl h) = absurd h
-AllStop-first mode choice [] part text at fault (inr h) =
-    inl (subst (λ (k : ℕ). StopsIn part.asked mode choice part.number part.len text k fault) (sym h.1) h.2)
-AllStop-first mode choice (first ∷ later) part text at fault (inl h) = elim (AllStop-first mode choice later part text at fault h) [
+pub AllStop-first : (mode : Mode) (choice : Choice) (parts : List Part) (part : Part) (text : List ℕ) (at : ℕ) (fault : CheckFault) (end : ℕ)
+    → AllStop mode choice (parts ++ part ∷ []) text at fault end → FirstStop part.asked part.number part.len mode choice parts text at fault end
+AllStop-first mode choice [] part text at fault end (inl h) = absurd h
+AllStop-first mode choice [] part text at fault end (inr h) =
+    inl (subst (λ (k : ℕ). StopsIn part.asked mode choice part.number part.len text k fault end) (sym h.1) h.2)
+AllStop-first mode choice (first ∷ later) part text at fault end (inl h) = elim (AllStop-first mode choice later part text at fault end h) [
   | inl own ↦ inl own
   | inr rest ↦ inr (rest.0, rest.1, inl rest.2)
 ]
-AllStop-first mode choice (first ∷ later) part text at fault (inr h) =
+AllStop-first mode choice (first ∷ later) part text at fault end (inr h) =
     let r : FirstPass part.asked part.number part.len mode choice later text at h.0 = AllPass-first mode choice later part text at h.0 h.1 in
     inr (r.0, r.1, inr (h.0, r.2, h.2))
 
--- a subtree that isn't wanted has no nodes
-pub unwanted_passes : (asked : Asked) (mode : Mode) (choice : Choice) (number n : ℕ) (text : List ℕ) (at : ℕ) → at ≤ length text
-    → wants choice (1024 * number) n ≡ false → PassesIn asked mode choice number n text at at
-unwanted_passes asked mode choice number n text at inside skipped = record {
-  from = omega arith;
-  within = inside;
-  passes = λ sides source.
-      subst (λ (k : ℕ). Passes asked sides mode (take at text) k (subtree_nodes choice number n sides source)) (length-take-le at text inside)
-      (none_passes asked sides mode (take at text) (subtree_nodes choice number n sides source) (subtree_nodes-unwanted choice number n sides source skipped));
-}
-
 pub before_unwanted : (choice : Choice) (asked : Asked) (number n : ℕ) (parts : List Part) → wants choice (1024 * number) n ≡ false → IsBefore choice asked number n parts parts
 before_unwanted choice asked number n parts skipped = record {
-  passes = λ mode text at end inside h. (at, unwanted_passes asked mode choice number n text at inside skipped, h);
-  stops = λ mode text at fault inside h. inr (at, unwanted_passes asked mode choice number n text at inside skipped, h);
+  passes = λ mode text at end inside h. (at, pass_unwanted asked mode choice number n text at inside skipped, h);
+  stops = λ mode text at fault end inside h. inr (at, pass_unwanted asked mode choice number n text at inside skipped, h);
 }
 
 pub before_last : (choice : Choice) (parts after : List Part) (part : Part) → after ≡ parts ++ part ∷ [] → IsBefore choice part.asked part.number part.len parts after
 before_last choice parts after part is = record {
   passes = λ mode text at end inside h. AllPass-first mode choice parts part text at end (subst (λ (ps : List Part). AllPass mode choice ps text at end) is h);
-  stops = λ mode text at fault inside h. AllStop-first mode choice parts part text at fault (subst (λ (ps : List Part). AllStop mode choice ps text at fault) is h);
+  stops = λ mode text at fault end inside h. AllStop-first mode choice parts part text at fault end (subst (λ (ps : List Part). AllStop mode choice ps text at fault end) is h);
 }
 
 -- the shapes of parts with one more
@@ -105,125 +94,83 @@ AreParts-last choice parts after part is all wanted within levels =
     let fits : part.len ≤ 1024 * 2 ^ (54 - length shapes) = subst (λ (k : ℕ). part.len ≤ 1024 * 2 ^ (54 - k)) (sym (length-map parts shape)) levels in
     subst (AreWaiting choice 54) (sym (shapes_last parts after part is)) (AreWaiting-last choice 54 shapes (shape part) all (wanted, (within, fits)))
 
--- the node that comes after those taken, in every encoding that has it there
+-- where a node stands that comes after those taken
+abbrev pub stands : (taken node more : List ℕ) → StandsAt ((taken ++ node) ++ more) (length taken) node
+stands taken node more = (more, ap (drop (length taken)) (append_assoc taken node more) ∙ drop_at taken (node ++ more) (length taken) refl)
+
+pub ends : (taken node : List ℕ) (k : ℕ) → length node ≡ k → length (taken ++ node) ≡ length taken + k
+ends taken node k len = omega (arith, length-append taken node, len)
+
+-- it is the next one in every encoding that has it there
 module _ (asked : Asked) (mode : Mode) (choice : Choice) (number n : ℕ) (taken node more : List ℕ) (wanted : wants choice (1024 * number) n ≡ true) where
   abbrev text : List ℕ
   text = (taken ++ node) ++ more
 
-  grew : Grows taken (taken ++ node) (Some (node ++ more)) (Some more)
-  grew = record { bytes = node; grown = refl; consumed = refl }
+  abbrev here : ℕ
+  here = length taken
 
-  old_is : taken ≡ take (length taken) text
-  old_is = sym (ap (take (length taken)) (append_assoc taken node more) ∙ take_at taken (node ++ more) (length taken) refl)
+  all_len : length text ≡ here + length node + length more
+  all_len = length-append (taken ++ node) more ∙ ap (λ (k : ℕ). k + length more) (length-append taken node)
 
-  ahead_is : node ++ more ≡ drop (length taken) text
-  ahead_is = sym (ap (drop (length taken)) (append_assoc taken node more) ∙ drop_at taken (node ++ more) (length taken) refl)
-
-  inside : length taken ≤ length text
-  inside = omega (arith, length-append (taken ++ node) more, length-append taken node)
-
-  own : node ≡ drop (length taken) (taken ++ node)
-  own = sym (drop_at taken node (length taken) refl)
-
-  stop_here : (fault : CheckFault)
-      → ((sides : List Side) (source : ℕ) → Stops (λ _. ⊥) asked sides mode (taken ++ node) (Some more) (length taken) (subtree_nodes choice number n sides source) fault)
-      → StopsIn asked mode choice number n text (length taken) fault
-  stop_here fault stops = stops_in asked mode choice number n text (length taken) taken (taken ++ node) (node ++ more) more inside old_is ahead_is grew fault stops
-
-  -- all nodes of the subtree at once
-  pub whole_there : ((sides : List Side) (source : ℕ) → Passes asked sides mode (taken ++ node) (length taken) (subtree_nodes choice number n sides source))
-      → PassesIn asked mode choice number n text (length taken) (length (taken ++ node))
-  whole_there passes = passes_in asked mode choice number n text (length taken) taken (taken ++ node) (node ++ more) more inside old_is ahead_is grew passes
+  own : (k : ℕ) → length node ≡ k → take k (drop here text) ≡ node
+  own k len = ap (take k) (stands taken node more).1 ∙ take_at node more k len
 
   module _ (there : choice.chunks ≡ true) (one : n ≤ 1024) where
-    chunk_stops_here : (fault : CheckFault)
-        → ((sides : List Side) (source : ℕ) → Stops (λ _. ⊥) asked sides mode (taken ++ node) (Some more) (length taken)
-        (record { is_chunk = true; number = number; len = n; sides = sides; source = source } ∷ []) fault)
-        → StopsIn asked mode choice number n text (length taken) fault
-    chunk_stops_here fault stops = stop_here fault (λ sides source.
-        subst (λ nodes. Stops (λ _. ⊥) asked sides mode (taken ++ node) (Some more) (length taken) nodes fault)
-        (sym (leaf_nodes choice number n sides source wanted one there)) (stops sides source))
-
-    pub chunk_there : length node ≡ n → Meets asked (last_chunk_input mode number node) → PassesIn asked mode choice number n text (length taken) (length (taken ++ node))
+    pub chunk_there : length node ≡ n → Meets asked (last_chunk_input mode number node) → PassesIn asked mode choice number n text here (length (taken ++ node))
     chunk_there len meets =
-        passes_in asked mode choice number n text (length taken) taken (taken ++ node) (node ++ more) more inside old_is ahead_is grew (λ sides source.
-        subst (λ nodes. Passes asked sides mode (taken ++ node) (length taken) nodes) (sym (leaf_nodes choice number n sides source wanted one there))
-        (chunk_passes asked sides mode taken (taken ++ node) node number n source refl (omega (arith, length-append taken node))
-        (subst (λ (s : List ℕ). Meets asked (last_chunk_input mode number s)) own meets)))
+        subst (PassesIn asked mode choice number n text here) (sym (ends taken node n len))
+        (pass_chunk asked mode choice number n text here wanted one there (omega (arith, all_len, len))
+        (subst (λ (s : List ℕ). Meets asked (last_chunk_input mode number s)) (sym (own n len)) meets))
 
-    pub chunk_wrong : length node ≡ n → ¬ Meets asked (last_chunk_input mode number node) → StopsIn asked mode choice number n text (length taken) (Mismatch (length taken))
+    pub chunk_wrong : length node ≡ n → ¬ Meets asked (last_chunk_input mode number node) → StopsIn asked mode choice number n text here (Mismatch here) (here + n)
     chunk_wrong len wrong =
-        chunk_stops_here (Mismatch (length taken)) (λ sides source.
-        chunk_stops (λ _. ⊥) asked sides mode taken (taken ++ node) node (Some more) number n source refl (Mismatch (length taken))
-        (refl, omega (arith, length-append taken node), subst (λ (s : List ℕ). ¬ Meets asked (last_chunk_input mode number s)) own wrong))
+        stop_chunk asked mode choice number n text here wanted one there (Mismatch here)
+        (refl, omega (arith, all_len, len), subst (λ (s : List ℕ). ¬ Meets asked (last_chunk_input mode number s)) (sym (own n len)) wrong)
 
-    pub chunk_short : length node < n → more ≡ [] → StopsIn asked mode choice number n text (length taken) (Short (length taken))
-    chunk_short less none =
-        chunk_stops_here (Short (length taken)) (λ sides source.
-        chunk_stops (λ _. ⊥) asked sides mode taken (taken ++ node) node (Some more) number n source refl (Short (length taken))
-        (refl, omega (arith, length-append taken node), none))
+    pub chunk_short : length node < n → more ≡ [] → StopsIn asked mode choice number n text here (Short here) (here + n)
+    chunk_short less none = stop_chunk asked mode choice number n text here wanted one there (Short here) (refl, omega (arith, all_len, less, ap length none))
 
   module _ (parent : 1024 < n) where
-    pub parent_wrong : length node ≡ 64 → ¬ Meets asked (parent_input mode (part_value left node) (part_value right node))
-        → StopsIn asked mode choice number n text (length taken) (Mismatch (length taken))
+    pub parent_wrong : length node ≡ 64 → ¬ Meets asked (parent_input mode (part_value left node) (part_value right node)) → StopsIn asked mode choice number n text here (Mismatch here) (here + 64)
     parent_wrong len wrong =
-        stop_here (Mismatch (length taken)) (λ sides source.
-        parent_stops asked choice mode number n sides source wanted parent (λ _. ⊥) taken (taken ++ node) node (Some more) refl (Mismatch (length taken))
-        (refl, omega (arith, length-append taken node), subst (λ (s : List ℕ). ¬ Meets asked (parent_input mode (part_value left s) (part_value right s))) own wrong))
+        stop_parent asked mode choice number n text here wanted parent (Mismatch here)
+        (refl, omega (arith, all_len, len), subst (λ (s : List ℕ). ¬ Meets asked (parent_input mode (part_value left s) (part_value right s))) (sym (own 64 len)) wrong)
 
-    pub parent_short : length node < 64 → more ≡ [] → StopsIn asked mode choice number n text (length taken) (Short (length taken))
-    parent_short less none =
-        stop_here (Short (length taken)) (λ sides source.
-        parent_stops asked choice mode number n sides source wanted parent (λ _. ⊥) taken (taken ++ node) node (Some more) refl (Short (length taken))
-        (refl, omega (arith, length-append taken node), none))
+    pub parent_short : length node < 64 → more ≡ [] → StopsIn asked mode choice number n text here (Short here) (here + 64)
+    parent_short less none = stop_parent asked mode choice number n text here wanted parent (Short here) (refl, omega (arith, all_len, less, ap length none))
 
     -- the parent is there, and what its parts come to is what the subtree comes to
     module _ (near far : Asked) (len : length node ≡ 64) (meets : Meets asked (parent_input mode (part_value left node) (part_value right node)))
         (near_is : near ≡ below left node) (far_is : far ≡ below right node) where
-      took : TookParent asked mode taken (taken ++ node)
-      took = record {
-        bytes = node;
-        grown = refl;
-        len = omega (arith, length-append taken node);
-        meets = subst (λ (s : List ℕ). Meets asked (parent_input mode (part_value left s) (part_value right s))) own meets;
-      }
+      fits : here + 64 ≤ length text
+      fits = omega (arith, all_len, len)
 
-      near_asks : near ≡ below left (drop (length taken) (taken ++ node))
-      near_asks = near_is ∙ ap (below left) own
+      met : Meets asked (parent_at mode text here)
+      met = subst (λ (s : List ℕ). Meets asked (parent_input mode (part_value left s) (part_value right s))) (sym (own 64 len)) meets
 
-      far_asks : far ≡ below right (drop (length taken) (taken ++ node))
-      far_asks = far_is ∙ ap (below right) own
+      near_asks : near ≡ below left (take 64 (drop here text))
+      near_asks = near_is ∙ ap (below left) (sym (own 64 len))
 
-      whole_is : take (length (taken ++ node)) text ≡ taken ++ node
-      whole_is = take_at (taken ++ node) more (length (taken ++ node)) refl
-
-      goes_on : length taken ≤ length (taken ++ node)
-      goes_on = omega (arith, length-append taken node)
+      far_asks : far ≡ below right (take 64 (drop here text))
+      far_asks = far_is ∙ ap (below right) (sym (own 64 len))
 
       pub halves_pass : (middle end : ℕ) → PassesIn near mode choice number (left_len n) text (length (taken ++ node)) middle
-          → PassesIn far mode choice (number + left_len n / 1024) (n - left_len n) text middle end → PassesIn asked mode choice number n text (length taken) end
+          → PassesIn far mode choice (number + left_len n / 1024) (n - left_len n) text middle end → PassesIn asked mode choice number n text here end
       halves_pass middle end first second =
-          both_pass asked near far mode choice number n (left_len n) text (length taken) (length (taken ++ node)) middle taken (taken ++ node) wanted parent refl refl goes_on refl whole_is
-          took near_asks far_asks (λ sides source. omega (arith, (first.passes sides source).ends, length-take-le middle text first.within, first.within)) middle end first second
+          both_pass asked mode choice number n text here wanted parent near far (left_len n) refl fits met near_asks far_asks middle end
+          (subst (λ (k : ℕ). PassesIn near mode choice number (left_len n) text k middle) (ends taken node 64 len) first) second
 
-      pub second_stops : (middle : ℕ) (fault : CheckFault) → PassesIn near mode choice number (left_len n) text (length (taken ++ node)) middle
-          → StopsIn far mode choice (number + left_len n / 1024) (n - left_len n) text middle fault → StopsIn asked mode choice number n text (length taken) fault
-      second_stops middle fault first second =
-          far_part_stops asked near far mode choice number n (left_len n) text (length taken) (length (taken ++ node)) middle taken (taken ++ node) wanted parent refl refl goes_on refl whole_is
-          took near_asks far_asks (λ sides source. omega (arith, (first.passes sides source).ends, length-take-le middle text first.within, first.within)) middle fault first second
+      pub second_stops : (middle : ℕ) (fault : CheckFault) (end : ℕ) → PassesIn near mode choice number (left_len n) text (length (taken ++ node)) middle
+          → StopsIn far mode choice (number + left_len n / 1024) (n - left_len n) text middle fault end → StopsIn asked mode choice number n text here fault end
+      second_stops middle fault end first second =
+          far_part_stops asked mode choice number n text here wanted parent near far (left_len n) refl fits met near_asks far_asks middle fault end
+          (subst (λ (k : ℕ). PassesIn near mode choice number (left_len n) text k middle) (ends taken node 64 len) first) second
 
-      pub first_stops : (fault : CheckFault) → StopsIn near mode choice number (left_len n) text (length (taken ++ node)) fault
-          → StopsIn asked mode choice number n text (length taken) fault
-      first_stops fault first = record {
-        end = first.end;
-        from = omega (arith, first.from, goes_on);
-        within = first.within;
-        stops = λ sides source.
-            near_stops asked choice mode number n sides source wanted parent (λ _. ⊥) near taken (taken ++ node) (take first.end text)
-            (take (first.end - length (taken ++ node)) (drop (length (taken ++ node)) text)) (Some (drop first.end text)) took near_asks
-            (take_on (length (taken ++ node)) first.end text first.from ∙ ap (λ (s : List ℕ). s ++ take (first.end - length (taken ++ node)) (drop (length (taken ++ node)) text)) whole_is)
-            fault (first.stops (sides ++ left ∷ []) (source + 64));
-      }
+      pub first_stops : (fault : CheckFault) (end : ℕ) → StopsIn near mode choice number (left_len n) text (length (taken ++ node)) fault end
+          → StopsIn asked mode choice number n text here fault end
+      first_stops fault end first =
+          near_part_stops asked mode choice number n text here wanted parent near far (left_len n) refl fits met near_asks far_asks fault end
+          (subst (λ (k : ℕ). StopsIn near mode choice number (left_len n) text k fault end) (ends taken node 64 len) first)
 
 -- all of a part taken, of which nothing more comes
 pub all_taken_from : (mode : Mode) (choice : Choice) (before after : List Part) (part : Part) (node : List ℕ) → before ≡ after ++ part ∷ []
@@ -233,9 +180,9 @@ all_taken_from mode choice before after part node is here = record {
   passes = λ taken more end h.
       subst (λ (ps : List Part). AllPass mode choice ps ((taken ++ node) ++ more) (length taken) end) (sym is)
       (AllPass-last mode choice after part ((taken ++ node) ++ more) (length taken) end (length (taken ++ node), here taken more, h));
-  stops = λ taken more fault h.
-      subst (λ (ps : List Part). AllStop mode choice ps ((taken ++ node) ++ more) (length taken) fault) (sym is)
-      (AllStop-last mode choice after part ((taken ++ node) ++ more) (length taken) fault (inr (length (taken ++ node), here taken more, h)));
+  stops = λ taken more fault end h.
+      subst (λ (ps : List Part). AllStop mode choice ps ((taken ++ node) ++ more) (length taken) fault end) (sym is)
+      (AllStop-last mode choice after part ((taken ++ node) ++ more) (length taken) fault end (inr (length (taken ++ node), here taken more, h)));
 }
 
 -- one node taken: a chunk
@@ -266,15 +213,15 @@ parent_taken_from mode choice before rest middle after part node near far is wan
           second.passes mode text a.0 end a.1.within a.2 in
           subst (λ (ps : List Part). AllPass mode choice ps text (length taken) end) (sym is)
           (AllPass-last mode choice rest part text (length taken) end (b.0, passed taken more a.0 b.0 a.1 b.1, b.2));
-      stops = λ taken more fault h.
+      stops = λ taken more fault end h.
           let text : List ℕ = (taken ++ node) ++ more in
-          subst (λ (ps : List Part). AllStop mode choice ps text (length taken) fault) (sym is)
-          (AllStop-last mode choice rest part text (length taken) fault
-          (elim (first.stops mode text (length (taken ++ node)) fault (inside taken more) h) [
-            | inl own ↦ inl (stopped_first taken more fault own)
+          subst (λ (ps : List Part). AllStop mode choice ps text (length taken) fault end) (sym is)
+          (AllStop-last mode choice rest part text (length taken) fault end
+          (elim (first.stops mode text (length (taken ++ node)) fault end (inside taken more) h) [
+            | inl one ↦ inl (stopped_first taken more fault end one)
             | inr a ↦
-                elim (second.stops mode text a.0 fault a.1.within a.2) [
-                  | inl own ↦ inl (stopped_second taken more a.0 fault a.1 own)
+                elim (second.stops mode text a.0 fault end a.1.within a.2) [
+                  | inl one ↦ inl (stopped_second taken more a.0 fault end a.1 one)
                   | inr b ↦ inr (b.0, passed taken more a.0 b.0 a.1 b.1, b.2)
                 ]
           ]));
@@ -291,33 +238,37 @@ WaitsIn-taken task choice before after taken node step waits more =
     record {
       accepted = λ end h all. old.accepted end (step.passes taken more end h) all;
       trailing = λ end h less. old.trailing end (step.passes taken more end h) less;
-      stopped = λ fault h. old.stopped fault (step.stops taken more fault h);
+      stopped = λ fault end h. old.stopped fault end (step.stops taken more fault end h);
     }
 
 -- one that hasn't the value asked for is the first fault
-pub chunk_refused : (mode : Mode) (choice : Choice) (before after : List Part) (part : Part) (node : List ℕ) (at : ℕ) → before ≡ after ++ part ∷ []
-    → wants choice (1024 * part.number) part.len ≡ true → choice.chunks ≡ true → part.len ≤ 1024 → length node ≡ part.len
-    → ¬ Meets part.asked (last_chunk_input mode part.number node) → HasRefused mode choice before at node (Mismatch at)
-chunk_refused mode choice before after part node at is wanted there one len wrong = record {
+part_refused : (mode : Mode) (choice : Choice) (before after : List Part) (part : Part) (node : List ℕ) (at : ℕ) → before ≡ after ++ part ∷ []
+    → ((taken more : List ℕ) → StopsIn part.asked mode choice part.number part.len ((taken ++ node) ++ more) (length taken) (Mismatch (length taken)) (length taken + length node))
+    → HasRefused mode choice before at (length node) node (Mismatch at)
+part_refused mode choice before after part node at is wrong = record {
   is = refl;
   stops = λ taken more at_is.
-      subst (λ (ps : List Part). AllStop mode choice ps ((taken ++ node) ++ more) (length taken) (Mismatch at)) (sym is)
-      (AllStop-last mode choice after part ((taken ++ node) ++ more) (length taken) (Mismatch at)
-      (inl (subst (λ (k : ℕ). StopsIn part.asked mode choice part.number part.len ((taken ++ node) ++ more) (length taken) (Mismatch k)) (sym at_is)
-      (chunk_wrong part.asked mode choice part.number part.len taken node more wanted there one len wrong))));
+      let end : ℕ = length taken + length node in
+      subst (λ (ps : List Part). AllStop mode choice ps ((taken ++ node) ++ more) (length taken) (Mismatch at) end) (sym is)
+      (AllStop-last mode choice after part ((taken ++ node) ++ more) (length taken) (Mismatch at) end
+      (inl (subst (λ (k : ℕ). StopsIn part.asked mode choice part.number part.len ((taken ++ node) ++ more) (length taken) (Mismatch k) end) (sym at_is) (wrong taken more))));
 }
+
+pub chunk_refused : (mode : Mode) (choice : Choice) (before after : List Part) (part : Part) (node : List ℕ) (at : ℕ) → before ≡ after ++ part ∷ []
+    → wants choice (1024 * part.number) part.len ≡ true → choice.chunks ≡ true → part.len ≤ 1024 → length node ≡ part.len
+    → ¬ Meets part.asked (last_chunk_input mode part.number node) → HasRefused mode choice before at (length node) node (Mismatch at)
+chunk_refused mode choice before after part node at is wanted there one len wrong =
+    part_refused mode choice before after part node at is (λ taken more.
+    subst (StopsIn part.asked mode choice part.number part.len ((taken ++ node) ++ more) (length taken) (Mismatch (length taken))) (ap (λ (k : ℕ). length taken + k) (sym len))
+    (chunk_wrong part.asked mode choice part.number part.len taken node more wanted there one len wrong))
 
 pub parent_refused : (mode : Mode) (choice : Choice) (before after : List Part) (part : Part) (node : List ℕ) (at : ℕ) → before ≡ after ++ part ∷ []
     → wants choice (1024 * part.number) part.len ≡ true → 1024 < part.len → length node ≡ 64
-    → ¬ Meets part.asked (parent_input mode (part_value left node) (part_value right node)) → HasRefused mode choice before at node (Mismatch at)
-parent_refused mode choice before after part node at is wanted parent len wrong = record {
-  is = refl;
-  stops = λ taken more at_is.
-      subst (λ (ps : List Part). AllStop mode choice ps ((taken ++ node) ++ more) (length taken) (Mismatch at)) (sym is)
-      (AllStop-last mode choice after part ((taken ++ node) ++ more) (length taken) (Mismatch at)
-      (inl (subst (λ (k : ℕ). StopsIn part.asked mode choice part.number part.len ((taken ++ node) ++ more) (length taken) (Mismatch k)) (sym at_is)
-      (parent_wrong part.asked mode choice part.number part.len taken node more wanted parent len wrong))));
-}
+    → ¬ Meets part.asked (parent_input mode (part_value left node) (part_value right node)) → HasRefused mode choice before at (length node) node (Mismatch at)
+parent_refused mode choice before after part node at is wanted parent len wrong =
+    part_refused mode choice before after part node at is (λ taken more.
+    subst (StopsIn part.asked mode choice part.number part.len ((taken ++ node) ++ more) (length taken) (Mismatch (length taken))) (ap (λ (k : ℕ). length taken + k) (sym len))
+    (parent_wrong part.asked mode choice part.number part.len taken node more wanted parent len wrong))
 
 -- the last part, taken off
 pub part_taken : (choice : Choice) (parts rest : List Part) (part : Part) → AreParts choice parts → parts ≡ rest ++ part ∷ []
@@ -395,22 +346,33 @@ waits_trailing task choice parts text at none w less =
 
 -- an encoding that ends within the node that comes next is short there
 part_short : (mode : Mode) (choice : Choice) (parts : List Part) (part : Part) (n : ℕ) (taken more : List ℕ) → First choice parts part n → choice.chunks ≡ true → length more < n
-    → StopsIn part.asked mode choice part.number part.len ((taken ++ more) ++ []) (length taken) (Short (length taken))
-part_short mode choice parts part n taken more first there less = elim (cases_lt 1024 part.len) [
-  | inl parent ↦ parent_short part.asked mode choice part.number part.len taken more [] first.wanted parent (omega (arith, less, first.parent parent)) refl
-  | inr one ↦ chunk_short part.asked mode choice part.number part.len taken more [] first.wanted there one (omega (arith, less, first.chunk one)) refl
-]
+    → StopsIn part.asked mode choice part.number part.len ((taken ++ more) ++ []) (length taken) (Short (length taken)) (length taken + n)
+part_short mode choice parts part n taken more first there less =
+    let P : ℕ → Type 0 = λ (k : ℕ). StopsIn part.asked mode choice part.number part.len ((taken ++ more) ++ []) (length taken) (Short (length taken)) (length taken + k) in
+    elim (cases_lt 1024 part.len) [
+      | inl parent ↦ subst P (sym (first.parent parent)) (parent_short part.asked mode choice part.number part.len taken more [] first.wanted parent (omega (arith, less, first.parent parent)) refl)
+      | inr one ↦ subst P (sym (first.chunk one)) (chunk_short part.asked mode choice part.number part.len taken more [] first.wanted there one (omega (arith, less, first.chunk one)) refl)
+    ]
+
+pub waits_stop : (task : CheckTask) (choice : Choice) (parts : List Part) (taken more : List ℕ) (n : ℕ) → AreParts choice parts → choice.chunks ≡ true → next_size parts ≡ Some n → length more < n
+    → WaitsIn task choice parts (taken ++ more) (length taken) → IsStopAs task (taken ++ more) (Short (length taken)) (length taken + n)
+waits_stop task choice parts taken more n all there next less w =
+    let found = size_of_some (last_part parts) n next in
+    let first : First choice parts found.0 n = first_of choice parts found.0 n all found.1 found.2 in
+    let fault : CheckFault = Short (length taken) in
+    w.stopped fault (length taken + n)
+    (subst (λ (ps : List Part). AllStop task.mode choice ps (taken ++ more) (length taken) fault (length taken + n)) (sym first.is)
+    (AllStop-last task.mode choice (take (length parts - 1) parts) found.0 (taken ++ more) (length taken) fault (length taken + n)
+    (inl (subst (λ (s : List ℕ). StopsIn found.0.asked task.mode choice found.0.number found.0.len s (length taken) fault (length taken + n)) (append-nil (taken ++ more))
+    (part_short task.mode choice parts found.0 n taken more first there less)))))
+
+pub fault_as : (task : CheckTask) (text : List ℕ) (fault : CheckFault) (end : ℕ) → IsStopAs task text fault end → IsFaultAs task text fault
+fault_as task text fault end h = first_fault task.mode task.root text (slice_nodes text task.start task.len) fault end h
 
 pub waits_short : (task : CheckTask) (choice : Choice) (parts : List Part) (taken more : List ℕ) (n : ℕ) → AreParts choice parts → choice.chunks ≡ true → next_size parts ≡ Some n → length more < n
     → WaitsIn task choice parts (taken ++ more) (length taken) → IsFaultAs task (taken ++ more) (Short (length taken))
 waits_short task choice parts taken more n all there next less w =
-    let found = size_of_some (last_part parts) n next in
-    let first : First choice parts found.0 n = first_of choice parts found.0 n all found.1 found.2 in
-    w.stopped (Short (length taken))
-    (subst (λ (ps : List Part). AllStop task.mode choice ps (taken ++ more) (length taken) (Short (length taken))) (sym first.is)
-    (AllStop-last task.mode choice (take (length parts - 1) parts) found.0 (taken ++ more) (length taken) (Short (length taken))
-    (inl (subst (λ (s : List ℕ). StopsIn found.0.asked task.mode choice found.0.number found.0.len s (length taken) (Short (length taken))) (append-nil (taken ++ more))
-    (part_short task.mode choice parts found.0 n taken more first there less)))))
+    fault_as task (taken ++ more) (Short (length taken)) (length taken + n) (waits_stop task choice parts taken more n all there next less w)
 
 -- the next node has bytes
 size_some : (part : Part) → 0 < part_size part
@@ -447,12 +409,12 @@ module _ (mode : Mode) (root : List ℕ) (start len total : ℕ) (choice : Choic
   claims = is ∙ sym (claimed-append header more (omega (arith, size)))
 
   waits_for : ((end : ℕ) → AllPass mode choice parts (header ++ more) 8 end → PassesIn asked mode choice 0 total (header ++ more) 8 end)
-      → ((fault : CheckFault) → AllStop mode choice parts (header ++ more) 8 fault → StopsIn asked mode choice 0 total (header ++ more) 8 fault)
+      → ((fault : CheckFault) (end : ℕ) → AllStop mode choice parts (header ++ more) 8 fault end → StopsIn asked mode choice 0 total (header ++ more) 8 fault end)
       → WaitsIn own_task choice parts (header ++ more) 8
   waits_for passes stops = record {
-    accepted = λ end h all. top_accepted mode root (header ++ more) start len total choice asked long claims chosen asks end (passes end h) all;
-    trailing = λ end h less. top_trailing mode root (header ++ more) start len total choice asked long claims chosen asks end (passes end h) less;
-    stopped = λ fault h. top_stopped mode root (header ++ more) start len total choice asked long claims chosen asks fault (stops fault h);
+    accepted = λ end h all. top_accepted mode root (header ++ more) (Slice start len) total choice asked long claims chosen asks end (passes end h) all;
+    trailing = λ end h less. top_trailing mode root (header ++ more) (Slice start len) total choice asked long claims chosen asks end (passes end h) less;
+    stopped = λ fault end h. top_stopped mode root (header ++ more) (Slice start len) total choice asked long claims chosen asks fault end (stops fault end h);
   }
 
   pub begun_waits : IsBefore choice asked 0 total [] parts → WaitsIn own_task choice parts (header ++ more) 8
@@ -460,55 +422,67 @@ module _ (mode : Mode) (root : List ℕ) (start len total : ℕ) (choice : Choic
       waits_for
       (λ end h. let f : FirstPass asked 0 total mode choice [] (header ++ more) 8 end = before.passes mode (header ++ more) 8 end long h in
       subst (λ (k : ℕ). PassesIn asked mode choice 0 total (header ++ more) 8 k) f.2 f.1)
-      (λ fault h. elim (before.stops mode (header ++ more) 8 fault long h) [ inl own_stop ↦ own_stop | inr other ↦ absurd other.2 ])
+      (λ fault end h. elim (before.stops mode (header ++ more) 8 fault end long h) [ inl own_stop ↦ own_stop | inr other ↦ absurd other.2 ])
 
   module _ (empty : total ≡ 0) where
-    wanted_empty : wants choice (1024 * 0) 0 ≡ true
-    wanted_empty =
-        let chosen_empty : choice ≡ of_slice 0 start len = chosen ∙ ap (λ (n : ℕ). of_slice n start len) empty in
-        subst (λ (ch : Choice). wants ch (1024 * 0) 0 ≡ true) (sym chosen_empty) (wants_whole (of_slice 0 start len) (1024 * 0) 0 (omega arith) (omega arith))
+    wanted_empty : wants choice (1024 * 0) total ≡ true
+    wanted_empty = subst (λ (ch : Choice). wants ch (1024 * 0) total ≡ true) (sym chosen) (wants_whole (of_slice total start len) (1024 * 0) total (omega (arith, empty)) (omega (arith, empty)))
 
     chunks_there : choice.chunks ≡ true
     chunks_there = ap (λ (ch : Choice). ch.chunks) chosen
 
-    bare_text : (header ++ []) ++ more ≡ header ++ more
-    bare_text = ap (λ (s : List ℕ). s ++ more) (append-nil header)
+    small : total ≤ 1024
+    small = omega (arith, empty)
+
+    -- the chunk of no bytes
+    no_bytes : last_chunk_input mode 0 [] ≡ chunk_at mode 0 total (header ++ more) 8
+    no_bytes = sym (ap (λ (k : ℕ). last_chunk_input mode 0 (take k (drop 8 (header ++ more)))) empty)
+
+    ends_there : 8 + total ≡ 8
+    ends_there = omega (arith, empty)
 
     pub empty_waits : parts ≡ [] → Meets asked (last_chunk_input mode 0 []) → WaitsIn own_task choice parts (header ++ more) 8
     empty_waits none meets =
-        let there : PassesIn asked mode choice 0 0 ((header ++ []) ++ more) (length header) (length (header ++ [])) =
-        chunk_there asked mode choice 0 0 header [] more wanted_empty chunks_there (omega arith) refl meets in
-        let size_twice : length (header ++ []) ≡ 8 = ap length (append-nil header) ∙ size in
         let here : PassesIn asked mode choice 0 total (header ++ more) 8 8 =
-        subst (λ (T : Type 0). T) (λ i. PassesIn asked mode choice 0 (sym empty i) (bare_text i) (size i) (size_twice i)) there in
+        subst (PassesIn asked mode choice 0 total (header ++ more) 8) ends_there
+        (pass_chunk asked mode choice 0 total (header ++ more) 8 wanted_empty small chunks_there (omega (arith, empty, long)) (subst (Meets asked) no_bytes meets)) in
         waits_for
         (λ end h. subst (λ (k : ℕ). PassesIn asked mode choice 0 total (header ++ more) 8 k) (subst (λ (ps : List Part). AllPass mode choice ps (header ++ more) 8 end) none h) here)
-        (λ fault h. absurd (subst (λ (ps : List Part). AllStop mode choice ps (header ++ more) 8 fault) none h))
+        (λ fault end h. absurd (subst (λ (ps : List Part). AllStop mode choice ps (header ++ more) 8 fault end) none h))
 
-    pub empty_refused : ¬ Meets asked (last_chunk_input mode 0 []) → IsFaultAs own_task (header ++ more) (Mismatch 8)
+    pub empty_refused : ¬ Meets asked (last_chunk_input mode 0 []) → IsStopAs own_task (header ++ more) (Mismatch 8) 8
     empty_refused wrong =
-        let stop : StopsIn asked mode choice 0 0 ((header ++ []) ++ more) (length header) (Mismatch (length header)) =
-        chunk_wrong asked mode choice 0 0 header [] more wanted_empty chunks_there (omega arith) refl wrong in
-        top_stopped mode root (header ++ more) start len total choice asked long claims chosen asks (Mismatch 8)
-        (subst (λ (T : Type 0). T) (λ i. StopsIn asked mode choice 0 (sym empty i) (bare_text i) (size i) (Mismatch (size i))) stop)
+        top_stopped mode root (header ++ more) (Slice start len) total choice asked long claims chosen asks (Mismatch 8) 8
+        (subst (StopsIn asked mode choice 0 total (header ++ more) 8 (Mismatch 8)) ends_there
+        (stop_chunk asked mode choice 0 total (header ++ more) 8 wanted_empty small chunks_there (Mismatch 8)
+        (refl, omega (arith, empty, long), subst (λ (x : Input). ¬ Meets asked x) no_bytes wrong)))
 
 pub begun_fault : (said task : CheckTask) (taken node : List ℕ) (fault : CheckFault) → said ≡ task → taken ≡ []
-    → ((more : List ℕ) → IsFaultAs said (node ++ more) fault) → (more : List ℕ) → IsFaultAs task ((taken ++ node) ++ more) fault
-begun_fault said task taken node fault same none faults more =
-    subst (λ (s : List ℕ). IsFaultAs task ((s ++ node) ++ more) fault) (sym none) (subst (λ (t : CheckTask). IsFaultAs t (node ++ more) fault) same (faults more))
+    → ((more : List ℕ) → IsStopAs said (node ++ more) fault 8) → (more : List ℕ) → IsFaultAs task ((taken ++ node) ++ more) fault
+begun_fault said task taken node fault same none stops more =
+    subst (λ (s : List ℕ). IsFaultAs task ((s ++ node) ++ more) fault) (sym none) (subst (λ (t : CheckTask). IsFaultAs t (node ++ more) fault) same (fault_as said (node ++ more) fault 8 (stops more)))
 
 -- a node refused is the first fault, by what was known
-pub refused_fault : (task : CheckTask) (choice : Choice) (parts : List Part) (at : ℕ) (taken node : List ℕ) (fault : CheckFault) → HasRefused task.mode choice parts at node fault → at ≡ length taken
-    → ((more : List ℕ) → WaitsIn task choice parts (taken ++ more) (length taken)) → (more : List ℕ) → IsFaultAs task ((taken ++ node) ++ more) fault
-refused_fault task choice parts at taken node fault refused at_is waits more =
-    (subst (λ (s : List ℕ). WaitsIn task choice parts s (length taken)) (sym (append_assoc taken node more)) (waits (node ++ more))).stopped fault (refused.stops taken more at_is)
+pub refused_stop : (task : CheckTask) (choice : Choice) (parts : List Part) (at size : ℕ) (taken node : List ℕ) (fault : CheckFault) → HasRefused task.mode choice parts at size node fault
+    → at ≡ length taken → ((more : List ℕ) → WaitsIn task choice parts (taken ++ more) (length taken))
+    → (more : List ℕ) → IsStopAs task ((taken ++ node) ++ more) fault (length taken + size)
+refused_stop task choice parts at size taken node fault refused at_is waits more =
+    (subst (λ (s : List ℕ). WaitsIn task choice parts s (length taken)) (sym (append_assoc taken node more)) (waits (node ++ more))).stopped fault (length taken + size) (refused.stops taken more at_is)
+
+pub refused_fault : (task : CheckTask) (choice : Choice) (parts : List Part) (at size : ℕ) (taken node : List ℕ) (fault : CheckFault) → HasRefused task.mode choice parts at size node fault
+    → at ≡ length taken → ((more : List ℕ) → WaitsIn task choice parts (taken ++ more) (length taken)) → (more : List ℕ) → IsFaultAs task ((taken ++ node) ++ more) fault
+refused_fault task choice parts at size taken node fault refused at_is waits more =
+    fault_as task ((taken ++ node) ++ more) fault (length taken + size) (refused_stop task choice parts at size taken node fault refused at_is waits more)
 
 -- the same of bytes that nodes are taken of
 pub refused_in_fault : (task : CheckTask) (choice : Choice) (before after : List Part) (at used : ℕ) (taken bytes : List ℕ) (fault : CheckFault)
     → HasRefusedIn task.mode choice before after at used bytes fault → at ≡ length taken → ((more : List ℕ) → WaitsIn task choice before (taken ++ more) (length taken))
     → (more : List ℕ) → IsFaultAs task ((taken ++ bytes) ++ more) fault
 refused_in_fault task choice before after at used taken bytes fault refused at_is waits more =
-    (subst (λ (s : List ℕ). WaitsIn task choice before s (length taken)) (sym (append_assoc taken bytes more)) (waits (bytes ++ more))).stopped fault (refused.stops taken more at_is)
+    let stop = refused.stops taken more at_is in
+    let w : WaitsIn task choice before ((taken ++ bytes) ++ more) (length taken) =
+    subst (λ (s : List ℕ). WaitsIn task choice before s (length taken)) (sym (append_assoc taken bytes more)) (waits (bytes ++ more)) in
+    fault_as task ((taken ++ bytes) ++ more) fault stop.0 (w.stopped fault stop.0 stop.1)
 
 pub later_size : (at : ℕ) (o : Option ℕ) → 0 < at → (if nat_eq at 0 then Some 8 else o) ≡ o
 later_size at o some = elim (cases_Bool (nat_eq at 0)) [

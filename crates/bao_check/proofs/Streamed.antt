@@ -1,66 +1,132 @@
 -- What a walk over a reader shows of the bytes that were read, and of all that the reader had.
-use Rattle.std.proofs.Common.{◌≡◌, ℕ, ◌≤◌, List, [], ◌∷◌, ◌++◌, length, take, drop, Option, None, Some, IfErr, IfSome, MatchResult, OnOk, Result, Ok, Err, refl, sym, ap, subst, ◌∙◌, arith, inl, inr, length-append, length-drop}
-use Rattle.std.proofs.lemmas.List.{append-nil, drop-append-le, take-append-le}
+use Rattle.std.proofs.Common.{◌≡◌, ℕ, ◌+◌, ◌-◌, ◌<◌, ◌≤◌, true, List, [], ◌∷◌, ◌++◌, length, take, drop, Option, None, Some, IfErr, IfSome, MatchResult, OnOk, Result, Ok, Err, refl, sym, ap, subst, ◌∙◌, arith, inl, inr, length-append, length-drop}
+use Rattle.std.proofs.lemmas.List.{append-nil, append_assoc, drop-append-le, drop_at, take-append-le, take_all}
 use Rattle.std.specs.Io.KnownBytes.{Consumes}
 use Rattle.std.specs.List.{AllByRecursion}
 use Rattle.b3word.specs.Compression.{cv}
 use Rattle.b3tree.specs.declared.mode.Mode.{Mode}
 use Rattle.b3tree.specs.Hashing.{rooted}
-use Rattle.bao_text.specs.Nodes.{TreeNode, placed_nodes, size}
+use Rattle.bao_text.specs.declared.choice.Choice.{Choice}
+use Rattle.bao_text.specs.Cut.{claimed}
+use Rattle.bao_text.specs.Nodes.{TreeNode, nodes, size}
 use Rattle.bao_check.specs.declared.fault.CheckFault.{CheckFault}
 use Rattle.bao_check.specs.declared.fault.CheckFault.TheVariants.{Short, Mismatch, Trailing, Memory, Reader}
-use Rattle.bao_check.specs.declared.form.Form.TheVariants.{Slice}
+use Rattle.bao_check.specs.declared.part.Part.{Part}
 use Rattle.bao_check.specs.Accepted.{IsAccepted, IsGoodNode, bytes_at, end_of, node_input, part_value, places_of, slice_nodes}
-use Rattle.bao_check.specs.Faults.{IsFirstBad}
-use Rattle.bao_check.specs.Forms.{form_nodes}
-use Rattle.bao_check.specs.Streams.{BeginsAccepted, EndsMismatched, IsOfBytes, IsReadFault, IsStreamFault}
-use Rattle.bao_check.specs.Walk.{AreGoodUpTo, IsAskedIn, IsSourceFault, PassesText, StopsText, asked_root}
+use Rattle.bao_check.specs.Faults.{IsFirstBad, IsMismatchAt, IsShortAt}
+use Rattle.bao_check.specs.Streams.{BeginsAccepted, EndsWithin, IsCutShort, IsOfBytes, IsReadFault, IsReadStop, IsStreamFault, Reads}
+use Rattle.bao_check.specs.Waiting.{AreParts, CheckTask, HasRefused, IsStopAs, WaitsIn, next_size}
+use Rattle.bao_check.proofs.Feeding.{refused_stop, waits_stop}
 use Rattle.bao_check.proofs.Lists.{All-from_members, All-member, All-second}
-use Rattle.bao_check.proofs.WholeText.{accepted_from_walk, bad_place, form_nodes-append, mismatch_at, short_at}
+use Rattle.bao_check.proofs.Subtrees.{claimed-append}
 
--- a walk that passed took an accepted encoding
-pub read_accepted : (mode : Mode) (root : List ℕ) (start len : ℕ) (new : List ℕ) → PassesText mode root new (form_nodes (Slice start len) new) → IsAccepted mode root new (slice_nodes new start len)
-read_accepted mode root start len new h = accepted_from_walk mode root (Slice start len) new [] new (sym (append-nil new)) (omega arith) h
+pub Consumes-then : (a b c : Option (List ℕ)) (xs ys : List ℕ) → Consumes a b xs → Consumes b c ys → Consumes a c (xs ++ ys)
+Consumes-then None b c xs ys h k = tt
+Consumes-then (Some a) None c xs ys h k = absurd h
+Consumes-then (Some a) (Some b) None xs ys h k = absurd k
+Consumes-then (Some a) (Some b) (Some c) xs ys h k = h ∙ ap (λ (s : List ℕ). xs ++ s) k ∙ sym (append_assoc xs ys c)
 
-read_mismatched : (mode : Mode) (root new : List ℕ) (nodes : List TreeNode) (at : ℕ) (place : ℕ × TreeNode) → 8 ≤ length new → at ≡ place.0 → length new ≡ end_of place
-    → AreGoodUpTo (asked_root root) [] mode (new ++ []) (placed_nodes 8 nodes) place → ¬ IsAskedIn (asked_root root) [] mode (new ++ []) (placed_nodes 8 nodes) place
-    → EndsMismatched mode root new nodes at
-read_mismatched mode root new nodes at place long is ends good bad =
-    let first : IsFirstBad mode root (new ++ []) (places_of nodes) place = bad_place mode root (new ++ []) nodes place bad good in
-    (long, (place, subst (λ (s : List ℕ). IsFirstBad mode root s (places_of nodes) place) (append-nil new) first, is, ends))
+pub Reads-then : (a b c : List ℕ) (x y z : Option (List ℕ)) → Reads a b x y → Reads b c y z → Reads a c x z
+Reads-then a b c x y z h k = record {
+  bytes = h.bytes ++ k.bytes;
+  grown = k.grown ∙ ap (λ (s : List ℕ). s ++ k.bytes) h.grown ∙ append_assoc a h.bytes k.bytes;
+  consumed = Consumes-then x y z h.bytes k.bytes h.consumed k.consumed;
+}
 
--- one that stopped ended with what was read
-pub read_fault : (mode : Mode) (root : List ℕ) (start len : ℕ) (new : List ℕ) (after : Option (List ℕ)) (fault : CheckFault)
-    → StopsText IsSourceFault mode root new after (form_nodes (Slice start len) new) fault → IsReadFault mode root start len new after fault
-read_fault mode root start len new after (Short at) (inl h) = (inl (omega (arith, h.1), h.0), h.2)
-read_fault mode root start len new after (Short at) (inr (long, (place, h))) = (short_at mode root new new (Slice start len) at place refl long h.0 h.1 h.3, h.2)
-read_fault mode root start len new after (Mismatch at) (inl h) = absurd h
-read_fault mode root start len new after (Mismatch at) (inr (long, (place, h))) =
-    read_mismatched mode root new (slice_nodes new start len) at place long h.0 h.1 (h.2 []).0 (h.2 []).1
-read_fault mode root start len new after (Trailing at) (inl h) = absurd h
-read_fault mode root start len new after (Trailing at) (inr (long, (place, h))) = absurd h
-read_fault mode root start len new after Memory (inl h) = inl (omega (arith, h.1))
-read_fault mode root start len new after Memory (inr (long, (place, h))) =
-    inr (long, (place, record { earlier = h.2.earlier; later = h.2.later; split = h.2.split; good = h.2.good; within = h.1 }))
-read_fault mode root start len new after Reader (inl h) = inl (omega (arith, h.1))
-read_fault mode root start len new after Reader (inr (long, (place, h))) =
-    inr (long, (place, record { earlier = h.2.earlier; later = h.2.later; split = h.2.split; good = h.2.good; within = h.1 }))
+pub Reads-nothing : (a : List ℕ) (x : Option (List ℕ)) → Reads a a x x
+Reads-nothing a None = record { bytes = []; grown = sym (append-nil a); consumed = tt }
+Reads-nothing a (Some x) = record { bytes = []; grown = sym (append-nil a); consumed = refl }
+
+-- the node that was read
+pub node_of : (taken new bytes slice : List ℕ) (at : ℕ) → new ≡ taken ++ bytes → slice ≡ new → at ≡ length taken → take (length slice - at) (drop at slice) ≡ bytes
+node_of taken new bytes slice at grown is at_is =
+    let all : slice ≡ taken ++ bytes = is ∙ grown in
+    let rest : drop at slice ≡ bytes = ap (drop at) all ∙ drop_at taken bytes at (sym at_is) in
+    ap (take (length slice - at)) rest ∙ take_all (length slice - at) bytes (omega (arith, ap length all, length-append taken bytes, at_is))
+
+-- what is read from nothing on is all that was read
+pub all_read : (old new : List ℕ) (before after : Option (List ℕ)) → old ≡ [] → Reads old new before after → Consumes before after new
+all_read old new before after none h = subst (Consumes before after) (sym (h.grown ∙ ap (λ (s : List ℕ). s ++ h.bytes) none)) h.consumed
+
+module _ (mode : Mode) (root : List ℕ) (start len : ℕ) where
+  abbrev task : CheckTask
+  task = record { mode = mode; root = root; start = start; len = len }
+
+  -- the length isn't wholly there
+  pub cut_header : (new : List ℕ) (after : Option (List ℕ)) (fault : CheckFault) → IsCutShort 8 [] new after fault → IsReadStop mode root start len new after fault
+  cut_header new after (Short at) h = (inl (omega (arith, h.1), h.0), h.2)
+  cut_header new after (Mismatch at) h = absurd h
+  cut_header new after (Trailing at) h = absurd h
+  cut_header new after Memory h = inl (omega (arith, h))
+  cut_header new after Reader h = inl (omega (arith, h))
+
+  -- the node that comes next isn't
+  within_node : (taken more : List ℕ) (n : ℕ) → IsStopAs task (taken ++ more) (Short (length taken)) (length taken + n) → EndsWithin mode root (taken ++ more) (slice_nodes (taken ++ more) start len)
+  within_node taken more n stop =
+      inr (stop.long, (stop.place, record { earlier = stop.bad.earlier; later = stop.bad.later; split = stop.bad.split; good = stop.bad.good; within = omega (arith, stop.is.1) }))
+
+  cut_at : (taken more : List ℕ) (n : ℕ) (after : Option (List ℕ)) (fault : CheckFault) → IsCutShort n taken (taken ++ more) after fault
+      → IsStopAs task (taken ++ more) (Short (length taken)) (length taken + n) → IsReadStop mode root start len (taken ++ more) after fault
+  cut_at taken more n after (Short at) h stop =
+      (inr (stop.long, (stop.place, stop.bad, h.0 ∙ stop.is.0, stop.is.1)), h.2)
+  cut_at taken more n after (Mismatch at) h stop = absurd h
+  cut_at taken more n after (Trailing at) h stop = absurd h
+  cut_at taken more n after Memory h stop = within_node taken more n stop
+  cut_at taken more n after Reader h stop = within_node taken more n stop
+
+  few : (taken more : List ℕ) (n : ℕ) (after : Option (List ℕ)) (fault : CheckFault) → 0 < n → IsCutShort n taken (taken ++ more) after fault → length more < n
+  few taken more n after (Short at) some h = omega (arith, length-append taken more, h.1)
+  few taken more n after (Mismatch at) some h = absurd h
+  few taken more n after (Trailing at) some h = absurd h
+  few taken more n after Memory some h = omega (arith, length-append taken more, h, some)
+  few taken more n after Reader some h = omega (arith, length-append taken more, h)
+
+  pub cut_node : (choice : Choice) (parts : List Part) (taken new more : List ℕ) (n : ℕ) (after : Option (List ℕ)) (fault : CheckFault) → new ≡ taken ++ more → AreParts choice parts
+      → choice.chunks ≡ true → next_size parts ≡ Some n → 0 < n → ((more : List ℕ) → WaitsIn task choice parts (taken ++ more) (length taken))
+      → IsCutShort n taken new after fault → IsReadStop mode root start len new after fault
+  cut_node choice parts taken new more n after fault is all there next some waits cut =
+      let own : IsCutShort n taken (taken ++ more) after fault = subst (λ (s : List ℕ). IsCutShort n taken s after fault) is cut in
+      subst (λ (s : List ℕ). IsReadStop mode root start len s after fault) (sym is)
+      (cut_at taken more n after fault own (waits_stop task choice parts taken more n all there next (few taken more n after fault some own) (waits more)))
+
+  -- a node that was read isn't good: the first in each encoding that begins with what was read
+  pub wrong_node : (read : List ℕ) (after : Option (List ℕ)) (at end : ℕ) (fault : CheckFault) → fault ≡ Mismatch at → length read ≡ end
+      → ((more : List ℕ) → IsStopAs task (read ++ more) fault end) → IsReadStop mode root start len read after fault
+  wrong_node read after at end fault is len_is stops =
+      let stop : (more : List ℕ) → IsStopAs task (read ++ more) (Mismatch at) end = λ more. subst (λ (f : CheckFault). IsStopAs task (read ++ more) f end) is (stops more) in
+      let own : IsStopAs task read (Mismatch at) end = subst (λ (s : List ℕ). IsStopAs task s (Mismatch at) end) (append-nil read) (stop []) in
+      subst (IsReadStop mode root start len read after) (sym is) (
+        (own.long, (own.place, own.bad, own.is.0, len_is ∙ own.ends)),
+        (λ more. let h = stop more in (h.long, (h.place, h.bad, h.is.0, h.is.1))),
+      )
+
+  pub refused_node : (choice : Choice) (parts : List Part) (at : ℕ) (taken read node : List ℕ) (after : Option (List ℕ)) (fault : CheckFault) → read ≡ taken ++ node
+      → HasRefused mode choice parts at (length node) node fault → at ≡ length taken → ((more : List ℕ) → WaitsIn task choice parts (taken ++ more) (length taken))
+      → IsReadStop mode root start len read after fault
+  refused_node choice parts at taken read node after fault is refused at_is waits =
+      subst (λ (s : List ℕ). IsReadStop mode root start len s after fault) (sym is)
+      (wrong_node (taken ++ node) after at (length taken + length node) fault refused.is (length-append taken node)
+      (refused_stop task choice parts at (length node) taken node fault refused at_is waits))
+
+-- a read that ended so, and what that is of all that the reader had
+pub read_fault : (mode : Mode) (root : List ℕ) (start len : ℕ) (new : List ℕ) (after : Option (List ℕ)) (fault : CheckFault) → IsReadStop mode root start len new after fault
+    → IsReadFault mode root start len new after fault
+read_fault mode root start len new after (Short at) h = h
+read_fault mode root start len new after (Mismatch at) h = h.0
+read_fault mode root start len new after (Trailing at) h = h
+read_fault mode root start len new after Memory h = h
+read_fault mode root start len new after Reader h = h
 
 -- nothing more is there
 whole_read : (new rest all : List ℕ) → all ≡ new ++ rest → rest ≡ [] → new ≡ all
 whole_read new rest all is none = sym (append-nil new) ∙ ap (λ (s : List ℕ). new ++ s) (sym none) ∙ sym is
 
--- and its fault is the first one of all that the reader had
-pub stream_fault : (mode : Mode) (root : List ℕ) (start len : ℕ) (new rest all : List ℕ) (fault : CheckFault) → all ≡ new ++ rest
-    → StopsText IsSourceFault mode root new (Some rest) (form_nodes (Slice start len) new) fault → IsStreamFault mode root start len all fault
-stream_fault mode root start len new rest all (Short at) is (inl h) = inl (omega (arith, h.1, ap length (whole_read new rest all is h.2)), h.0)
-stream_fault mode root start len new rest all (Short at) is (inr (long, (place, h))) =
-    short_at mode root new all (Slice start len) at place (whole_read new rest all is h.2) long h.0 h.1 h.3
-stream_fault mode root start len new rest all (Mismatch at) is (inl h) = absurd h
-stream_fault mode root start len new rest all (Mismatch at) is (inr (long, (place, h))) =
-    mismatch_at mode root new rest all (Slice start len) at place is long h.0 h.1 (h.2 rest).0 (h.2 rest).1
-stream_fault mode root start len new rest all (Trailing at) is (inl h) = absurd h
-stream_fault mode root start len new rest all (Trailing at) is (inr (long, (place, h))) = absurd h
+stream_fault : (mode : Mode) (root : List ℕ) (start len : ℕ) (new rest all : List ℕ) (fault : CheckFault) → all ≡ new ++ rest
+    → IsReadStop mode root start len new (Some rest) fault → IsStreamFault mode root start len all fault
+stream_fault mode root start len new rest all (Short at) is h =
+    subst (λ (s : List ℕ). IsShortAt mode root s (slice_nodes s start len) at) (whole_read new rest all is h.1) h.0
+stream_fault mode root start len new rest all (Mismatch at) is h = subst (λ (s : List ℕ). IsMismatchAt mode root s (slice_nodes s start len) at) (sym is) (h.1 rest)
+stream_fault mode root start len new rest all (Trailing at) is h = h
 stream_fault mode root start len new rest all Memory is h = tt
 stream_fault mode root start len new rest all Reader is h = tt
 
@@ -92,7 +158,8 @@ good-append mode root text rest nodes h =
 begun_good : (mode : Mode) (root : List ℕ) (start len : ℕ) (all : List ℕ) → BeginsAccepted mode root start len all
     → AllByRecursion (IsGoodNode mode root all (places_of (slice_nodes all start len))) (places_of (slice_nodes all start len))
 begun_good mode root start len all h =
-    let same : slice_nodes h.text start len ≡ slice_nodes all start len = form_nodes-append (Slice start len) h.text h.rest all h.accepted.long h.split in
+    let same : slice_nodes h.text start len ≡ slice_nodes all start len =
+    ap (λ (n : ℕ). nodes n start len) (sym (claimed-append h.text h.rest h.accepted.long) ∙ ap claimed (sym h.split)) in
     subst (λ (nodes : List TreeNode). AllByRecursion (IsGoodNode mode root all (places_of nodes)) (places_of nodes)) same
     (subst (λ (s : List ℕ). AllByRecursion (IsGoodNode mode root s (places_of (slice_nodes h.text start len))) (places_of (slice_nodes h.text start len))) (sym h.split)
     (good-append mode root h.text h.rest (slice_nodes h.text start len) h.accepted))
@@ -119,12 +186,11 @@ abbrev pub Verdict : Mode → List ℕ → ℕ → ℕ → List ℕ → Result (
 Verdict mode root start len all result = MatchResult result (λ _. BeginsAccepted mode root start len all) (IsStreamFault mode root start len all)
 
 pub verdict : (mode : Mode) (root : List ℕ) (start len : ℕ) (new : List ℕ) (before after : Option (List ℕ)) (result : Result (Unit {0}) CheckFault) → Consumes before after new
-    → OnOk result (PassesText mode root new (form_nodes (Slice start len) new))
-    → IfErr result (StopsText IsSourceFault mode root new after (form_nodes (Slice start len) new))
+    → OnOk result (IsAccepted mode root new (slice_nodes new start len)) → IfErr result (IsReadStop mode root start len new after)
     → IfSome before (λ all. Verdict mode root start len all result)
 verdict mode root start len new None after result read ok err = tt
 verdict mode root start len new (Some all) None result read ok err = absurd read
-verdict mode root start len new (Some all) (Some rest) (Ok x) read ok err = record { text = new; rest = rest; split = read; accepted = read_accepted mode root start len new ok }
+verdict mode root start len new (Some all) (Some rest) (Ok x) read ok err = record { text = new; rest = rest; split = read; accepted = ok }
 verdict mode root start len new (Some all) (Some rest) (Err fault) read ok err = stream_fault mode root start len new rest all fault read err
 
 pub refused : (mode : Mode) (root : List ℕ) (start len : ℕ) (before : Option (List ℕ)) (result : Result (Unit {0}) CheckFault)
@@ -133,16 +199,3 @@ pub refused : (mode : Mode) (root : List ℕ) (start len : ℕ) (before : Option
 refused mode root start len None result h = tt
 refused mode root start len (Some all) (Ok x) h = tt
 refused mode root start len (Some all) (Err fault) h = fault-not_begun mode root start len all fault h
-
--- what is read stands in the vector
-pub ok_clause : (mode : Mode) (root : List ℕ) (start len : ℕ) (new held : List ℕ) (result : Result (Unit {0}) CheckFault) → new ≡ held
-    → OnOk result (PassesText mode root new (form_nodes (Slice start len) new)) → OnOk result (IsAccepted mode root held (slice_nodes held start len))
-ok_clause mode root start len new held (Ok x) same h = subst (λ (s : List ℕ). IsAccepted mode root s (slice_nodes s start len)) same (read_accepted mode root start len new h)
-ok_clause mode root start len new held (Err fault) same h = tt
-
-pub fault_clause : (mode : Mode) (root : List ℕ) (start len : ℕ) (new held : List ℕ) (after left : Option (List ℕ)) (result : Result (Unit {0}) CheckFault) → new ≡ held → after ≡ left
-    → IfErr result (StopsText IsSourceFault mode root new after (form_nodes (Slice start len) new)) → IfErr result (IsReadFault mode root start len held left)
-fault_clause mode root start len new held after left (Ok x) same end h = tt
-fault_clause mode root start len new held after left (Err fault) same end h =
-    subst (λ (s : List ℕ). IsReadFault mode root start len s left fault) same
-    (subst (λ (o : Option (List ℕ)). IsReadFault mode root start len new o fault) end (read_fault mode root start len new after fault h))

@@ -1,8 +1,8 @@
 -- The encoding of a whole subtree that was verified by lanes has all its nodes good.
-use Rattle.std.proofs.Common.{◌≡◌, ℕ, ◌+◌, ◌-◌, ◌*◌, ◌/◌, ◌^◌, ◌<◌, ◌≤◌, max, List, [], ◌∷◌, ◌++◌, length, take, drop, Bool, true, false, refl, sym, ap, subst, ◌∙◌, arith, length-append, pow_pos}
+use Rattle.std.proofs.Common.{◌≡◌, ℕ, ◌+◌, ◌-◌, ◌*◌, ◌/◌, ◌^◌, ◌<◌, ◌≤◌, max, List, [], ◌∷◌, ◌++◌, length, take, drop, Bool, true, false, refl, sym, ap, subst, ◌∙◌, arith, length-append, length-drop, pow_pos}
 use Rattle.std.specs.Int.{IsPowerOfTwo}
 use Rattle.std.proofs.lemmas.Bool.{and_from, lt-ltb}
-use Rattle.std.proofs.lemmas.List.{append-nil, append_assoc, drop-drop, drop-take, drop_at, take-take, take_all}
+use Rattle.std.proofs.lemmas.List.{append_assoc, drop-drop, drop-take, drop_at, length-take-le, take-take, take_all, take_at}
 use Rattle.b3word.specs.declared.input.Input.{Input}
 use Rattle.b3word.specs.Compression.{cv}
 use Rattle.b3tree.specs.declared.mode.Mode.{Mode}
@@ -18,9 +18,10 @@ use Rattle.bao_text.specs.Choice.{wants}
 use Rattle.bao_text.specs.Nodes.{TreeNode, left, right, subtree_nodes, subtree_size}
 use Rattle.bao_check.specs.declared.asked.Asked.{Asked}
 use Rattle.bao_check.specs.Accepted.{part_value}
-use Rattle.bao_check.specs.Walk.{Meets, Passes, chunk_taken, parent_taken}
-use Rattle.bao_check.specs.Whole.{HasEight, HasWhole, HasWholeAhead, IsWholeAsked, IsWholeOf, IsWholeText, lane_top, whole_len}
-use Rattle.bao_check.proofs.Walking.{TookParent, chunk_passes, leaf_nodes, leaf_without, none_passes, whole_passes}
+use Rattle.bao_check.specs.Walk.{Meets, Passes}
+use Rattle.bao_check.specs.Whole.{HasEight, HasWhole, HasWholeAhead, IsWholeAsked, IsWholeOf, IsWholeText, StandsAt, lane_top, whole_len}
+use Rattle.bao_check.proofs.Parts.{below}
+use Rattle.bao_check.proofs.Walking.{both_passes, chunk_passes, leaf_without, none_passes}
 
 wants_whole : (kept : Bool) (choice : Choice) (number chunks : ℕ) → 0 < chunks → HasWhole kept choice number chunks → wants choice (1024 * number) (1024 * chunks) ≡ true
 wants_whole kept choice number chunks some has =
@@ -45,31 +46,45 @@ pub of_text : (kept : Bool) (mode : Mode) (number chunks : ℕ) (top : Input) (v
     → IsWholeOf kept mode number chunks value text
 of_text kept mode number chunks top value text is whole = record {
   size = whole.size;
-  passes = λ choice old sides from has. whole.passes (record { top = false; value = record { 0 = value } }) choice old sides from has (sym is);
+  passes = λ choice all at sides from has. whole.passes (record { top = false; value = record { 0 = value } }) choice all at sides from has (sym is);
 }
+
+-- bytes that stand at a place
+stands_first : (text : List ℕ) (at : ℕ) (x y : List ℕ) → StandsAt text at (x ++ y) → StandsAt text at x
+stands_first text at x y h = (y ++ h.0, h.1 ∙ append_assoc x y h.0)
+
+stands_rest : (text : List ℕ) (at n : ℕ) (x y : List ℕ) → length x ≡ n → StandsAt text at (x ++ y) → StandsAt text (at + n) y
+stands_rest text at n x y size h = (h.0, sym (drop-drop n at text) ∙ ap (drop n) (h.1 ∙ append_assoc x y h.0) ∙ drop_at x (y ++ h.0) n size)
+
+stands_fit : (text : List ℕ) (at n : ℕ) (x : List ℕ) → length x ≡ n → 0 < n → StandsAt text at x → at + n ≤ length text
+stands_fit text at n x size some h =
+    let left_over : length text - at ≡ length x + length h.0 = sym (length-drop at text) ∙ ap length h.1 ∙ length-append x h.0 in
+    omega (arith, left_over, size, some)
+
+stands_bytes : (text : List ℕ) (at n : ℕ) (x : List ℕ) → length x ≡ n → StandsAt text at x → take n (drop at text) ≡ x
+stands_bytes text at n x size h = ap (take n) h.1 ∙ take_at x h.0 n size
 
 -- a chunk by itself
 pub chunk_whole : (mode : Mode) (number : ℕ) (text : List ℕ) → length text ≡ 1024 → IsWholeText true mode number 1 (last_chunk_input mode number text) text
 chunk_whole mode number text size = record {
   size = size;
-  passes = λ asked choice old sides from has meets.
-      let nodes = leaf_nodes choice number 1024 sides from (wants_whole true choice number 1 (omega arith) has) (omega arith) has.with_chunks in
-      let on : drop (length old) (old ++ text) ≡ text = drop_at old text (length old) refl in
-      let met : Meets asked (chunk_taken mode number old (old ++ text)) = subst (λ (s : List ℕ). Meets asked (last_chunk_input mode number s)) (sym on) meets in
-      subst (λ (xs : List TreeNode). Passes asked sides mode (old ++ text) (length old) xs) (sym nodes)
-      (chunk_passes asked sides mode old (old ++ text) text number 1024 from refl (length-append old text ∙ ap (λ (n : ℕ). length old + n) size) met);
+  passes = λ asked choice all at sides from has meets here.
+      subst (λ (k : ℕ). Passes asked sides mode all at (at + k) (subtree_nodes choice number 1024 sides from)) (sym size)
+      (chunk_passes asked choice mode all at number 1024 sides from (wants_whole true choice number 1 (omega arith) has) (omega arith) has.with_chunks
+      (stands_fit all at 1024 text size (omega arith) here)
+      (subst (λ (s : List ℕ). Meets asked (last_chunk_input mode number s)) (sym (stands_bytes all at 1024 text size here)) meets));
 }
 
 -- without chunks nothing stands there, whatever the value
 pub no_chunk_whole : (mode : Mode) (number : ℕ) (value text : List ℕ) → text ≡ [] → IsWholeOf false mode number 1 value text
 no_chunk_whole mode number value text none = record {
   size = ap length none;
-  passes = λ choice old sides from has.
+  passes = λ choice all at sides from has here.
       let asked : Asked = record { top = false; value = record { 0 = value } } in
       let nodes : List TreeNode = subtree_nodes choice number 1024 sides from in
-      let same : old ≡ old ++ text = sym (append-nil old) ∙ ap (λ (s : List ℕ). old ++ s) (sym none) in
-      subst (λ (s : List ℕ). Passes asked sides mode s (length old) nodes) same
-      (none_passes asked sides mode old nodes (leaf_without choice number 1024 sides from (wants_whole false choice number 1 (omega arith) has) (omega arith) has.with_chunks));
+      let same : at ≡ at + length text = omega (arith, ap length none) in
+      subst (λ (k : ℕ). Passes asked sides mode all at k nodes) same
+      (none_passes asked sides mode all at nodes (leaf_without choice number 1024 sides from (wants_whole false choice number 1 (omega arith) has) (omega arith) has.with_chunks));
 }
 
 -- two whole subtrees side by side, and the parent before them
@@ -81,43 +96,34 @@ parent_whole kept mode number n p l r lv rv power size pl pr near far =
     let some : 0 < n = subst (λ (m : ℕ). 0 < m) (sym power.1) (pow_pos power.0) in
     record {
       size = omega (arith, length-append p (l ++ r), length-append l r, size, near.size, far.size, whole_len-double kept n some);
-      passes = λ asked choice old sides from has meets.
+      passes = λ asked choice all at sides from has meets here.
           let m : ℕ = 1024 * (n + n) in
           let met_at : left_len m ≡ 1024 * n = left_len-double n power in
           let number_at : number + left_len m / 1024 ≡ number + n = ap (λ (k : ℕ). number + k / 1024) met_at ∙ omega arith in
           let len_at : m - left_len m ≡ 1024 * n = ap (λ (k : ℕ). m - k) met_at ∙ omega arith in
-          let new : List ℕ = old ++ p in
-          let new_near : List ℕ = new ++ l in
-          let new_far : List ℕ = old ++ (p ++ (l ++ r)) in
-          let grown_far : new_far ≡ new_near ++ r = sym (append_assoc new l r ∙ append_assoc old p (l ++ r)) in
-          let taken : drop (length old) new ≡ p = drop_at old p (length old) refl in
-          let both : parent_input mode lv rv ≡ parent_taken mode old new =
-          (λ i. parent_input mode (sym pl i) (sym pr i)) ∙ sym (λ i. parent_taken mode [] (taken i)) in
-          let took : TookParent asked mode old new = record {
-            bytes = p;
-            grown = refl;
-            len = length-append old p ∙ ap (λ (k : ℕ). length old + k) size;
-            meets = subst (Meets asked) both meets;
-          } in
-          let left_value : lv ≡ part_value left (drop (length old) new) = sym pl ∙ sym (ap (part_value left) taken) in
-          let right_value : rv ≡ part_value right (drop (length old) new) = sym pr ∙ sym (ap (part_value right) taken) in
-          let asked_near : Asked = record { top = false; value = record { 0 = part_value left (drop (length old) new) } } in
-          let asked_far : Asked = record { top = false; value = record { 0 = part_value right (drop (length old) new) } } in
+          let here_p : StandsAt all at p = stands_first all at p (l ++ r) here in
+          let rest : StandsAt all (at + 64) (l ++ r) = stands_rest all at 64 p (l ++ r) size here in
+          let parent : take 64 (drop at all) ≡ p = stands_bytes all at 64 p size here_p in
+          let left_value : lv ≡ part_value left (take 64 (drop at all)) = sym pl ∙ ap (part_value left) (sym parent) in
+          let right_value : rv ≡ part_value right (take 64 (drop at all)) = sym pr ∙ ap (part_value right) (sym parent) in
           let has_near : HasWhole kept choice number n = record { with_chunks = has.with_chunks; start = has.start; end = omega (arith, has.end) } in
           let has_far : HasWhole kept choice (number + n) n = record { with_chunks = has.with_chunks; start = omega (arith, has.start); end = omega (arith, has.end) } in
           let from_far : ℕ = from + 64 + subtree_size (left_len m) in
-          let near_is : Passes (record { top = false; value = record { 0 = lv } }) (sides ++ left ∷ []) mode new_near (length new) (subtree_nodes choice number (1024 * n) (sides ++ left ∷ []) (from + 64))
-          ≡ Passes asked_near (sides ++ left ∷ []) mode new_near (length new) (subtree_nodes choice number (left_len m) (sides ++ left ∷ []) (from + 64)) =
-          λ i. Passes (record { top = false; value = record { 0 = left_value i } }) (sides ++ left ∷ []) mode new_near (length new) (subtree_nodes choice number (sym met_at i) (sides ++ left ∷ []) (from + 64)) in
-          let near_passes : Passes asked_near (sides ++ left ∷ []) mode new_near (length new) (subtree_nodes choice number (left_len m) (sides ++ left ∷ []) (from + 64)) =
-          subst (λ (T : Type 0). T) near_is (near.passes choice new (sides ++ left ∷ []) (from + 64) has_near) in
-          let far_is : Passes (record { top = false; value = record { 0 = rv } }) (sides ++ right ∷ []) mode (new_near ++ r) (length new_near) (subtree_nodes choice (number + n) (1024 * n) (sides ++ right ∷ []) from_far)
-          ≡ Passes asked_far (sides ++ right ∷ []) mode new_far (length new_near) (subtree_nodes choice (number + left_len m / 1024) (m - left_len m) (sides ++ right ∷ []) from_far) =
-          λ i. Passes (record { top = false; value = record { 0 = right_value i } }) (sides ++ right ∷ []) mode (sym grown_far i) (length new_near) (subtree_nodes choice (sym number_at i) (sym len_at i) (sides ++ right ∷ []) from_far) in
-          let far_passes : Passes asked_far (sides ++ right ∷ []) mode new_far (length new_near) (subtree_nodes choice (number + left_len m / 1024) (m - left_len m) (sides ++ right ∷ []) from_far) =
-          subst (λ (T : Type 0). T) far_is (far.passes choice new_near (sides ++ right ∷ []) from_far has_far) in
-          whole_passes asked choice mode number m sides from (wants_whole kept choice number (n + n) (omega arith) has) (omega arith)
-          asked_near asked_far old new new_near new_far l r took refl refl refl grown_far near_passes far_passes;
+          let middle : ℕ = at + 64 + length l in
+          let first : Passes (below left (take 64 (drop at all))) (sides ++ left ∷ []) mode all (at + 64) middle (subtree_nodes choice number (left_len m) (sides ++ left ∷ []) (from + 64)) =
+          subst (λ (T : Type 0). T)
+          (λ i. Passes (record { top = false; value = record { 0 = left_value i } }) (sides ++ left ∷ []) mode all (at + 64) middle (subtree_nodes choice number (sym met_at i) (sides ++ left ∷ []) (from + 64)))
+          (near.passes choice all (at + 64) (sides ++ left ∷ []) (from + 64) has_near (stands_first all (at + 64) l r rest)) in
+          let second : Passes (below right (take 64 (drop at all))) (sides ++ right ∷ []) mode all middle (middle + length r)
+          (subtree_nodes choice (number + left_len m / 1024) (m - left_len m) (sides ++ right ∷ []) from_far) =
+          subst (λ (T : Type 0). T)
+          (λ i. Passes (record { top = false; value = record { 0 = right_value i } }) (sides ++ right ∷ []) mode all middle (middle + length r)
+          (subtree_nodes choice (sym number_at i) (sym len_at i) (sides ++ right ∷ []) from_far))
+          (far.passes choice all middle (sides ++ right ∷ []) from_far has_far (stands_rest all (at + 64) (length l) l r refl rest)) in
+          let ends : middle + length r ≡ at + length (p ++ (l ++ r)) = omega (arith, length-append p (l ++ r), length-append l r, size) in
+          subst (λ (k : ℕ). Passes asked sides mode all at k (subtree_nodes choice number m sides from)) ends
+          (both_passes asked choice mode all at number m sides from (wants_whole kept choice number (n + n) (omega arith) has) (omega arith)
+          (stands_fit all at 64 p size (omega arith) here_p) (subst (Meets asked) (λ i. parent_input mode (left_value i) (right_value i)) meets) middle (middle + length r) first second);
     }
 
 -- the halves of a parent in the encoding, as words
@@ -225,7 +231,7 @@ whole_ahead kept asked choice mode number n chunks len ahead is power with_chunk
     let has : HasWhole kept choice number (8 * chunks) = record { with_chunks = with_chunks; start = start; end = omega arith } in
     record {
       there = there;
-      passes = λ old sides from.
-          subst (λ (m : ℕ). Passes asked sides mode (old ++ take len ahead) (length old) (subtree_nodes choice number m sides from)) all
-          (h.2.passes asked choice old sides from has h.1);
+      passes = λ text at here sides from.
+          subst (λ (T : Type 0). T) (λ i. Passes asked sides mode text at (at + length-take-le len ahead there i) (subtree_nodes choice number (all i) sides from))
+          (h.2.passes asked choice text at sides from has h.1 here);
     }

@@ -49,3 +49,19 @@ IsFirstFault mode root text nodes (Mismatch at) = IsMismatchAt mode root text no
 IsFirstFault mode root text nodes (Trailing at) = IsTrailingAt mode root text nodes at
 IsFirstFault mode root text nodes Memory = ⊥
 IsFirstFault mode root text nodes Reader = ⊥
+
+-- where the fault of a node that isn't good is, and whether the node is there
+abbrev pub IsFaultAt : List ℕ → ℕ × TreeNode → CheckFault → Type 0
+IsFaultAt text place (Short at) = (at ≡ place.0) × (length text < end_of place)
+IsFaultAt text place (Mismatch at) = (at ≡ place.0) × (end_of place ≤ length text)
+IsFaultAt text place (Trailing at) = ⊥
+IsFaultAt text place Memory = ⊥
+IsFaultAt text place Reader = ⊥
+
+-- the first node that isn't good ends at `end`, and has this fault
+pub record IsFirstStop (mode : Mode) (root text : List ℕ) (nodes : List TreeNode) (fault : CheckFault) (end : ℕ) : Type 0 where
+  pub long : 8 ≤ length text
+  pub place : ℕ × TreeNode
+  pub bad : IsFirstBad mode root text (places_of nodes) place
+  pub ends : end ≡ end_of place
+  pub is : IsFaultAt text place fault

@@ -20,7 +20,6 @@ pub mod Leaves
 pub mod Outline
 pub mod Bare
 pub mod BareWalk
-pub mod Sources
 pub mod Whole
 pub mod Laws
 pub mod Streams

@@ -1,11 +1,11 @@
 -- Encodings that are read from a reader: what it has left may go on after the encoding, and that is no fault.
-use Rattle.std.specs.Prelude.{◌≡◌, ◌⊎◌, ℕ, ◌≤◌, List, ◌∷◌, ◌++◌, length, Option}
+use Rattle.std.specs.Prelude.{◌≡◌, ◌⊎◌, ℕ, ◌+◌, ◌<◌, ◌≤◌, List, ◌∷◌, ◌++◌, length, Option}
 use Rattle.std.specs.List.{AllByRecursion}
 use Rattle.std.specs.Borrow.{RattleType, u8}
 use Rattle.std.specs.contracts.alloc.Global as global
 use Rattle.std.specs.contracts.impls.GlobalAllocator.TheImpl.{ghosts}
 use Rattle.std.specs.contracts.vec.Vec as vec
-use Rattle.std.specs.Io.KnownBytes.{IsAtEnd}
+use Rattle.std.specs.Io.KnownBytes.{Consumes, IsAtEnd}
 use Rattle.b3tree.specs.declared.mode.Mode.{Mode}
 use Rattle.bao_text.specs.Nodes.{TreeNode}
 use Rattle.bao_check.specs.declared.fault.CheckFault.{CheckFault}
@@ -59,6 +59,20 @@ abbrev pub EndsMismatched : Mode → List ℕ → List ℕ → List TreeNode →
 EndsMismatched mode root read nodes at =
     (8 ≤ length read) × ((place : ℕ × TreeNode) × IsFirstBad mode root read (places_of nodes) place × (at ≡ place.0) × (length read ≡ end_of place))
 
+-- bytes went over from those that a reader has left to the end of others
+pub record Reads (old new : List ℕ) (before after : Option (List ℕ)) : Type 0 where
+  pub bytes : List ℕ
+  pub grown : new ≡ old ++ bytes
+  pub consumed : Consumes before after bytes
+
+-- fewer came than a node has
+abbrev pub IsCutShort : ℕ → List ℕ → List ℕ → Option (List ℕ) → CheckFault → Type 0
+IsCutShort size old new after (Short at) = (at ≡ length old) × (length new < length old + size) × IsAtEnd after
+IsCutShort size old new after (Mismatch at) = ⊥
+IsCutShort size old new after (Trailing at) = ⊥
+IsCutShort size old new after Memory = length new ≡ length old
+IsCutShort size old new after Reader = length new < length old + size
+
 -- What was read when a check ended with a fault, and what the reader has then: nothing where the bytes are
 -- too few, and never a byte after the node at which it ended.
 abbrev pub IsReadFault : Mode → List ℕ → ℕ → ℕ → List ℕ → Option (List ℕ) → CheckFault → Type 0
@@ -67,3 +81,12 @@ IsReadFault mode root start len read after (Mismatch at) = EndsMismatched mode r
 IsReadFault mode root start len read after (Trailing at) = ⊥
 IsReadFault mode root start len read after Memory = EndsWithin mode root read (slice_nodes read start len)
 IsReadFault mode root start len read after Reader = EndsWithin mode root read (slice_nodes read start len)
+
+-- the same, and that of all encodings that begin so a node which isn't good is the first fault
+abbrev pub IsReadStop : Mode → List ℕ → ℕ → ℕ → List ℕ → Option (List ℕ) → CheckFault → Type 0
+IsReadStop mode root start len read after (Short at) = IsReadFault mode root start len read after (Short at)
+IsReadStop mode root start len read after (Mismatch at) =
+    IsReadFault mode root start len read after (Mismatch at) × ((more : List ℕ) → IsMismatchAt mode root (read ++ more) (slice_nodes (read ++ more) start len) at)
+IsReadStop mode root start len read after (Trailing at) = ⊥
+IsReadStop mode root start len read after Memory = IsReadFault mode root start len read after Memory
+IsReadStop mode root start len read after Reader = IsReadFault mode root start len read after Reader

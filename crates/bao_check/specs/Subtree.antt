@@ -1,33 +1,27 @@
 -- What the check of a subtree of an encoding comes to, and how the checks of its two parts make it up.
-use Rattle.std.specs.Prelude.{◌≡◌, ℕ, ◌+◌, ◌-◌, ◌*◌, ◌<◌, ◌≤◌, List, length, take, drop, min, Some, true}
-use Rattle.b3word.specs.declared.input.Input.{Input}
+use Rattle.std.specs.Prelude.{◌≡◌, ℕ, ◌+◌, ◌-◌, ◌*◌, ◌<◌, ◌≤◌, List, length, min, true}
 use Rattle.b3tree.specs.declared.mode.Mode.{Mode}
-use Rattle.b3tree.specs.Tree.{parent_input}
 use Rattle.bao_text.specs.declared.choice.Choice.{Choice}
 use Rattle.bao_text.specs.Choice.{chunk_count, wants}
-use Rattle.bao_text.specs.Nodes.{TreeNode, Side, left, right, subtree_nodes}
+use Rattle.bao_text.specs.Nodes.{TreeNode, Side, placed_nodes, subtree_nodes}
 use Rattle.bao_check.specs.declared.asked.Asked.{Asked}
 use Rattle.bao_check.specs.declared.fault.CheckFault.{CheckFault}
 use Rattle.bao_check.specs.declared.fault.CheckFault.TheVariants.{Trailing}
 use Rattle.bao_check.specs.declared.subtree.Subtree.{Subtree}
-use Rattle.bao_check.specs.Accepted.{IsAccepted, part_value}
+use Rattle.bao_check.specs.Accepted.{IsAccepted}
 use Rattle.bao_check.specs.Faults.{IsFirstFault}
-use Rattle.bao_check.specs.Walk.{Meets, Passes, Stops}
+use Rattle.bao_check.specs.Walk.{Meets, Passes, Stops, parent_at}
 
 -- The walk through the wanted nodes of the subtree over n bytes from chunk `number` on, which begin at the
 -- encoding's place `at`, ends well, at the place `end`.
 pub record PassesIn (asked : Asked) (mode : Mode) (choice : Choice) (number n : ℕ) (text : List ℕ) (at end : ℕ) : Type 0 where
-  pub from : at ≤ end
   pub within : end ≤ length text
-  pub passes : (sides : List Side) (source : ℕ) → Passes asked sides mode (take end text) at (subtree_nodes choice number n sides source)
+  pub passes : (sides : List Side) (source : ℕ) → Passes asked sides mode text at end (subtree_nodes choice number n sides source)
 
--- It ends at a node that isn't there or isn't good, with this fault.
-pub record StopsIn (asked : Asked) (mode : Mode) (choice : Choice) (number n : ℕ) (text : List ℕ) (at : ℕ) (fault : CheckFault) : Type 0 where
-  pub end : ℕ
-  pub from : at ≤ end
-  pub within : end ≤ length text
-  pub stops : (sides : List Side) (source : ℕ)
-      → Stops (λ _. ⊥) asked sides mode (take end text) (Some (drop end text)) at (subtree_nodes choice number n sides source) fault
+-- It ends at a node that isn't there or isn't good, with this fault. The node ends at `end`.
+abbrev pub StopsIn : Asked → Mode → Choice → ℕ → ℕ → List ℕ → ℕ → CheckFault → ℕ → Type 0
+StopsIn asked mode choice number n text at fault end =
+    (sides : List Side) (source : ℕ) → Stops asked sides mode text (placed_nodes at (subtree_nodes choice number n sides source)) fault end
 
 -- it begins in the encoding
 abbrev pub BeginsIn : List ℕ → Subtree → Type 0
@@ -39,7 +33,7 @@ PassesTo it text end = PassesIn it.asked it.mode it.choice it.number it.len text
 
 -- this is its first fault
 abbrev pub StopsWith : Subtree → List ℕ → CheckFault → Type 0
-StopsWith it text fault = StopsIn it.asked it.mode it.choice it.number it.len text it.at fault
+StopsWith it text fault = (end : ℕ) × StopsIn it.asked it.mode it.choice it.number it.len text it.at fault end
 
 -- how many bytes of the blob it has
 abbrev pub subtree_len : Subtree → ℕ
@@ -55,13 +49,9 @@ WantsChunk it i =
 abbrev pub HasParent : Subtree → Type 0
 HasParent it = (wants it.choice (1024 * it.number) it.len ≡ true) × (1024 < it.len)
 
--- the last compression that 64 bytes where it begins make as a parent
-abbrev pub top_parent : Subtree → List ℕ → Input
-top_parent it text = parent_input it.mode (part_value left (take 64 (drop it.at text))) (part_value right (take 64 (drop it.at text)))
-
 -- the parent at its top is there, and has the value that is asked for
 abbrev pub HasGoodParent : Subtree → List ℕ → Type 0
-HasGoodParent it text = (it.at + 64 ≤ length text) × Meets it.asked (top_parent it text)
+HasGoodParent it text = (it.at + 64 ≤ length text) × Meets it.asked (parent_at it.mode text it.at)
 
 -- Two smaller subtrees, whose checks tell what that of the whole comes to: it passes where both pass, and
 -- else a fault of the left one comes before those of the right one.

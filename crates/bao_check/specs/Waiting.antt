@@ -11,7 +11,7 @@ use Rattle.bao_check.specs.declared.fault.CheckFault.{CheckFault}
 use Rattle.bao_check.specs.declared.fault.CheckFault.TheVariants.{Mismatch, Trailing}
 use Rattle.bao_check.specs.declared.part.Part.{Part}
 use Rattle.bao_check.specs.Accepted.{IsAccepted, slice_nodes}
-use Rattle.bao_check.specs.Faults.{IsFirstFault}
+use Rattle.bao_check.specs.Faults.{IsFirstFault, IsFirstStop}
 use Rattle.bao_check.specs.Subtree.{PassesIn, StopsIn}
 
 -- the subtree that a part has the nodes of
@@ -56,12 +56,12 @@ AllPass mode choice [] text at end = at ≡ end
 AllPass mode choice (part ∷ later) text at end =
     (middle : ℕ) × AllPass mode choice later text at middle × PassesIn part.asked mode choice part.number part.len text middle end
 
--- this is the first fault of the parts
-abbrev pub AllStop : Mode → Choice → List Part → List ℕ → ℕ → CheckFault → Type 0
-AllStop mode choice [] text at fault = ⊥
-AllStop mode choice (part ∷ later) text at fault =
-    AllStop mode choice later text at fault
-    ⊎ ((middle : ℕ) × AllPass mode choice later text at middle × StopsIn part.asked mode choice part.number part.len text middle fault)
+-- this is the first fault of the parts, at a node that ends at `end`
+abbrev pub AllStop : Mode → Choice → List Part → List ℕ → ℕ → CheckFault → ℕ → Type 0
+AllStop mode choice [] text at fault end = ⊥
+AllStop mode choice (part ∷ later) text at fault end =
+    AllStop mode choice later text at fault end
+    ⊎ ((middle : ℕ) × AllPass mode choice later text at middle × StopsIn part.asked mode choice part.number part.len text middle fault end)
 
 -- what has to pass: a subtree, and then the parts
 abbrev pub FirstPass : Asked → ℕ → ℕ → Mode → Choice → List Part → List ℕ → ℕ → ℕ → Type 0
@@ -69,28 +69,29 @@ FirstPass asked number n mode choice parts text at end =
     (middle : ℕ) × PassesIn asked mode choice number n text at middle × AllPass mode choice parts text middle end
 
 -- or what stops
-abbrev pub FirstStop : Asked → ℕ → ℕ → Mode → Choice → List Part → List ℕ → ℕ → CheckFault → Type 0
-FirstStop asked number n mode choice parts text at fault =
-    StopsIn asked mode choice number n text at fault
-    ⊎ ((middle : ℕ) × PassesIn asked mode choice number n text at middle × AllStop mode choice parts text middle fault)
+abbrev pub FirstStop : Asked → ℕ → ℕ → Mode → Choice → List Part → List ℕ → ℕ → CheckFault → ℕ → Type 0
+FirstStop asked number n mode choice parts text at fault end =
+    StopsIn asked mode choice number n text at fault end
+    ⊎ ((middle : ℕ) × PassesIn asked mode choice number n text at middle × AllStop mode choice parts text middle fault end)
 
 -- The parts are those before with a subtree that comes first: one that isn't wanted has no nodes.
 pub record IsBefore (choice : Choice) (asked : Asked) (number n : ℕ) (before after : List Part) : Type 0 where
   pub passes : (mode : Mode) (text : List ℕ) (at end : ℕ) → at ≤ length text → AllPass mode choice after text at end → FirstPass asked number n mode choice before text at end
-  pub stops : (mode : Mode) (text : List ℕ) (at : ℕ) (fault : CheckFault) → at ≤ length text → AllStop mode choice after text at fault
-      → FirstStop asked number n mode choice before text at fault
+  pub stops : (mode : Mode) (text : List ℕ) (at : ℕ) (fault : CheckFault) (end : ℕ) → at ≤ length text → AllStop mode choice after text at fault end
+      → FirstStop asked number n mode choice before text at fault end
 
 -- A node was taken: what the parts come to after it, in an encoding that has it there, those before it come to.
 pub record HasTaken (mode : Mode) (choice : Choice) (before after : List Part) (node : List ℕ) : Type 0 where
   pub passes : (taken more : List ℕ) (end : ℕ) → AllPass mode choice after ((taken ++ node) ++ more) (length (taken ++ node)) end
       → AllPass mode choice before ((taken ++ node) ++ more) (length taken) end
-  pub stops : (taken more : List ℕ) (fault : CheckFault) → AllStop mode choice after ((taken ++ node) ++ more) (length (taken ++ node)) fault
-      → AllStop mode choice before ((taken ++ node) ++ more) (length taken) fault
+  pub stops : (taken more : List ℕ) (fault : CheckFault) (end : ℕ) → AllStop mode choice after ((taken ++ node) ++ more) (length (taken ++ node)) fault end
+      → AllStop mode choice before ((taken ++ node) ++ more) (length taken) fault end
 
--- It hasn't the value that its place asks for: that is the first fault in every encoding that has it there.
-pub record HasRefused (mode : Mode) (choice : Choice) (parts : List Part) (at : ℕ) (node : List ℕ) (fault : CheckFault) : Type 0 where
+-- A node at the front of these bytes hasn't the value that its place asks for: that is the first fault in every encoding that has them
+-- there. The node has `size` bytes.
+pub record HasRefused (mode : Mode) (choice : Choice) (parts : List Part) (at size : ℕ) (bytes : List ℕ) (fault : CheckFault) : Type 0 where
   pub is : fault ≡ Mismatch at
-  pub stops : (taken more : List ℕ) → at ≡ length taken → AllStop mode choice parts ((taken ++ node) ++ more) (length taken) fault
+  pub stops : (taken more : List ℕ) → at ≡ length taken → AllStop mode choice parts ((taken ++ bytes) ++ more) (length taken) fault (length taken + size)
 
 -- Nodes were taken, the first `used` of these bytes, and the one after them is refused: that is the first fault in every encoding
 -- that has the bytes there.
@@ -98,7 +99,7 @@ pub record HasRefusedIn (mode : Mode) (choice : Choice) (before after : List Par
   pub within : used ≤ length bytes
   pub taken : HasTaken mode choice before after (take used bytes)
   pub is : fault ≡ Mismatch (at + used)
-  pub stops : (had more : List ℕ) → at ≡ length had → AllStop mode choice before ((had ++ bytes) ++ more) (length had) fault
+  pub stops : (had more : List ℕ) → at ≡ length had → (end : ℕ) × AllStop mode choice before ((had ++ bytes) ++ more) (length had) fault end
 
 -- what an encoding is checked as: the slice (start, len) of the blob with the hash `root`
 pub record CheckTask : Type 0 where
@@ -111,6 +112,10 @@ pub record CheckTask : Type 0 where
 abbrev pub IsAcceptedAs : CheckTask → List ℕ → Type 0
 IsAcceptedAs task text = IsAccepted task.mode task.root text (slice_nodes text task.start task.len)
 
+-- this is the first fault that it has as that, at a node that ends at `end`
+abbrev pub IsStopAs : CheckTask → List ℕ → CheckFault → ℕ → Type 0
+IsStopAs task text fault end = IsFirstStop task.mode task.root text (slice_nodes text task.start task.len) fault end
+
 -- this is the first fault that it has as that
 abbrev pub IsFaultAs : CheckTask → List ℕ → CheckFault → Type 0
 IsFaultAs task text fault = IsFirstFault task.mode task.root text (slice_nodes text task.start task.len) fault
@@ -119,4 +124,4 @@ IsFaultAs task text fault = IsFirstFault task.mode task.root text (slice_nodes t
 pub record WaitsIn (task : CheckTask) (choice : Choice) (parts : List Part) (text : List ℕ) (at : ℕ) : Type 0 where
   pub accepted : (end : ℕ) → AllPass task.mode choice parts text at end → length text ≤ end → IsAcceptedAs task text
   pub trailing : (end : ℕ) → AllPass task.mode choice parts text at end → end < length text → IsFaultAs task text (Trailing end)
-  pub stopped : (fault : CheckFault) → AllStop task.mode choice parts text at fault → IsFaultAs task text fault
+  pub stopped : (fault : CheckFault) (end : ℕ) → AllStop task.mode choice parts text at fault end → IsStopAs task text fault end

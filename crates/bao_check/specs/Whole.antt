@@ -1,5 +1,5 @@
 -- The encoding of a whole subtree, checked at once by lanes.
-use Rattle.std.specs.Prelude.{◌≡◌, ℕ, ◌+◌, ◌-◌, ◌*◌, ◌≤◌, List, ◌++◌, length, take, Bool, false, if◌then◌else◌}
+use Rattle.std.specs.Prelude.{◌≡◌, ℕ, ◌+◌, ◌-◌, ◌*◌, ◌≤◌, List, ◌++◌, length, take, drop, Bool, false, if◌then◌else◌}
 use Rattle.b3word.specs.declared.input.Input.{Input}
 use Rattle.b3tree.specs.declared.mode.Mode.{Mode}
 use Rattle.b3tree.specs.declared.eight.EightParents.{EightParents}
@@ -24,18 +24,22 @@ pub record HasWhole (kept : Bool) (choice : Choice) (number chunks : ℕ) : Type
   pub start : choice.start ≤ 1024 * number
   pub end : 1024 * number + 1024 * chunks ≤ choice.end
 
+-- these bytes stand at a place of the encoding
+abbrev pub StandsAt : List ℕ → ℕ → List ℕ → Type 0
+StandsAt text at bytes = (rest : List ℕ) × (drop at text ≡ bytes ++ rest)
+
 -- The encoding is that of a whole subtree of so many chunks from chunk `number` on: where its last compression
 -- has the value that is asked for, all its nodes are good.
 pub record IsWholeText (kept : Bool) (mode : Mode) (number chunks : ℕ) (top : Input) (text : List ℕ) : Type 0 where
   pub size : length text ≡ whole_len kept chunks
-  pub passes : (asked : Asked) (choice : Choice) (old : List ℕ) (sides : List Side) (from : ℕ) → HasWhole kept choice number chunks → Meets asked top
-      → Passes asked sides mode (old ++ text) (length old) (subtree_nodes choice number (1024 * chunks) sides from)
+  pub passes : (asked : Asked) (choice : Choice) (whole : List ℕ) (at : ℕ) (sides : List Side) (from : ℕ) → HasWhole kept choice number chunks → Meets asked top → StandsAt whole at text
+      → Passes asked sides mode whole at (at + length text) (subtree_nodes choice number (1024 * chunks) sides from)
 
 -- the same where it is part of a larger one, in which its parent has this value for it
 pub record IsWholeOf (kept : Bool) (mode : Mode) (number chunks : ℕ) (value : List ℕ) (text : List ℕ) : Type 0 where
   pub size : length text ≡ whole_len kept chunks
-  pub passes : (choice : Choice) (old : List ℕ) (sides : List Side) (from : ℕ) → HasWhole kept choice number chunks
-      → Passes (record { top = false; value = record { 0 = value } }) sides mode (old ++ text) (length old) (subtree_nodes choice number (1024 * chunks) sides from)
+  pub passes : (choice : Choice) (whole : List ℕ) (at : ℕ) (sides : List Side) (from : ℕ) → HasWhole kept choice number chunks → StandsAt whole at text
+      → Passes (record { top = false; value = record { 0 = value } }) sides mode whole at (at + length text) (subtree_nodes choice number (1024 * chunks) sides from)
 
 -- the 64 bytes from place `at` on are this parent
 abbrev pub HasParentAt : List ℕ → ℕ → Parts → Type 0
@@ -58,9 +62,9 @@ lane_top mode values = parent_input mode (lane_parents mode values).top.left.0 (
 abbrev pub IsWholeAsked : Bool → Asked → Mode → ℕ → ℕ → List ℕ → Type 0
 IsWholeAsked kept asked mode number chunks text = (top : Input) × Meets asked top × IsWholeText kept mode number chunks top text
 
--- The bytes ahead begin with `len` bytes over which a walk passes: they are the encoding of the n bytes from chunk
--- `number` on, and all its nodes are good.
+-- The bytes ahead begin with `len` bytes over which a walk passes, wherever they stand: they are the encoding of the n bytes from
+-- chunk `number` on, and all its nodes are good.
 pub record HasWholeAhead (asked : Asked) (choice : Choice) (mode : Mode) (number n len : ℕ) (ahead : List ℕ) : Type 0 where
   pub there : len ≤ length ahead
-  pub passes : (old : List ℕ) (sides : List Side) (from : ℕ)
-      → Passes asked sides mode (old ++ take len ahead) (length old) (subtree_nodes choice number n sides from)
+  pub passes : (text : List ℕ) (at : ℕ) → StandsAt text at (take len ahead) → (sides : List Side) (from : ℕ)
+      → Passes asked sides mode text at (at + len) (subtree_nodes choice number n sides from)

@@ -2,7 +2,7 @@ ghost use Rattle.std.specs.Prelude.{◌≡◌, ◌↔◌, ℕ, ◌+◌, ◌-◌,
 ghost use Rattle.bao_check.specs.declared.fault.CheckFault.TheVariants.{Mismatch, Short, Trailing};
 ghost use Rattle.bao_check.specs.Decoded.{chunk_bytes, decoded, waiting_kinds};
 ghost use Rattle.bao_check.specs.Streams.{IsOfBytes};
-ghost use Rattle.bao_check.specs.Waiting.{AreParts, AreParts-prop, CheckTask, IsAcceptedAs, IsFaultAs, WaitsIn};
+ghost use Rattle.bao_check.specs.Waiting.{AreParts, AreParts-prop, CheckTask, IsAcceptedAs, IsFaultAs, IsStopAs, WaitsIn};
 
 use crate::asked::{Asked, meets};
 use crate::decoding::take_nodes;
@@ -14,7 +14,7 @@ use bao_text::{Choice, LENGTH_LEN, claimed};
 
 // Verifies an encoding's length, and answers what the encoding is of and the parts that come after the length. An empty
 // chunk has no bytes of its own, so it is verified with it.
-fn begin(
+pub(crate) fn begin(
     mode: &Mode,
     root: &Hash,
     start: u64,
@@ -27,8 +27,8 @@ fn begin(
     ensures waits { IfOk result (λ begun. (more : List ℕ) → WaitsIn (record { mode = mode.now; root = root.now.0; start = start; len = len })
         begun.0 begun.1.items (header.now ++ more) 8) }
     ensures decodes { IfOk result (λ begun. (more : List ℕ) → decoded (header.now ++ more) start len ≡ chunk_bytes (waiting_kinds begun.0 begun.1.items) more) }
-    ensures fault { IfErr result (λ fault. (fault ≡ Mismatch 8) × ((more : List ℕ) → IsFaultAs (record { mode = mode.now; root = root.now.0; start = start; len = len })
-        (header.now ++ more) fault)) }
+    ensures fault { IfErr result (λ fault. (fault ≡ Mismatch 8) × ((more : List ℕ) → IsStopAs (record { mode = mode.now; root = root.now.0; start = start; len = len })
+        (header.now ++ more) fault 8)) }
 {
     let total = claimed(header);
     let choice = Choice::of_slice(total, start, len);

@@ -13,8 +13,7 @@ use crate::checked::Checked;
 use crate::fault::CheckFault;
 use crate::form::Form;
 use crate::outline::Outline;
-use crate::source::{Bytes, Source};
-use crate::walk::check_text;
+use crate::subtree::Subtree;
 use b3tree::{CHUNK_LEN, Cv, Hash, Mode};
 use bao_text::{LENGTH_LEN, chunk_count};
 use std::alloc::Global;
@@ -24,9 +23,7 @@ fn check_bytes(mode: &Mode, root: &Hash, form: &Form, text: &[u8]) -> Result<(),
     ensures { MatchResult result (λ _. IsAccepted mode.now root.now.0 text.now (form_nodes form.now text.now))
         (λ fault. IsFirstFault mode.now root.now.0 text.now (form_nodes form.now text.now) fault) }
 {
-    let mut source = Bytes::new(text);
-    check_text(&mut source, mode, root, form)?;
-    let at = source.taken().len();
+    let at = Subtree::of_form(mode, root, form, text)?.check(text)?;
     if at < text.len() {
         return Err(CheckFault::Trailing { at: at as u64 });
     }

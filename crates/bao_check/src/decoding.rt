@@ -7,7 +7,6 @@ ghost use Rattle.bao_check.specs.Waiting.{AreParts, HasRefused, HasRefusedIn, Ha
 
 use crate::fault::CheckFault;
 use crate::known::Known;
-use crate::source::Bytes;
 use crate::waiting::{Waiting, next_part, size, take_node};
 use crate::walk::whole_at_hand;
 use b3tree::{CHUNK_LEN, Cv, Mode, left_len};
@@ -79,14 +78,13 @@ fn take_first(
     ensures chunks { IfOk result (λ step. IfSome step (λ r. (part : List ℕ) × (take r.1 room.new ≡ take filled room.old ++ part)
         × Decodes choice.now waiting.old.items waiting.new.items (take r.0 bytes.now) part)) }
     ensures none { IfOk result (λ step. step ≡ None → (waiting.new ≡ waiting.old) × (room.new ≡ room.old) × IfSome (next_size waiting.old.items) (λ size. length bytes.now < size)) }
-    ensures err { IfErr result (HasRefused mode.now choice.now waiting.old.items at bytes.now) }
+    ensures err { IfErr result (λ fault. (size : ℕ) × HasRefused mode.now choice.now waiting.old.items at size bytes.now fault) }
     ensures same { IsErr result → waiting.new ≡ waiting.old }
 {
     let Some(part) = next_part(waiting) else {
         return Ok(None);
     };
-    let source = Bytes::new(bytes);
-    if let Some(len) = whole_at_hand(&source, choice, mode, &part.asked, part.number, part.len) {
+    if let Some(len) = whole_at_hand(bytes, choice, mode, &part.asked, part.number, part.len) {
         let (_, free) = copy_chunks(choice, part.number, part.len, bytes, 0, room, filled);
         let _taken = waiting.pop();
         return Ok(Some((len, free)));
@@ -129,7 +127,7 @@ fn take_next(
         × Decodes choice.now waiting.old.items waiting.new.items (take r.0 (drop used bytes.now)) part)) }
     ensures none { IfOk result (λ step. step ≡ None → (waiting.new ≡ waiting.old) × (room.new ≡ room.old)
         × IfSome (next_size waiting.old.items) (λ size. length (drop used bytes.now) < size)) }
-    ensures err { IfErr result (HasRefused mode.now choice.now waiting.old.items at (drop used bytes.now)) }
+    ensures err { IfErr result (λ fault. (size : ℕ) × HasRefused mode.now choice.now waiting.old.items at size (drop used bytes.now) fault) }
     ensures same { IsErr result → waiting.new ≡ waiting.old }
 {
     let value = known.next_value(mode, waiting, bytes, used);

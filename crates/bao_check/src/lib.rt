@@ -33,7 +33,6 @@ mod outline;
 mod parent;
 mod part;
 mod read;
-mod source;
 mod stream;
 mod subtree;
 mod tail;

@@ -4,16 +4,42 @@ ghost use Rattle.std.specs.Io.BufRead.{Rests};
 ghost use Rattle.std.specs.Io.KnownBytes.{Consumes};
 ghost use Rattle.bao_check.specs.Accepted.{IsAccepted, slice_nodes};
 ghost use Rattle.bao_check.specs.Checked.{IsPiece, piece_text};
-ghost use Rattle.bao_check.specs.Streams.{BeginsAccepted, IsOfBytes, IsReadFault, IsStreamFault, bytes_row};
+ghost use Rattle.bao_check.specs.Streams.{BeginsAccepted, IsOfBytes, IsReadFault, IsReadStop, IsStreamFault, bytes_row};
 
 use crate::checked::Checked;
+use crate::checking::begin;
 use crate::fault::CheckFault;
-use crate::form::Form;
-use crate::stream::Stream;
-use crate::walk::check_text;
+use crate::stream::read_node;
+use crate::waiting::{node_size, take_node};
 use b3tree::{Hash, Mode};
+use bao_text::LENGTH_LEN;
 use std::alloc::Global;
 use std::io::Read;
+
+// Reads the length and then a node after another, each as far as it goes, and verifies each before the next is read.
+fn read_nodes<R: Read>(
+    mode: &Mode,
+    root: &Hash,
+    start: u64,
+    len: u64,
+    reader: &mut R,
+    text: &mut Vec<u8>,
+) -> Result<(), CheckFault>
+    requires { text.old.items ≡ [] }
+    ensures reader { Consumes (R.remaining reader.old) (R.remaining reader.new) text.new.items }
+    ensures ok { OnOk result (IsAccepted mode.now root.now.0 text.new.items (slice_nodes text.new.items start len)) }
+    ensures err { IfErr result (IsReadStop mode.now root.now.0 start len text.new.items (R.remaining reader.new)) }
+{
+    read_node(reader, text, LENGTH_LEN)?;
+    let (choice, mut waiting) = begin(mode, root, start, len, text.as_slice())?;
+    'nodes: while let Some(size) = node_size(&waiting) {
+        let at = text.len();
+        read_node(reader, text, size)?;
+        let node = &text.as_slice()[at..];
+        take_node(&choice, &mut waiting, mode, at as u64, node, None)?;
+    }
+    Ok(())
+}
 
 /// Reads an encoding into `text`, which is empty, and checks it as the slice of `len` bytes from byte `start` on
 /// of the blob with the hash `root` in `mode`, as `check_slice` does.
@@ -42,8 +68,7 @@ pub fn read_checked<R: Read>(
         MatchResult result (λ _. BeginsAccepted mode.now root.now.0 start len all) (IsStreamFault mode.now root.now.0 start len all)) }
     ensures refused { IfSome (R.remaining reader.old) (λ all. IfErr result (λ fault. IsOfBytes fault → ¬ BeginsAccepted mode.now root.now.0 start len all)) }
 {
-    let mut source = Stream::new(reader, text);
-    check_text(&mut source, mode, root, &Form::Slice { start, len })
+    read_nodes(mode, root, start, len, reader, text)
 }
 
 /// Reads and checks as `read_checked` does, and answers the accepted encoding as a piece, which borrows the

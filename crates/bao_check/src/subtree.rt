@@ -2,14 +2,15 @@ ghost use Rattle.std.specs.Prelude.{ℕ, ◌↔◌, ◌+◌, ◌-◌, ◌*◌, �
 ghost use Rattle.bao_check.specs.declared.fault.CheckFault.{CheckFault};
 ghost use Rattle.bao_check.specs.Accepted.{IsAccepted, slice_nodes};
 ghost use Rattle.bao_check.specs.Faults.{IsFirstFault};
+ghost use Rattle.bao_check.specs.Forms.{form_nodes};
 
 use crate::asked::Asked;
 use crate::fault::CheckFault;
+use crate::form::Form;
 use crate::locate::nodes_size;
-use crate::source::{Bytes, Source};
 use crate::walk::{check_parent, check_subtree};
 use b3tree::{CHUNK_LEN, Cv, Hash, Mode, left_len};
-use bao_text::{Choice, LENGTH_LEN, claimed};
+use bao_text::{Choice, LENGTH_LEN, PARENT_LEN, claimed};
 
 /// A part of the check of an encoding: the wanted nodes of a subtree, the place at which they begin in the encoding, and
 /// the value that its top must have. The parts of an encoding can be checked in any order, and at once. None of the
@@ -50,13 +51,27 @@ impl Subtree {
         ensures either { (fault : CheckFault) → IsFirstFault mode.now root.now.0 text.now (slice_nodes text.now start len) fault
             → ¬ IsAccepted mode.now root.now.0 text.now (slice_nodes text.now start len) }
     {
+        Subtree::of_form(mode, root, &Form::Slice { start, len }, text)
+    }
+
+    // The same of an encoding of this form.
+    pub(crate) fn of_form(
+        mode: &Mode,
+        root: &Hash,
+        form: &Form,
+        text: &[u8],
+    ) -> Result<Subtree, CheckFault>
+        ensures top { IfOk result (λ top. IsTopOf top mode.now root.now.0 text.now (form_nodes form.now text.now)) }
+        ensures refused { IsErr result ↔ (length text.now < 8) }
+        ensures short { IfErr result (λ fault. IsFirstFault mode.now root.now.0 text.now (form_nodes form.now text.now) fault) }
+    {
         if text.len() < LENGTH_LEN {
             return Err(CheckFault::Short { at: 0 });
         }
         let total = claimed(text);
         Ok(Subtree {
             mode: *mode,
-            choice: Choice::of_slice(total, start, len),
+            choice: form.choice(total),
             asked: Asked {
                 top: true,
                 value: Cv::from_bytes(&root.0),
@@ -94,9 +109,8 @@ impl Subtree {
         ensures parts { MatchResult result (λ parts. IsSplit self.now parts.0 parts.1 text.now) (StopsWith self.now text.now) }
         ensures refused { IsErr result ↔ (¬ HasGoodParent self.now text.now) }
     {
-        let mut source = Bytes::starting_at(text, self.at);
-        let (left_value, right_value) = check_parent(&mut source, &self.mode, &self.asked)?;
-        let left_at = source.taken().len();
+        let (left_value, right_value) = check_parent(text, self.at, &self.mode, &self.asked)?;
+        let left_at = self.at + PARENT_LEN;
         let left_len = left_len(self.len);
         let left_size = nodes_size(&self.choice, self.number, left_len);
         // Where the encoding ends before the right part begins, the left one has a fault.
@@ -133,15 +147,14 @@ impl Subtree {
         requires { BeginsIn text.now self.now }
         ensures { MatchResult result (PassesTo self.now text.now) (StopsWith self.now text.now) }
     {
-        let mut source = Bytes::starting_at(text, self.at);
         check_subtree(
-            &mut source,
+            text,
+            self.at,
             &self.choice,
             &self.mode,
             &self.asked,
             self.number,
             self.len,
-        )?;
-        Ok(source.taken().len())
+        )
     }
 }

@@ -39,7 +39,8 @@ pub(crate) fn size(part: &Part) -> usize
 
 // How many bytes the node has that comes next.
 pub(crate) fn node_size(waiting: &Waiting) -> Option<usize>
-    ensures { result ≡ next_size waiting.now.items }
+    ensures value { result ≡ next_size waiting.now.items }
+    ensures bounds { IfSome result (λ size. (1 ≤ size) × (size ≤ 1024)) }
 {
     let part = next_part(waiting)?;
     Some(size(&part))
@@ -146,7 +147,7 @@ pub(crate) fn take_node(
     ensures ok { OnOk result (HasTaken mode.now choice.now waiting.old.items waiting.new.items node.now) }
     ensures chunk { (part : Part) → last_part waiting.old.items ≡ Some part → part.len ≤ 1024 → OnOk result (Decodes choice.now waiting.old.items waiting.new.items node.now node.now) }
     ensures parent { (part : Part) → last_part waiting.old.items ≡ Some part → 1024 < part.len → OnOk result (Decodes choice.now waiting.old.items waiting.new.items node.now []) }
-    ensures err { IfErr result (HasRefused mode.now choice.now waiting.old.items at node.now) }
+    ensures err { IfErr result (HasRefused mode.now choice.now waiting.old.items at (length node.now) node.now) }
 {
     let Some(part) = next_part(waiting) else {
         unreachable!()

@@ -1,56 +1,37 @@
-ghost use Rattle.std.specs.Prelude.{◌≡◌, ℕ, List, [], ◌+◌, ◌-◌, ◌*◌, ◌^◌, ◌≤◌, length, drop, IfErr, IfOk, IfSome, OnOk};
-ghost use Rattle.bao_text.specs.Nodes.{Side, left, right, subtree_nodes};
+ghost use Rattle.std.specs.Prelude.{◌≡◌, ℕ, ◌+◌, ◌-◌, ◌*◌, ◌^◌, ◌≤◌, length, take, drop, IfErr, IfOk, IfSome, MatchResult};
+ghost use Rattle.bao_text.specs.Nodes.{left, right};
+ghost use Rattle.bao_check.specs.declared.fault.CheckFault.{CheckFault};
 ghost use Rattle.bao_check.specs.Accepted.{part_value};
+ghost use Rattle.bao_check.specs.Subtree.{PassesIn, StopsIn};
 ghost use Rattle.bao_check.specs.Whole.{HasWholeAhead};
-ghost use Rattle.bao_check.specs.Walk.{Grows, IsCutShort, IsRefusedInput, Meets, Passes, PassesText, Stops, StopsText, Takes, chunk_taken, parent_taken};
-ghost use Rattle.bao_check.specs.Forms.{form_nodes};
+ghost use Rattle.bao_check.specs.Walk.{IsTopStop, Meets, chunk_at, parent_at};
 
 use crate::asked::{Asked, meets};
 use crate::fault::CheckFault;
-use crate::form::Form;
-use crate::source::Source;
 use crate::whole::{is_whole_outline, is_whole_text};
-use b3tree::{CHUNK_LEN, Cv, Hash, Mode, chunks_a_lane, left_len, parent_input, top_input};
-use bao_text::{CV_LEN, Choice, EIGHT_LEN, LENGTH_LEN, PARENT_LEN, claimed};
+use b3tree::{CHUNK_LEN, Cv, Mode, chunks_a_lane, left_len, parent_input, top_input};
+use bao_text::{CV_LEN, Choice, EIGHT_LEN, PARENT_LEN};
 
-// Takes the `size` bytes of the node that comes next.
-fn take_node<S: Source>(source: &mut S, size: usize) -> Result<(), CheckFault>
-    requires { size ≤ 1024 }
-    ensures same_reference { S.name source.new ≡ S.name source.old }
-    ensures takes { Takes size (S.taken source.old) (S.taken source.new) (S.ahead source.old) (S.ahead source.new) }
-    ensures ok { OnOk result (length (S.taken source.new) ≡ length (S.taken source.old) + size) }
-    ensures err { IfErr result (λ fault. IsCutShort S.fails size (S.taken source.old) (S.taken source.new) (S.ahead source.new) fault) }
-{
-    let at = source.taken().len() as u64;
-    if source.take(size)? {
-        Ok(())
-    } else {
-        Err(CheckFault::Short { at })
-    }
-}
-
-// Takes the chunk that comes next, with the number `number` and `size` bytes, and verifies it.
-fn check_chunk<S: Source>(
-    source: &mut S,
+// Verifies the chunk at place `at` of the encoding, with the number `number` and `size` bytes, and answers where it ends.
+fn check_chunk(
+    text: &[u8],
+    at: usize,
     mode: &Mode,
     asked: &Asked,
     number: u64,
     size: usize,
-) -> Result<(), CheckFault>
+) -> Result<usize, CheckFault>
+    requires at { at ≤ length text.now }
     requires chunk { size ≤ 1024 }
     requires range { 1024 * number + size ≤ 2 ^ 64 - 1 }
-    ensures same_reference { S.name source.new ≡ S.name source.old }
-    ensures takes { Takes size (S.taken source.old) (S.taken source.new) (S.ahead source.old) (S.ahead source.new) }
-    ensures ok { OnOk result (length (S.taken source.new) ≡ length (S.taken source.old) + size) }
-    ensures meets { OnOk result (Meets asked.now (chunk_taken mode.now number (S.taken source.old) (S.taken source.new))) }
-    ensures err { IfErr result (λ fault. IsRefusedInput S.fails asked.now (chunk_taken mode.now number (S.taken source.old) (S.taken source.new)) size
-        (S.taken source.old) (S.taken source.new) (S.ahead source.new) fault) }
+    ensures ok { IfOk result (λ end. (end ≡ at + size) × (at + size ≤ length text.now) × Meets asked.now (chunk_at mode.now number size text.now at)) }
+    ensures err { IfErr result (λ fault. IsTopStop asked.now (chunk_at mode.now number size text.now at) text.now at (at + size) fault) }
 {
-    let at = source.taken().len();
-    take_node(source, size)?;
-    let input = top_input(mode, number, &source.taken()[at..]);
-    if meets(asked, &input) {
-        Ok(())
+    if text.len() - at < size {
+        return Err(CheckFault::Short { at: at as u64 });
+    }
+    if meets(asked, &top_input(mode, number, &text[at..at + size])) {
+        Ok(at + size)
     } else {
         Err(CheckFault::Mismatch { at: at as u64 })
     }
@@ -67,24 +48,24 @@ pub(crate) fn part_values(parent: &[u8]) -> (Cv, Cv)
     (Cv::from_bytes(left), Cv::from_bytes(right))
 }
 
-// Takes the parent that comes next and verifies it, and answers the values of its left and right part.
-pub(crate) fn check_parent<S: Source>(
-    source: &mut S,
+// Verifies the parent at place `at` of the encoding, and answers the values of its left and its right part.
+pub(crate) fn check_parent(
+    text: &[u8],
+    at: usize,
     mode: &Mode,
     asked: &Asked,
 ) -> Result<(Cv, Cv), CheckFault>
-    ensures same_reference { S.name source.new ≡ S.name source.old }
-    ensures takes { Takes 64 (S.taken source.old) (S.taken source.new) (S.ahead source.old) (S.ahead source.new) }
-    ensures ok { OnOk result (length (S.taken source.new) ≡ length (S.taken source.old) + 64) }
-    ensures meets { OnOk result (Meets asked.now (parent_taken mode.now (S.taken source.old) (S.taken source.new))) }
-    ensures left { IfOk result (λ r. r.0.0 ≡ part_value left (drop (length (S.taken source.old)) (S.taken source.new))) }
-    ensures right { IfOk result (λ r. r.1.0 ≡ part_value right (drop (length (S.taken source.old)) (S.taken source.new))) }
-    ensures err { IfErr result (λ fault. IsRefusedInput S.fails asked.now (parent_taken mode.now (S.taken source.old) (S.taken source.new)) 64
-        (S.taken source.old) (S.taken source.new) (S.ahead source.new) fault) }
+    requires { at ≤ length text.now }
+    ensures there { IfOk result (λ _. at + 64 ≤ length text.now) }
+    ensures meets { IfOk result (λ _. Meets asked.now (parent_at mode.now text.now at)) }
+    ensures left { IfOk result (λ r. r.0.0 ≡ part_value left (take 64 (drop at text.now))) }
+    ensures right { IfOk result (λ r. r.1.0 ≡ part_value right (take 64 (drop at text.now))) }
+    ensures err { IfErr result (λ fault. IsTopStop asked.now (parent_at mode.now text.now at) text.now at (at + 64) fault) }
 {
-    let at = source.taken().len();
-    take_node(source, PARENT_LEN)?;
-    let (left, right) = part_values(&source.taken()[at..]);
+    if text.len() - at < PARENT_LEN {
+        return Err(CheckFault::Short { at: at as u64 });
+    }
+    let (left, right) = part_values(&text[at..at + PARENT_LEN]);
     if meets(asked, &parent_input(mode, &left, &right)) {
         Ok((left, right))
     } else {
@@ -93,9 +74,9 @@ pub(crate) fn check_parent<S: Source>(
 }
 
 // How many bytes the encoding of the subtree over `n` bytes from chunk `number` on has, where it is a whole
-// subtree that is wanted whole, and its encoding is at hand and all good.
-pub(crate) fn whole_at_hand<S: Source>(
-    source: &S,
+// subtree that is wanted whole, and its encoding begins the bytes and is all good.
+pub(crate) fn whole_at_hand(
+    bytes: &[u8],
     choice: &Choice,
     mode: &Mode,
     asked: &Asked,
@@ -103,13 +84,12 @@ pub(crate) fn whole_at_hand<S: Source>(
     n: u64,
 ) -> Option<usize>
     requires { 1024 * number + n ≤ 2 ^ 64 - 1 }
-    ensures { IfSome result (λ len. HasWholeAhead asked.now choice.now mode.now number n len (S.at_hand source.now)) }
+    ensures { IfSome result (λ len. HasWholeAhead asked.now choice.now mode.now number n len bytes.now) }
 {
     if !choice.covers(CHUNK_LEN as u64 * number, n) {
         return None;
     }
     let chunks = chunks_a_lane(n)?;
-    let bytes = source.at_hand();
     if choice.has_chunks() {
         let len = (EIGHT_LEN + 8 * PARENT_LEN) * chunks - PARENT_LEN;
         if bytes.len() >= len && is_whole_text(mode, asked, number, &bytes[..len], chunks) {
@@ -127,80 +107,60 @@ pub(crate) fn whole_at_hand<S: Source>(
     None
 }
 
-// Takes the wanted nodes of the subtree over `n` bytes from chunk `number` on, and verifies each before
-// the next is taken. A whole subtree of 8 to 512 chunks that is at hand
-// is first tried at once.
-pub(crate) fn check_subtree<S: Source>(
-    source: &mut S,
+// Verifies the wanted nodes of the subtree over `n` bytes from chunk `number` on, which begin at place `at` of the encoding, each
+// before the next, and answers where the last ends. A whole subtree of 8 to 512 chunks is first tried at once.
+pub(crate) fn check_subtree(
+    text: &[u8],
+    at: usize,
     choice: &Choice,
     mode: &Mode,
     asked: &Asked,
     number: u64,
     n: u64,
-) -> Result<(), CheckFault>
-    requires { 1024 * number + n ≤ 2 ^ 64 - 1 }
-    ensures same_reference { S.name source.new ≡ S.name source.old }
-    ensures grows { Grows (S.taken source.old) (S.taken source.new) (S.ahead source.old) (S.ahead source.new) }
-    ensures ok { (sides : List Side) (from : ℕ) → OnOk result (Passes asked.now sides mode.now (S.taken source.new) (length (S.taken source.old))
-        (subtree_nodes choice.now number n sides from)) }
-    ensures err { (sides : List Side) (from : ℕ) → IfErr result (λ fault. Stops S.fails asked.now sides mode.now (S.taken source.new) (S.ahead source.new)
-        (length (S.taken source.old)) (subtree_nodes choice.now number n sides from) fault) }
+) -> Result<usize, CheckFault>
+    requires at { at ≤ length text.now }
+    requires range { 1024 * number + n ≤ 2 ^ 64 - 1 }
+    ensures { MatchResult result (PassesIn asked.now mode.now choice.now number n text.now at) (λ fault. (end : ℕ) × StopsIn asked.now mode.now choice.now number n text.now at fault end) }
 {
     if !choice.wants(CHUNK_LEN as u64 * number, n) {
-        return Ok(());
+        return Ok(at);
     }
     if n <= CHUNK_LEN as u64 {
         return if choice.has_chunks() {
-            check_chunk(source, mode, asked, number, n as usize)
+            check_chunk(text, at, mode, asked, number, n as usize)
         } else {
-            Ok(())
+            Ok(at)
         };
     }
-    if let Some(len) = whole_at_hand(source, choice, mode, asked, number, n) {
-        source.pass(len);
-        return Ok(());
+    if let Some(len) = whole_at_hand(&text[at..], choice, mode, asked, number, n) {
+        return Ok(at + len);
     }
-    let (left, right) = check_parent(source, mode, asked)?;
+    let (left, right) = check_parent(text, at, mode, asked)?;
     let left_len = left_len(n);
     let left_asked = Asked {
         top: false,
         value: left,
     };
-    check_subtree(source, choice, mode, &left_asked, number, left_len)?;
+    let middle = check_subtree(
+        text,
+        at + PARENT_LEN,
+        choice,
+        mode,
+        &left_asked,
+        number,
+        left_len,
+    )?;
     let right_asked = Asked {
         top: false,
         value: right,
     };
     check_subtree(
-        source,
+        text,
+        middle,
         choice,
         mode,
         &right_asked,
         number + left_len / CHUNK_LEN as u64,
         n - left_len,
     )
-}
-
-// Takes an encoding of the form from its start, and verifies each node before the next is taken.
-pub(crate) fn check_text<S: Source>(
-    source: &mut S,
-    mode: &Mode,
-    root: &Hash,
-    form: &Form,
-) -> Result<(), CheckFault>
-    requires { S.taken source.old ≡ [] }
-    ensures same_reference { S.name source.new ≡ S.name source.old }
-    ensures grows { Grows (S.taken source.old) (S.taken source.new) (S.ahead source.old) (S.ahead source.new) }
-    ensures ok { OnOk result (PassesText mode.now root.now.0 (S.taken source.new) (form_nodes form.now (S.taken source.new))) }
-    ensures err { IfErr result (λ fault. StopsText S.fails mode.now root.now.0 (S.taken source.new) (S.ahead source.new)
-        (form_nodes form.now (S.taken source.new)) fault) }
-{
-    take_node(source, LENGTH_LEN)?;
-    let total = claimed(source.taken());
-    let choice = form.choice(total);
-    let asked = Asked {
-        top: true,
-        value: Cv::from_bytes(&root.0),
-    };
-    check_subtree(source, &choice, mode, &asked, 0, total)
 }

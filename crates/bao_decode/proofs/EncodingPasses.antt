@@ -10,7 +10,7 @@ use Rattle.bao_text.specs.Cut.{claimed}
 use Rattle.bao_text.specs.declared.fault.WriteFault.{WriteFault}
 use Rattle.bao_text.specs.Faults.{WroteOnly}
 use Rattle.bao_check.specs.declared.checking.Checking.{Checking}
-use Rattle.bao_check.proofs.WholeText.{claimed-append}
+use Rattle.bao_check.proofs.Subtrees.{claimed-append}
 use Rattle.bao_check.specs.Checking.{HasDecodedAs}
 use Rattle.bao_check.specs.Waiting.{CheckTask, IsAcceptedAs}
 use Rattle.bao_text.specs.declared.kinds.Part.{Part}

@@ -13,7 +13,7 @@ use Rattle.bao_text.specs.declared.fault.WriteFault.{WriteFault}
 use Rattle.bao_text.specs.Faults.{WroteOnly}
 use Rattle.bao_check.specs.declared.checking.Checking.{Checking}
 use Rattle.bao_check.specs.Decoded.{chunk_bytes, decoded, waiting_kinds}
-use Rattle.bao_check.proofs.WholeText.{claimed-append}
+use Rattle.bao_check.proofs.Subtrees.{claimed-append}
 use Rattle.bao_text.specs.declared.kinds.Part.{Part}
 use Rattle.bao_files.specs.Printed.{AppendsBeginning}
 use Rattle.bao_check.specs.Checking.{HasDecodedAs, IsNodeFault}

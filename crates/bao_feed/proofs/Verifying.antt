@@ -3,7 +3,7 @@ use Rattle.std.proofs.Common.{◌≡◌, ℕ, zero, suc, ◌+◌, ◌-◌, ◌*�
 use Rattle.std.specs.List.{AllByRecursion}
 use Rattle.std.proofs.lemmas.Bool.{cases_lt}
 use Rattle.std.proofs.lemmas.List.{append_assoc, drop_at, length-take-le, take-append-drop, take-append-le, take_at}
-use Rattle.std.proofs.Math.Seq.{take-length}
+use Rattle.std.proofs.Math.Seq.{take-add, take-length}
 use Rattle.b3word.specs.declared.input.Input.{Input}
 use Rattle.b3tree.specs.declared.mode.Mode.{Mode}
 use Rattle.b3tree.specs.Tree.{parent_input}
@@ -17,8 +17,7 @@ use Rattle.bao_check.specs.Faults.{IsFirstBad, IsMismatchAt, IsShortAt, IsTraili
 use Rattle.bao_check.specs.Walk.{Meets, asked_root}
 use Rattle.bao_check.proofs.Lists.{All-append, nodes_size}
 use Rattle.bao_check.proofs.Sizes.{nodes_size-without_chunks}
-use Rattle.bao_check.proofs.Subtrees.{take_on}
-use Rattle.bao_check.proofs.WholeText.{claimed-append}
+use Rattle.bao_check.proofs.Subtrees.{claimed-append}
 use Rattle.bao_feed.specs.Asking.{AsksAt, parent_at}
 use Rattle.bao_feed.specs.Verified.{AreGoodFirst, IsFaultFrom, IsGoodSoFar, IsVerified, parent_count, parents_of}
 use Rattle.bao_feed.proofs.Places.{IsParent, SplitAt, all_parents, length-placed_nodes, nth, parent_size, parents_size, split_at}
@@ -68,9 +67,8 @@ module _ (mode : Mode) (root text : List ℕ) (k : ℕ) (own : Asked) (there : p
 
   goes_on : (more : List ℕ) → take (parent_at (k + 1)) text ++ more ≡ take (parent_at k) text ++ (node ++ more)
   goes_on more =
-      let e : parent_at (k + 1) - parent_at k ≡ 64 = omega arith in
-      ap (λ (s : List ℕ). s ++ more)
-      (take_on (parent_at k) (parent_at (k + 1)) text (omega arith) ∙ ap (λ (n : ℕ). take (parent_at k) text ++ take n (drop (parent_at k) text)) e)
+      let e : parent_at (k + 1) ≡ parent_at k + 64 = omega arith in
+      ap (λ (s : List ℕ). s ++ more) (ap (λ (n : ℕ). take n text) e ∙ take-add (parent_at k) 64 text)
       ∙ append_assoc (take (parent_at k) text) node more
 
   all_of : (more : List ℕ) → text ++ more ≡ take (parent_at k) text ++ (node ++ (drop (parent_at (k + 1)) text ++ more))

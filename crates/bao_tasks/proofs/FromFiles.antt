@@ -200,11 +200,6 @@ excused_end A A' H H' M M' E P (inr h) first hungry kept second excused = elim (
   | inr p ↦ inr p
 ]
 
--- none is left
-pub none_left : (met : Option GatherFault) → is_some met ≡ false → met ≡ None
-none_left None is = refl
-none_left (Some fault) is = cc
-
 -- one answer for another that is the same
 pub same_ok : {T E : Type 0} (r : Result T E) (x y : T) → r ≡ Ok x → x ≡ y → r ≡ Ok y
 same_ok {T = T} {E = E} r x y is same = subst (λ (z : T). r ≡ Ok z) same is

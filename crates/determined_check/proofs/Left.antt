@@ -13,7 +13,7 @@ use Rattle.bao_check.specs.Accepted.{IsAccepted, end_of, slice_nodes}
 use Rattle.bao_check.specs.Checked.{piece_text}
 use Rattle.bao_check.specs.Faults.{IsFirstBad}
 use Rattle.bao_check.specs.Streams.{EndsMismatched, IsOfBytes, IsReadFault}
-use Rattle.bao_check.proofs.WholeText.{claimed-append}
+use Rattle.bao_check.proofs.Subtrees.{claimed-append}
 use Rattle.determined_check.specs.Agreeing.{AgreeOfBytes, IsOwn, SamePiece}
 use Rattle.determined_check.proofs.Offsets.{same_place}
 use Rattle.determined_check.proofs.OneText.{one_text}

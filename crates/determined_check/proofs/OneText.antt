@@ -13,7 +13,7 @@ use Rattle.bao_check.specs.Checked.{IsPiece, piece_len, piece_mode, piece_root, 
 use Rattle.bao_check.specs.Faults.{IsFirstFault}
 use Rattle.bao_check.specs.Streams.{BeginsAccepted, IsOfBytes, IsStreamFault}
 use Rattle.bao_check.proofs.Streamed.{fault-not_begun}
-use Rattle.bao_check.proofs.WholeText.{claimed-append}
+use Rattle.bao_check.proofs.Subtrees.{claimed-append}
 use Rattle.determined_check.specs.Agreeing.{AgreeOfBytes, SamePiece}
 use Rattle.determined_check.proofs.OneFault.{one_fault, same_piece}
 

@@ -1,4 +1,4 @@
-use Rattle.std.proofs.Common.{◌≡◌, ◌+◌, ◌-◌, nat_le, if◌then◌else◌, List, [], ◌∷◌, ◌++◌, ℕ, length, take, Some, refl, sym, ap, subst, ◌∙◌, arith}
+use Rattle.std.proofs.Common.{◌≡◌, ◌+◌, ◌-◌, nat_le, if◌then◌else◌, List, [], ◌∷◌, ◌++◌, ℕ, length, take, Some, refl, sym, ap, ◌∙◌, arith}
 use Rattle.std.proofs.lemmas.List.{length-take-le, take-take}
 use Rattle.std.proofs.lemmas.Result.{err_from_is_err_and}
 use Rattle.std.proofs.lemmas.Slice.{take-put_mid}
@@ -8,7 +8,6 @@ use Rattle.b3tree.specs.Chunk.{last_chunk_input}
 use Rattle.bao_check.specs.declared.part.Part.{Part}
 use Rattle.bao_check.specs.Decoded.{chunk_bytes, subtree_kinds}
 use Rattle.bao_check.specs.Waiting.{last_part, part_size}
-use Rattle.bao_check.specs.Whole.{HasWholeAhead}
 use Rattle.bao_check.proofs.ChunkBytes.{kinds_size-some, refused_front, same_part, some_weaker, whole_decodes, whole_size, whole_taken_from}
 use Rattle.bao_check.proofs.Feeding.{first_of, part_taken}
 use Rattle.bao_check.proofs.decoding.take_first.Goals as goal
@@ -27,15 +26,13 @@ copy_chunks-free-requires-clause-range c =
 
 pub copy_chunks-free-requires-clause-there : goal.copy_chunks-free-requires-clause-there
 copy_chunks-free-requires-clause-there c =
-    let whole : HasWholeAhead c.in-Some.part.asked c.args.choice.now c.args.mode.now c.in-Some.part.number c.in-Some.part.len c.in-Some-whole_at_hand.len c.args.bytes.now =
-    subst (HasWholeAhead c.in-Some.part.asked c.args.choice.now c.args.mode.now c.in-Some.part.number c.in-Some.part.len c.in-Some-whole_at_hand.len) c.new-source.ensures.ahead c.in-Some-whole_at_hand.ensures in
+    let whole = c.in-Some-whole_at_hand.ensures in
     let size = whole_size c.in-Some.part c.args.choice.now c.args.mode.now c.in-Some-whole_at_hand.len c.args.bytes.now whole in
     omega (arith, size, whole.there)
 
 pub copy_chunks-free-requires-clause-room : goal.copy_chunks-free-requires-clause-room
 copy_chunks-free-requires-clause-room c =
-    let whole : HasWholeAhead c.in-Some.part.asked c.args.choice.now c.args.mode.now c.in-Some.part.number c.in-Some.part.len c.in-Some-whole_at_hand.len c.args.bytes.now =
-    subst (HasWholeAhead c.in-Some.part.asked c.args.choice.now c.args.mode.now c.in-Some.part.number c.in-Some.part.len c.in-Some-whole_at_hand.len) c.new-source.ensures.ahead c.in-Some-whole_at_hand.ensures in
+    let whole = c.in-Some-whole_at_hand.ensures in
     let size = whole_size c.in-Some.part c.args.choice.now c.args.mode.now c.in-Some-whole_at_hand.len c.args.bytes.now whole in
     omega (arith, size, whole.there, c.requires.room)
 
@@ -50,8 +47,7 @@ pub returns-in-Some-whole_at_hand-clause-taken : goal.returns-in-Some-whole_at_h
 returns-in-Some-whole_at_hand-clause-taken c =
     let last : last_part c.args.waiting.now.items ≡ Some c.in-Some.part = sym c.next_part.ensures ∙ c.in-Some.is in
     let first = first_of c.args.choice.now c.args.waiting.now.items c.in-Some.part (part_size c.in-Some.part) c.requires.parts last refl in
-    let whole : HasWholeAhead c.in-Some.part.asked c.args.choice.now c.args.mode.now c.in-Some.part.number c.in-Some.part.len c.in-Some-whole_at_hand.len c.args.bytes.now =
-    subst (HasWholeAhead c.in-Some.part.asked c.args.choice.now c.args.mode.now c.in-Some.part.number c.in-Some.part.len c.in-Some-whole_at_hand.len) c.new-source.ensures.ahead c.in-Some-whole_at_hand.ensures in
+    let whole = c.in-Some-whole_at_hand.ensures in
     let size = whole_size c.in-Some.part c.args.choice.now c.args.mode.now c.in-Some-whole_at_hand.len c.args.bytes.now whole in
     let some = kinds_size-some c.args.choice.now c.in-Some.part.number c.in-Some.part.len first.wanted c.requires.chunks c.in-Some.part.some in (
       omega (arith, size, some),
@@ -64,8 +60,7 @@ pub returns-in-Some-whole_at_hand-clause-nodes : goal.returns-in-Some-whole_at_h
 returns-in-Some-whole_at_hand-clause-nodes c =
     let last : last_part c.args.waiting.now.items ≡ Some c.in-Some.part = sym c.next_part.ensures ∙ c.in-Some.is in
     let first = first_of c.args.choice.now c.args.waiting.now.items c.in-Some.part (part_size c.in-Some.part) c.requires.parts last refl in
-    let whole : HasWholeAhead c.in-Some.part.asked c.args.choice.now c.args.mode.now c.in-Some.part.number c.in-Some.part.len c.in-Some-whole_at_hand.len c.args.bytes.now =
-    subst (HasWholeAhead c.in-Some.part.asked c.args.choice.now c.args.mode.now c.in-Some.part.number c.in-Some.part.len c.in-Some-whole_at_hand.len) c.new-source.ensures.ahead c.in-Some-whole_at_hand.ensures in
+    let whole = c.in-Some-whole_at_hand.ensures in
     let size = whole_size c.in-Some.part c.args.choice.now c.args.mode.now c.in-Some-whole_at_hand.len c.args.bytes.now whole in
     whole_taken_from c.args.mode.now c.args.choice.now c.args.waiting.now.items c.pop-taken.new.self.items c.in-Some.part c.in-Some-whole_at_hand.len c.args.bytes.now
     (first.is ∙ ap (λ (s : List Part). s ++ c.in-Some.part ∷ []) (sym c.pop-taken.ensures.rest)) first.wanted whole
@@ -74,8 +69,7 @@ pub returns-in-Some-whole_at_hand-clause-chunks : goal.returns-in-Some-whole_at_
 returns-in-Some-whole_at_hand-clause-chunks c =
     let last : last_part c.args.waiting.now.items ≡ Some c.in-Some.part = sym c.next_part.ensures ∙ c.in-Some.is in
     let first = first_of c.args.choice.now c.args.waiting.now.items c.in-Some.part (part_size c.in-Some.part) c.requires.parts last refl in
-    let whole : HasWholeAhead c.in-Some.part.asked c.args.choice.now c.args.mode.now c.in-Some.part.number c.in-Some.part.len c.in-Some-whole_at_hand.len c.args.bytes.now =
-    subst (HasWholeAhead c.in-Some.part.asked c.args.choice.now c.args.mode.now c.in-Some.part.number c.in-Some.part.len c.in-Some-whole_at_hand.len) c.new-source.ensures.ahead c.in-Some-whole_at_hand.ensures in
+    let whole = c.in-Some-whole_at_hand.ensures in
     let size = whole_size c.in-Some.part c.args.choice.now c.args.mode.now c.in-Some-whole_at_hand.len c.args.bytes.now whole in (
       chunk_bytes (subtree_kinds c.args.choice.now c.in-Some.part.number c.in-Some.part.len) c.args.bytes.now,
       c.copy_chunks-free.ensures.bytes,
@@ -100,9 +94,12 @@ take_node-requires-clause-known c =
 pub returns-in_err-take_node-clause-err : goal.returns-in_err-take_node-clause-err
 returns-in_err-take_node-clause-err c =
     let p = err_from_is_err_and c.from_residual.result c.from_residual.ensures.1 in
-    rw (p.1, p.2)
-    (refused_front c.args.mode.now c.args.choice.now c.args.waiting.now.items c.args.at c.size-len.result c.args.bytes.now c.in_err-take_node.field-0.0 (omega (arith, c.if-bytes-len.false))
-    c.in_err-take_node.ensures.err)
+    let node : ℕ = length (take c.size-len.result c.args.bytes.now) in
+    rw (p.1, p.2) (
+      node,
+      refused_front c.args.mode.now c.args.choice.now c.args.waiting.now.items c.args.at c.size-len.result node c.args.bytes.now c.in_err-take_node.field-0.0 (omega (arith, c.if-bytes-len.false))
+          c.in_err-take_node.ensures.err,
+    )
 
 pub returns-clause-chunks : goal.returns-clause-chunks
 returns-clause-chunks c =

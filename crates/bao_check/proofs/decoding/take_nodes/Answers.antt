@@ -38,8 +38,9 @@ returns-in_err-len-clause-err c =
     let rest_is : rest ≡ drop c.nodes.used bytes = refl in
     let p = err_from_is_err_and c.from_residual.result c.from_residual.ensures.1 in
     let same : c.take_next.new.waiting ≡ c.nodes.waiting = c.in_err-len.ensures.same refl in
-    let refused = refused_later c.args.mode.now c.args.choice.now c.args.waiting.now.items c.nodes.waiting.items c.args.at.now c.nodes.used c.nodes.at bytes c.in_err-len.field-0.0 inv.used inv.at inv.taken
-    (subst (λ (s : List ℕ). HasRefused c.args.mode.now c.args.choice.now c.nodes.waiting.items c.nodes.at s c.in_err-len.field-0.0) rest_is c.in_err-len.ensures.err) in
+    let size : ℕ = c.in_err-len.ensures.err.0 in
+    let refused = refused_later c.args.mode.now c.args.choice.now c.args.waiting.now.items c.nodes.waiting.items c.args.at.now c.nodes.used c.nodes.at size bytes c.in_err-len.field-0.0 inv.used inv.at
+    inv.taken (subst (λ (s : List ℕ). HasRefused c.args.mode.now c.args.choice.now c.nodes.waiting.items c.nodes.at size s c.in_err-len.field-0.0) rest_is c.in_err-len.ensures.err.1) in
     rw (p.1, p.2, same) (c.nodes.used, inv.at, refused)
 
 pub overflow_add-at : goal.overflow_add-at

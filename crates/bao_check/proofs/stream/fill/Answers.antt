@@ -2,7 +2,7 @@ use Rattle.std.proofs.Common.{◌≡◌, ℕ, ◌+◌, ◌-◌, ◌≤◌, List,
 use Rattle.std.specs.Io.KnownBytes.{Consumes}
 use Rattle.std.proofs.lemmas.List.{length-take-le, take-append-le}
 use Rattle.std.proofs.Math.Seq.{take-append-add}
-use Rattle.bao_check.proofs.Walking.{Consumes-then}
+use Rattle.bao_check.proofs.Streamed.{Consumes-then}
 use borrow.Rule.Slice.PartMut.{put_mid, post_of}
 use Rattle.bao_check.proofs.stream.fill.Goals as goal
 

@@ -1,178 +1,102 @@
-use Rattle.std.proofs.Common.{◌≡◌, ℕ, ◌+◌, ◌-◌, ◌/◌, List, [], ◌∷◌, ◌++◌, length, drop, false, sym, subst, ◌∙◌, arith}
-use Rattle.std.proofs.lemmas.Result.{IfErr-weaker, err_from_is_err_and, on_ok_weaker}
-use Rattle.std.specs.Prelude.{Ok, Err, OnOk}
-use Rattle.std.specs.declared.result.Result.{Result}
-use Rattle.b3tree.specs.declared.mode.Mode.{Mode}
-use Rattle.b3tree.specs.Tree.{left_len}
-use Rattle.bao_text.specs.declared.choice.Choice.{Choice}
-use Rattle.bao_text.specs.Nodes.{TreeNode, left, right, subtree_nodes, subtree_size}
-use Rattle.bao_text.proofs.SubtreeNodes.{subtree_nodes-unwanted}
+use Rattle.std.proofs.Common.{◌≡◌, ◌<◌, ℕ, ◌+◌, ◌-◌, ◌/◌, List, length, take, drop, Err, IfErr, IfOk, MatchResult, Ok, Result, false, sym, ap, subst, ◌∙◌, arith, length-drop}
+use Rattle.std.proofs.lemmas.List.{take-append-drop, take_all}
+use Rattle.std.proofs.lemmas.Result.{err_from_is_err_and}
+use Rattle.bao_text.specs.Nodes.{left, right}
 use Rattle.bao_check.specs.declared.asked.Asked.{Asked}
-use Rattle.bao_check.specs.Walk.{Meets, Passes, Stops, chunk_taken}
+use Rattle.bao_check.specs.Subtree.{PassesIn}
 use Rattle.bao_check.proofs.Parts.{below}
-use Rattle.bao_check.proofs.Walking.{Grows-from_Takes, Grows-then, TookParent, chunk_passes, chunk_stops, far_stops, leaf_nodes, leaf_without, near_stops, none_passes, parent_stops, whole_passes}
+use Rattle.bao_check.proofs.Subtrees.{both_pass, far_part_stops, near_part_stops, pass_chunk, pass_unwanted, pass_without, stop_chunk, stop_parent}
 use Rattle.bao_check.proofs.walk.+check_subtree.Goals as goal
 
--- two clauses on a success
-IfOk-both : {T E : Type 0} (r : Result T E) (P Q R : Type 0) → (P → Q → R) → OnOk r P → OnOk r Q → OnOk r R
-IfOk-both (Ok x) P Q R both h k = both h k
-IfOk-both (Err e) P Q R both h k = tt
+-- what an answer is, by what it is where it is one and where it is a fault
+match_from : {A B : Type 0} (r : Result A B) (P Q : A → Type 0) (F G : B → Type 0) → ((x : A) → P x → Q x) → ((e : B) → F e → G e) → IfOk r P → IfErr r F → MatchResult r Q G
+match_from (Ok x) P Q F G ok err h k = ok x h
+match_from (Err e) P Q F G ok err h k = err e k
 
-pub returns-then-not-wants-clause-ok : goal.returns-then-not-wants-clause-ok
-returns-then-not-wants-clause-ok g t c = λ sides from.
-    none_passes c.args.asked.now sides c.args.mode.now (g.S.Source.taken c.args.source.now) (subtree_nodes c.args.choice.now c.args.number c.args.n sides from)
-    (subtree_nodes-unwanted c.args.choice.now c.args.number c.args.n sides from (sym c.wants.ensures ∙ c.if-not-wants.true))
+match_both : {A B : Type 0} (r : Result A B) (P Q : A → Type 0) (F G : B → Type 0) → ((x : A) → P x → Q x) → ((e : B) → F e → G e) → MatchResult r P F → MatchResult r Q G
+match_both (Ok x) P Q F G ok err h = ok x h
+match_both (Err e) P Q F G ok err h = err e h
 
-pub returns-then-has_chunks-clause-ok : goal.returns-then-has_chunks-clause-ok
-returns-then-has_chunks-clause-ok g t c = λ sides from.
-    let nodes = leaf_nodes c.args.choice.now c.args.number c.args.n sides from (sym c.wants.ensures ∙ c.if-not-wants.false) c.if-n.true (sym c.has_chunks.ensures ∙ c.if-has_chunks.true) in
+pub returns-then-not-wants : goal.returns-then-not-wants
+returns-then-not-wants t c =
+    pass_unwanted c.args.asked.now c.args.mode.now c.args.choice.now c.args.number c.args.n c.args.text.now c.args.at c.requires.at (sym c.wants.ensures ∙ c.if-not-wants.true)
+
+pub returns-then-has_chunks : goal.returns-then-has_chunks
+returns-then-has_chunks t c =
     let asked : Asked = c.args.asked.now in
-    let old : List ℕ = g.S.Source.taken c.args.source.now in
-    let new : List ℕ = g.S.Source.taken c.check_chunk.new.source in
-    IfOk-both c.check_chunk.result (length new ≡ length old + c.args.n) (Meets asked (chunk_taken c.args.mode.now c.args.number old new))
-    (Passes asked sides c.args.mode.now new (length old) (subtree_nodes c.args.choice.now c.args.number c.args.n sides from))
-    (λ len meets.
-    subst (λ (xs : List TreeNode). Passes asked sides c.args.mode.now new (length old) xs) (sym nodes)
-    (chunk_passes asked sides c.args.mode.now old new c.check_chunk.ensures.takes.bytes c.args.number c.args.n from c.check_chunk.ensures.takes.grown len meets))
-    c.check_chunk.ensures.ok c.check_chunk.ensures.meets
+    let mode = c.args.mode.now in
+    let choice = c.args.choice.now in
+    let text : List ℕ = c.args.text.now in
+    let wanted = sym c.wants.ensures ∙ c.if-not-wants.false in
+    let kept = sym c.has_chunks.ensures ∙ c.if-has_chunks.true in
+    match_from c.check_chunk.result _ (PassesIn asked mode choice c.args.number c.args.n text c.args.at) _ _
+    (λ end h. subst (PassesIn asked mode choice c.args.number c.args.n text c.args.at) (sym h.0)
+    (pass_chunk asked mode choice c.args.number c.args.n text c.args.at wanted c.if-n.true kept h.1 h.2))
+    (λ fault h. (c.args.at + c.args.n, stop_chunk asked mode choice c.args.number c.args.n text c.args.at wanted c.if-n.true kept fault h))
+    c.check_chunk.ensures.ok c.check_chunk.ensures.err
 
-pub returns-then-has_chunks-clause-err : goal.returns-then-has_chunks-clause-err
-returns-then-has_chunks-clause-err g t c = λ sides from.
-    let nodes = leaf_nodes c.args.choice.now c.args.number c.args.n sides from (sym c.wants.ensures ∙ c.if-not-wants.false) c.if-n.true (sym c.has_chunks.ensures ∙ c.if-has_chunks.true) in
-    IfErr-weaker c.check_chunk.result _ _
-    (λ fault h.
-    subst (λ (xs : List TreeNode). Stops g.S.Source.fails c.args.asked.now sides c.args.mode.now (g.S.Source.taken c.check_chunk.new.source) (g.S.Source.ahead c.check_chunk.new.source)
-    (length (g.S.Source.taken c.args.source.now)) xs fault) (sym nodes)
-    (chunk_stops g.S.Source.fails c.args.asked.now sides c.args.mode.now (g.S.Source.taken c.args.source.now) (g.S.Source.taken c.check_chunk.new.source)
-    c.check_chunk.ensures.takes.bytes (g.S.Source.ahead c.check_chunk.new.source) c.args.number c.args.n from c.check_chunk.ensures.takes.grown fault h))
-    c.check_chunk.ensures.err
+pub returns-else-has_chunks : goal.returns-else-has_chunks
+returns-else-has_chunks t c =
+    pass_without c.args.asked.now c.args.mode.now c.args.choice.now c.args.number c.args.n c.args.text.now c.args.at c.requires.at
+    (sym c.wants.ensures ∙ c.if-not-wants.false) c.if-n.true (sym c.has_chunks.ensures ∙ c.if-has_chunks.false)
 
-pub returns-else-has_chunks-clause-ok : goal.returns-else-has_chunks-clause-ok
-returns-else-has_chunks-clause-ok g t c = λ sides from.
-    none_passes c.args.asked.now sides c.args.mode.now (g.S.Source.taken c.args.source.now) (subtree_nodes c.args.choice.now c.args.number c.args.n sides from)
-    (leaf_without c.args.choice.now c.args.number c.args.n sides from (sym c.wants.ensures ∙ c.if-not-wants.false) c.if-n.true (sym c.has_chunks.ensures ∙ c.if-has_chunks.false))
+pub returns-in-Some : goal.returns-in-Some
+returns-in-Some t c =
+    let text : List ℕ = c.args.text.now in
+    let rest : List ℕ = drop c.args.at text in
+    let rest_len : length rest ≡ length text - c.args.at = length-drop c.args.at text in
+    let ahead : List ℕ = take (length text - c.args.at) rest in
+    let all : ahead ≡ rest = take_all (length text - c.args.at) rest (omega (arith, rest_len)) in
+    record {
+      within = omega (arith, c.in-Some.ensures.there, ap length all, rest_len, c.requires.at);
+      passes = c.in-Some.ensures.passes text c.args.at (drop c.in-Some.len ahead, sym all ∙ sym (take-append-drop c.in-Some.len ahead));
+    }
 
-pub returns-in-Some-clause-ok : goal.returns-in-Some-clause-ok
-returns-in-Some-clause-ok g t c = λ sides from.
-    let old : List ℕ = g.S.Source.taken c.args.source.now in
-    subst (λ (new : List ℕ). Passes c.args.asked.now sides c.args.mode.now new (length old) (subtree_nodes c.args.choice.now c.args.number c.args.n sides from))
-    (sym c.pass.ensures.grown) (c.in-Some.ensures.passes old sides from)
-
-pub returns-in_err-left-clause-err : goal.returns-in_err-left-clause-err
-returns-in_err-left-clause-err g t c = λ sides from.
+pub returns-in_err-left : goal.returns-in_err-left
+returns-in_err-left t c =
     let p = err_from_is_err_and c.from_residual.result c.from_residual.ensures.1 in
     rw (p.1, p.2) (
-    parent_stops c.args.asked.now c.args.choice.now c.args.mode.now c.args.number c.args.n sides from (sym c.wants.ensures ∙ c.if-not-wants.false) (omega arith)
-    g.S.Source.fails (g.S.Source.taken c.args.source.now) (g.S.Source.taken c.check_parent.new.source) c.check_parent.ensures.takes.bytes (g.S.Source.ahead c.check_parent.new.source)
-    c.check_parent.ensures.takes.grown c.in_err-left.field-0.0 c.in_err-left.ensures.err
+      c.args.at + 64,
+      stop_parent c.args.asked.now c.args.mode.now c.args.choice.now c.args.number c.args.n c.args.text.now c.args.at (sym c.wants.ensures ∙ c.if-not-wants.false) (omega arith)
+          c.in_err-left.field-0.0 c.in_err-left.ensures.err,
     )
 
-pub returns-in_err-check_subtree-clause-grows : goal.returns-in_err-check_subtree-clause-grows
-returns-in_err-check_subtree-clause-grows g t c =
-    Grows-then (g.S.Source.taken c.args.source.now) (g.S.Source.taken c.check_parent.new.source) (g.S.Source.taken c.check_subtree.new.source)
-    (g.S.Source.ahead c.args.source.now) (g.S.Source.ahead c.check_parent.new.source) (g.S.Source.ahead c.check_subtree.new.source)
-    (Grows-from_Takes 64 (g.S.Source.taken c.args.source.now) (g.S.Source.taken c.check_parent.new.source) (g.S.Source.ahead c.args.source.now) (g.S.Source.ahead c.check_parent.new.source) c.check_parent.ensures.takes)
-    c.check_subtree.ensures.grows
-
-pub returns-in_err-check_subtree-clause-err : goal.returns-in_err-check_subtree-clause-err
-returns-in_err-check_subtree-clause-err g t c = λ sides from.
-    let p = err_from_is_err_and c.from_residual-in_err-check_subtree.result c.from_residual-in_err-check_subtree.ensures.1 in
-    let choice : Choice = c.args.choice.now in
-    let old : List ℕ = g.S.Source.taken c.args.source.now in
-    let new : List ℕ = g.S.Source.taken c.check_parent.new.source in
-    let near : List ℕ = g.S.Source.taken c.check_subtree.new.source in
-    let after = g.S.Source.ahead c.check_subtree.new.source in
-    let asked_near : Asked = record { top = false; value = c.in_ok-left.left } in
-    let took : TookParent c.args.asked.now c.args.mode.now old new = record {
-      bytes = c.check_parent.ensures.takes.bytes;
-      grown = c.check_parent.ensures.takes.grown;
-      len = c.in_ok-left.ensures.ok;
-      meets = c.in_ok-left.ensures.meets;
-    } in
-    let is_near : asked_near ≡ below left (drop (length old) new) = (λ i. record { top = false; value = record { 0 = c.in_ok-left.ensures.left i } }) in
-    let stops : Stops g.S.Source.fails asked_near (sides ++ left ∷ []) c.args.mode.now near after (length new)
-    (subtree_nodes choice c.args.number c.left_len-left_len.result (sides ++ left ∷ []) (from + 64)) c.in_err-check_subtree.field-0.0 =
-    c.in_err-check_subtree.ensures.err (sides ++ left ∷ []) (from + 64) in
+pub returns-in_err-middle : goal.returns-in_err-middle
+returns-in_err-middle t c =
+    let p = err_from_is_err_and c.from_residual-in_err-middle.result c.from_residual-in_err-middle.ensures.1 in
+    let near : Asked = record { top = false; value = c.in_ok-left.left } in
+    let far : Asked = record { top = false; value = c.in_ok-left.right } in
+    let parent : List ℕ = take 64 (drop c.args.at c.args.text.now) in
+    let is_near : near ≡ below left parent = (λ i. record { top = false; value = record { 0 = c.in_ok-left.ensures.left i } }) in
+    let is_far : far ≡ below right parent = (λ i. record { top = false; value = record { 0 = c.in_ok-left.ensures.right i } }) in
     rw (p.1, p.2) (
-    near_stops c.args.asked.now choice c.args.mode.now c.args.number c.args.n sides from (sym c.wants.ensures ∙ c.if-not-wants.false) (omega arith)
-    g.S.Source.fails asked_near old new near c.check_subtree.ensures.grows.bytes after took is_near c.check_subtree.ensures.grows.grown c.in_err-check_subtree.field-0.0
-    (subst (λ (l : ℕ). Stops g.S.Source.fails asked_near (sides ++ left ∷ []) c.args.mode.now near after (length new)
-    (subtree_nodes choice c.args.number l (sides ++ left ∷ []) (from + 64)) c.in_err-check_subtree.field-0.0) c.left_len-left_len.ensures.value stops)
+      c.in_err-middle.ensures.0,
+      near_part_stops c.args.asked.now c.args.mode.now c.args.choice.now c.args.number c.args.n c.args.text.now c.args.at (sym c.wants.ensures ∙ c.if-not-wants.false) (omega arith)
+          near far c.left_len-left_len.result c.left_len-left_len.ensures.value c.in_ok-left.ensures.there c.in_ok-left.ensures.meets is_near is_far
+          c.in_err-middle.field-0.0 c.in_err-middle.ensures.0 c.in_err-middle.ensures.1,
     )
 
-pub returns-clause-grows : goal.returns-clause-grows
-returns-clause-grows g t c =
-    let old = g.S.Source.taken c.args.source.now in
-    let new = g.S.Source.taken c.check_parent.new.source in
-    let near = g.S.Source.taken c.check_subtree.new.source in
-    let far = g.S.Source.taken c.check_subtree-2.new.source in
-    Grows-then old near far (g.S.Source.ahead c.args.source.now) (g.S.Source.ahead c.check_subtree.new.source) (g.S.Source.ahead c.check_subtree-2.new.source)
-    (Grows-then old new near (g.S.Source.ahead c.args.source.now) (g.S.Source.ahead c.check_parent.new.source) (g.S.Source.ahead c.check_subtree.new.source)
-    (Grows-from_Takes 64 old new (g.S.Source.ahead c.args.source.now) (g.S.Source.ahead c.check_parent.new.source) c.check_parent.ensures.takes)
-    c.check_subtree.ensures.grows)
-    c.check_subtree-2.ensures.grows
-
-pub returns-clause-ok : goal.returns-clause-ok
-returns-clause-ok g t c = λ sides from.
-    let choice : Choice = c.args.choice.now in
-    let mode : Mode = c.args.mode.now in
-    let old : List ℕ = g.S.Source.taken c.args.source.now in
-    let new : List ℕ = g.S.Source.taken c.check_parent.new.source in
-    let near : List ℕ = g.S.Source.taken c.check_subtree.new.source in
-    let far : List ℕ = g.S.Source.taken c.check_subtree-2.new.source in
-    let after = g.S.Source.ahead c.check_subtree-2.new.source in
-    let asked_near : Asked = record { top = false; value = c.in_ok-left.left } in
-    let asked_far : Asked = record { top = false; value = c.in_ok-left.right } in
-    let took : TookParent c.args.asked.now mode old new = record {
-      bytes = c.check_parent.ensures.takes.bytes;
-      grown = c.check_parent.ensures.takes.grown;
-      len = c.in_ok-left.ensures.ok;
-      meets = c.in_ok-left.ensures.meets;
-    } in
-    let is_near : asked_near ≡ below left (drop (length old) new) = (λ i. record { top = false; value = record { 0 = c.in_ok-left.ensures.left i } }) in
-    let is_far : asked_far ≡ below right (drop (length old) new) = (λ i. record { top = false; value = record { 0 = c.in_ok-left.ensures.right i } }) in
-    let parted : c.left_len-left_len.result ≡ left_len c.args.n = c.left_len-left_len.ensures.value in
-    let near_passes : Passes asked_near (sides ++ left ∷ []) mode near (length new) (subtree_nodes choice c.args.number (left_len c.args.n) (sides ++ left ∷ []) (from + 64)) =
-    subst (λ (l : ℕ). Passes asked_near (sides ++ left ∷ []) mode near (length new) (subtree_nodes choice c.args.number l (sides ++ left ∷ []) (from + 64))) parted
-    (c.in_ok-check_subtree.ensures.ok (sides ++ left ∷ []) (from + 64)) in
-    let from_far : ℕ = from + 64 + subtree_size (left_len c.args.n) in
-    on_ok_weaker c.check_subtree-2.result
-    (λ passes.
-    whole_passes c.args.asked.now choice mode c.args.number c.args.n sides from (sym c.wants.ensures ∙ c.if-not-wants.false) (omega arith)
-    asked_near asked_far old new near far c.check_subtree.ensures.grows.bytes c.check_subtree-2.ensures.grows.bytes took is_near is_far
-    c.check_subtree.ensures.grows.grown c.check_subtree-2.ensures.grows.grown near_passes
-    (subst (λ (l : ℕ). Passes asked_far (sides ++ right ∷ []) mode far (length near) (subtree_nodes choice (c.args.number + l / 1024) (c.args.n - l) (sides ++ right ∷ []) from_far)) parted passes))
-    (c.check_subtree-2.ensures.ok (sides ++ right ∷ []) from_far)
-
-pub returns-clause-err : goal.returns-clause-err
-returns-clause-err g t c = λ sides from.
-    let choice : Choice = c.args.choice.now in
-    let mode : Mode = c.args.mode.now in
-    let old : List ℕ = g.S.Source.taken c.args.source.now in
-    let new : List ℕ = g.S.Source.taken c.check_parent.new.source in
-    let near : List ℕ = g.S.Source.taken c.check_subtree.new.source in
-    let far : List ℕ = g.S.Source.taken c.check_subtree-2.new.source in
-    let after = g.S.Source.ahead c.check_subtree-2.new.source in
-    let asked_near : Asked = record { top = false; value = c.in_ok-left.left } in
-    let asked_far : Asked = record { top = false; value = c.in_ok-left.right } in
-    let took : TookParent c.args.asked.now mode old new = record {
-      bytes = c.check_parent.ensures.takes.bytes;
-      grown = c.check_parent.ensures.takes.grown;
-      len = c.in_ok-left.ensures.ok;
-      meets = c.in_ok-left.ensures.meets;
-    } in
-    let is_near : asked_near ≡ below left (drop (length old) new) = (λ i. record { top = false; value = record { 0 = c.in_ok-left.ensures.left i } }) in
-    let is_far : asked_far ≡ below right (drop (length old) new) = (λ i. record { top = false; value = record { 0 = c.in_ok-left.ensures.right i } }) in
-    let parted : c.left_len-left_len.result ≡ left_len c.args.n = c.left_len-left_len.ensures.value in
-    let near_passes : Passes asked_near (sides ++ left ∷ []) mode near (length new) (subtree_nodes choice c.args.number (left_len c.args.n) (sides ++ left ∷ []) (from + 64)) =
-    subst (λ (l : ℕ). Passes asked_near (sides ++ left ∷ []) mode near (length new) (subtree_nodes choice c.args.number l (sides ++ left ∷ []) (from + 64))) parted
-    (c.in_ok-check_subtree.ensures.ok (sides ++ left ∷ []) (from + 64)) in
-    let from_far : ℕ = from + 64 + subtree_size (left_len c.args.n) in
-    IfErr-weaker c.check_subtree-2.result _ _
-    (λ fault stops.
-    far_stops c.args.asked.now choice mode c.args.number c.args.n sides from (sym c.wants.ensures ∙ c.if-not-wants.false) (omega arith)
-    g.S.Source.fails asked_near asked_far old new near far c.check_subtree.ensures.grows.bytes c.check_subtree-2.ensures.grows.bytes after took is_near is_far
-    c.check_subtree.ensures.grows.grown c.check_subtree-2.ensures.grows.grown near_passes fault
-    (subst (λ (l : ℕ). Stops g.S.Source.fails asked_far (sides ++ right ∷ []) mode far after (length near)
-    (subtree_nodes choice (c.args.number + l / 1024) (c.args.n - l) (sides ++ right ∷ []) from_far) fault) parted stops))
-    (c.check_subtree-2.ensures.err (sides ++ right ∷ []) from_far)
+pub returns : goal.returns
+returns t c =
+    let asked : Asked = c.args.asked.now in
+    let mode = c.args.mode.now in
+    let choice = c.args.choice.now in
+    let text : List ℕ = c.args.text.now in
+    let l : ℕ = c.left_len-left_len.result in
+    let near : Asked = record { top = false; value = c.in_ok-left.left } in
+    let far : Asked = record { top = false; value = c.in_ok-left.right } in
+    let parent : List ℕ = take 64 (drop c.args.at text) in
+    let is_near : near ≡ below left parent = (λ i. record { top = false; value = record { 0 = c.in_ok-left.ensures.left i } }) in
+    let is_far : far ≡ below right parent = (λ i. record { top = false; value = record { 0 = c.in_ok-left.ensures.right i } }) in
+    let wanted = sym c.wants.ensures ∙ c.if-not-wants.false in
+    let more : 1024 < c.args.n = omega arith in
+    match_both c.check_subtree-2.result (PassesIn far mode choice (c.args.number + l / 1024) (c.args.n - l) text c.in_ok-middle.middle) (PassesIn asked mode choice c.args.number c.args.n text c.args.at)
+    _ _
+    (λ end h. both_pass asked mode choice c.args.number c.args.n text c.args.at wanted more near far l c.left_len-left_len.ensures.value c.in_ok-left.ensures.there
+    c.in_ok-left.ensures.meets is_near is_far c.in_ok-middle.middle end c.in_ok-middle.ensures h)
+    (λ fault h. (
+      h.0,
+      far_part_stops asked mode choice c.args.number c.args.n text c.args.at wanted more near far l c.left_len-left_len.ensures.value c.in_ok-left.ensures.there
+          c.in_ok-left.ensures.meets is_near is_far c.in_ok-middle.middle fault h.0 c.in_ok-middle.ensures h.1,
+    ))
+    c.check_subtree-2.ensures

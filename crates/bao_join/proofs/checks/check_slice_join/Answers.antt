@@ -1,3 +1,5 @@
+use Rattle.std.proofs.Common.{◌≡◌, false, true}
+use Rattle.std.proofs.lemmas.Result.{err_from_is_err_and}
 use Rattle.bao_check.specs.declared.fault.CheckFault.TheVariants.{Trailing}
 use Rattle.bao_join.proofs.checks.check_slice_join.Goals as goal
 
@@ -6,6 +8,14 @@ returns-then-end-text-clause-accepted g c = (
   λ never. cc,
   λ accepted. absurd (c.in_ok-top.ensures.either (Trailing c.in_ok-end.end) (c.in_ok-top.ensures.top.trailing c.in_ok-end.end c.in_ok-end.ensures c.if-end-text.true) accepted),
 )
+
+pub returns-in_err-end-clause-accepted : goal.returns-in_err-end-clause-accepted
+returns-in_err-end-clause-accepted g c =
+    let p = err_from_is_err_and c.from_residual-in_err-end.result c.from_residual-in_err-end.ensures.1 in
+    rw p.1 (
+      (λ never. absurd (let no : false ≡ true = never in cc)),
+      λ accepted. absurd (c.in_ok-top.ensures.either c.in_err-end.field-0.0 (c.in_ok-top.ensures.top.stopped c.in_err-end.field-0.0 c.in_err-end.ensures) accepted),
+    )
 
 pub returns-then-end-text-clause-fault : goal.returns-then-end-text-clause-fault
 returns-then-end-text-clause-fault g c = c.in_ok-top.ensures.top.trailing c.in_ok-end.end c.in_ok-end.ensures c.if-end-text.true

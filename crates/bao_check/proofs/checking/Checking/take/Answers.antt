@@ -34,9 +34,9 @@ returns-in_err-take_node-clause-fault c = λ task taken it.
     let node : List ℕ = c.args.node.now in
     let fault : CheckFault = c.in_err-take_node.field-0.0 in
     let begun : 0 < check.at = omega (arith, c.if-self-eq0.false) in
-    let refused : HasRefused task.mode check.choice check.waiting.items check.at node fault =
-    subst (λ (t : CheckTask). HasRefused t.mode check.choice check.waiting.items check.at node fault) it.task_is c.in_err-take_node.ensures.err in
-    let faults = refused_fault task check.choice check.waiting.items check.at taken node fault refused it.at_is (it.waits begun) in
+    let refused : HasRefused task.mode check.choice check.waiting.items check.at (length node) node fault =
+    subst (λ (t : CheckTask). HasRefused t.mode check.choice check.waiting.items check.at (length node) node fault) it.task_is c.in_err-take_node.ensures.err in
+    let faults = refused_fault task check.choice check.waiting.items check.at (length node) taken node fault refused it.at_is (it.waits begun) in
     let p = err_from_is_err_and c.from_residual-in_err-take_node.result c.from_residual-in_err-take_node.ensures.1 in
     rw (p.1, p.2) (node_fault task (taken ++ node) check.at fault c.in_err-take_node.ensures.err.is faults)
 
@@ -46,9 +46,9 @@ returns-in_err-take_node-clause-refused c = λ task taken it.
     let node : List ℕ = c.args.node.now in
     let fault : CheckFault = c.in_err-take_node.field-0.0 in
     let begun : 0 < check.at = omega (arith, c.if-self-eq0.false) in
-    let refused : HasRefused task.mode check.choice check.waiting.items check.at node fault =
-    subst (λ (t : CheckTask). HasRefused t.mode check.choice check.waiting.items check.at node fault) it.task_is c.in_err-take_node.ensures.err in
-    let faults = refused_fault task check.choice check.waiting.items check.at taken node fault refused it.at_is (it.waits begun) in
+    let refused : HasRefused task.mode check.choice check.waiting.items check.at (length node) node fault =
+    subst (λ (t : CheckTask). HasRefused t.mode check.choice check.waiting.items check.at (length node) node fault) it.task_is c.in_err-take_node.ensures.err in
+    let faults = refused_fault task check.choice check.waiting.items check.at (length node) taken node fault refused it.at_is (it.waits begun) in
     let p = err_from_is_err_and c.from_residual-in_err-take_node.result c.from_residual-in_err-take_node.ensures.1 in
     rw (p.1, p.2) (λ _. node_refused task (taken ++ node) fault faults)
 
