@@ -27,7 +27,7 @@ use Rattle.bao_check.proofs.Forks.{Fork, NoFork, fork_of, input_of, no_fork}
 use Rattle.bao_check.proofs.Lists.{All-member, Contains-cons_cases, Contains-head, Contains-tail}
 use Rattle.bao_check.proofs.NodeBinding.{SameParent, same_parent}
 use Rattle.bao_check.proofs.SubtreeInputs.{subtree_parent}
-use Rattle.bao_check.proofs.Walking.{leaf_nodes, leaf_without}
+use Rattle.bao_check.proofs.EachNode.{leaf_nodes, leaf_without}
 use Rattle.bao_check.proofs.Written.{far_value, near_value}
 use Rattle.bao_bind.specs.declared.pair.Pair.{Pair}
 use Rattle.bao_bind.specs.Apart.{AreOurs, HasParentsOver, nodes_over}

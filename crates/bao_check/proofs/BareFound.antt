@@ -12,7 +12,7 @@ use Rattle.bao_check.specs.Beside.{bare_len, beside_text}
 use Rattle.bao_check.specs.Laws.{BareAccepted}
 use Rattle.bao_check.specs.Walk.{AreGood, asked_root}
 use Rattle.bao_check.proofs.BareAsked.{value-meets}
-use Rattle.bao_check.proofs.BareGood.{Inside, Ranges, asked_levels, good_levels, input_beside, there_levels}
+use Rattle.bao_check.proofs.BareGood.{Inside, Ranges, asked_levels, good_levels, input_beside, all_there}
 use Rattle.bao_check.proofs.BesidePlaces.{Finds-all, IsMade, IsOfChunks-counted, IsWhole, made-At, made-claimed, made-ends, whole-chunks, whole-text}
 use Rattle.bao_check.proofs.Outlines.{outboard-WantsParents}
 
@@ -98,8 +98,8 @@ module _ (mode : Mode) (root outline chunks : List ℕ) (first count : ℕ) (acc
       let each = asked_levels mode outline text chunks (of_outboard total) (of_slice total start len) total (start / 1024) (first + count) ranges
       total (asked_root root) 0 total [] 8 8 8 (omega arith) (Inside-all total) (outboard-WantsParents total) (Finds-all total)
       whole.sizes (made-At outline start len chunks accepted.long) own.good in
-      let there = there_levels mode outline text chunks (of_outboard total) (of_slice total start len) total (start / 1024) (first + count) ranges
-      total 0 total [] 8 (omega arith) (Inside-all total) whole.sizes in
+      let there = all_there mode outline text chunks (of_outboard total) (of_slice total start len) total (start / 1024) (first + count) ranges
+      0 total [] 8 (Inside-all total) whole.sizes in
       let good_bare : AreGoodBare mode root outline (start / 1024) chunks (first + count) = λ k since to. (
         wholly_there total (start / 1024) k chunks (omega arith) (there k since to (omega arith) (omega arith)),
         (value-meets root outline k (input_beside mode outline text chunks (of_outboard total) (of_slice total start len) total (start / 1024) (first + count) ranges k) (omega arith)).1

@@ -11,6 +11,7 @@ use Rattle.b3tree.specs.Tree.{left_len, parent_input}
 use Rattle.bao_text.specs.declared.choice.Choice.{Choice}
 use Rattle.bao_text.specs.Choice.{chunk_count, wants}
 use Rattle.bao_text.specs.Nodes.{TreeNode, Side, left, right, size, subtree_nodes, subtree_size}
+use Rattle.bao_text.proofs.Halves.{by_halves, far_nodes, near_nodes}
 use Rattle.bao_text.proofs.Everything.{At, At_first, At_rest}
 use Rattle.bao_text.proofs.SubtreeNodes.{parent_node, subtree_nodes-parent, subtree_nodes-unwanted}
 use Rattle.bao_text.proofs.SubtreeText.{Parts, left_len-Parts}
@@ -29,7 +30,7 @@ use Rattle.bao_check.proofs.Outlines.{far-WantsParents, near-WantsParents, near-
 use Rattle.bao_check.proofs.Parts.{AreGood-join, AreGood-split, below}
 use Rattle.bao_check.proofs.Presence.{Meets, Meets-from_wants, wants-from_Meets}
 use Rattle.bao_check.proofs.Sizes.{wants_whole}
-use Rattle.bao_check.proofs.Walking.{chunk_node, leaf_nodes}
+use Rattle.bao_check.proofs.EachNode.{chunk_node, leaf_nodes}
 use Rattle.bao_check.proofs.Written.{At_bytes, At_fits, one_good}
 
 -- the choice is of the chunks from `first` on, up to and without `after`
@@ -301,24 +302,14 @@ module _ (mode : Mode) (outline text chunks : List ℕ) (own choice : Choice) (t
       subst (λ (j : ℕ). length (bare_chunk total first chunks j) ≡ min 1024 (total - 1024 * j)) same
       (ap length (chunk_bytes number n sides source inside one) ∙ own_whole.0 ∙ sym (chunk_size number n inside one))
 
-  pub there_levels : (levels number n : ℕ) (sides : List Side) (source : ℕ) → n ≤ 1024 * levels + 1024 → Inside total number n
-      → AllByRecursion IsMadeWhole (subtree_nodes choice number n sides source) → AreThere number n
-  there_levels zero number n sides source hn inside whole = there-small number n sides source (omega arith) inside whole
-  there_levels (suc levels) number n sides source hn inside whole = elim (cases_lt 1024 n) [
-    | inr one ↦ there-small number n sides source one inside whole
-    | inl more ↦
-        λ k since to low high.
-        let l : ℕ = left_len n in
-        let parts : Parts n l = left_len-Parts n more in
-        let near : List TreeNode = subtree_nodes choice number l (sides ++ left ∷ []) (source + 64) in
-        let far : List TreeNode = subtree_nodes choice (number + l / 1024) (n - l) (sides ++ right ∷ []) (source + 64 + subtree_size l) in
-        let all = split-whole number n sides source (is_wanted number n k since to low high) more whole in
-        elim (cases_lt k (number + l / 1024)) [
-          | inl before ↦
-              there_levels levels number l (sides ++ left ∷ []) (source + 64) (omega (arith, parts.whole, parts.below)) (Inside-near total number n more inside)
-              (All-first IsMadeWhole near far all.1) k since to low (omega (arith, parts.whole, parts.some))
-          | inr beyond ↦
-              there_levels levels (number + l / 1024) (n - l) (sides ++ right ∷ []) (source + 64 + subtree_size l) (omega (arith, parts.some)) (Inside-far total number n more inside)
-              (All-second IsMadeWhole near far all.1) k since to beyond (omega (arith, parts.whole, parts.below))
-        ]
-  ]
+  pub all_there : (number n : ℕ) (sides : List Side) (source : ℕ) → Inside total number n → AllByRecursion IsMadeWhole (subtree_nodes choice number n sides source) → AreThere number n
+  all_there = by_halves (λ number n sides source. Inside total number n → AllByRecursion IsMadeWhole (subtree_nodes choice number n sides source) → AreThere number n)
+      (λ number n sides source one inside whole. there-small number n sides source one inside whole)
+      (λ number n sides source more parts in_near in_far inside whole k since to low high.
+      let near : List TreeNode = near_nodes choice number n sides source in
+      let far : List TreeNode = far_nodes choice number n sides source in
+      let all = split-whole number n sides source (is_wanted number n k since to low high) more whole in
+      elim (cases_lt k (number + left_len n / 1024)) [
+        | inl before ↦ in_near (Inside-near total number n more inside) (All-first IsMadeWhole near far all.1) k since to low (omega (arith, parts.whole, parts.some))
+        | inr beyond ↦ in_far (Inside-far total number n more inside) (All-second IsMadeWhole near far all.1) k since to beyond (omega (arith, parts.whole, parts.below))
+      ])

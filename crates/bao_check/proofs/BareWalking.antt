@@ -19,10 +19,6 @@ module _ (bare : Bare) (asked : Asked) (number n at : ℕ) where
   abbrev end : ℕ
   end = 1024 * number + n
 
-  -- a subtree without a wanted chunk
-  pub passes_none : ((k : ℕ) → IsWantedChunk bare number n k → ⊥) → PartPasses bare asked number n at
-  passes_none none = λ k wanted. absurd (none k wanted)
-
   -- a chunk alone
   module _ (one : n ≤ 1024) where
     only : (k : ℕ) → IsWantedChunk bare number n k → k ≡ number

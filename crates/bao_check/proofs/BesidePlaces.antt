@@ -1,10 +1,10 @@
 -- The bytes of an encoding that an outline and chunks make stand at their places.
-use Rattle.std.proofs.Common.{◌≡◌, ℕ, zero, suc, ◌+◌, ◌-◌, ◌*◌, ◌/◌, ◌^◌, ◌<◌, ◌≤◌, max, min, List, [], ◌∷◌, ◌++◌, length, take, drop, true, Some, refl, sym, ap, subst, ◌∙◌, arith, inl, inr, length-append, length-drop, length-take}
+use Rattle.std.proofs.Common.{◌≡◌, ℕ, ◌+◌, ◌-◌, ◌*◌, ◌/◌, ◌^◌, ◌<◌, ◌≤◌, max, min, List, [], ◌∷◌, ◌++◌, length, take, drop, true, Some, refl, sym, ap, subst, ◌∙◌, arith, inl, inr, length-append, length-drop, length-take}
 use Rattle.std.specs.List.{AllByRecursion, Contains, flat_map}
 use Rattle.std.specs.Int.{w64, from_le_bytes}
 use Rattle.std.specs.Option.{option_map, unwrap_or}
 use Rattle.std.specs.Prelude.{Option}
-use Rattle.std.proofs.lemmas.Bool.{cases_Bool, cases_lt}
+use Rattle.std.proofs.lemmas.Bool.{cases_lt}
 use Rattle.std.proofs.lemmas.List.{length-take-le, take_at}
 use Rattle.b3tree.specs.Tree.{left_len}
 use Rattle.bao_text.specs.declared.choice.Choice.{Choice}
@@ -12,20 +12,20 @@ use Rattle.bao_text.specs.Choice.{chunk_count, of_outboard, of_slice, wants}
 use Rattle.bao_text.specs.Cut.{claimed}
 use Rattle.bao_text.specs.Nodes.{TreeNode, Side, left, nodes, placed_nodes, right, size, subtree_nodes, subtree_size}
 use Rattle.bao_text.proofs.Everything.{At, At_first, At_rest}
-use Rattle.bao_text.proofs.SubtreeNodes.{parent_node, subtree_nodes-parent, subtree_nodes-unwanted}
+use Rattle.bao_text.proofs.SubtreeNodes.{parent_node}
 use Rattle.bao_text.proofs.SubtreeText.{Parts, left_len-Parts}
 use Rattle.bao_check.specs.Accepted.{bytes_at, outboard_nodes, places_of, text_end}
 use Rattle.bao_check.specs.Bare.{bare_part}
 use Rattle.bao_check.specs.Beside.{IsOfChunks, bare_len, beside_text, node_beside}
 use Rattle.bao_check.specs.Leaves.{WantsParents}
 use Rattle.bao_check.specs.Parents.{parent_in, parent_place}
-use Rattle.bao_check.proofs.Lists.{All-append, All-member, Contains-cons_cases, nodes_size, nodes_size-cons}
+use Rattle.bao_check.proofs.Lists.{All-from_members, All-member, Contains-cons_cases, nodes_size, nodes_size-cons}
 use Rattle.bao_check.proofs.Outlines.{far-WantsParents, near-WantsParents, near-size, outboard-WantsParents}
 use Rattle.bao_check.proofs.Parenting.{parent_in-place, parent_place-far, parent_place-here, parent_place-near}
 use Rattle.bao_check.proofs.Parts.{placed_nodes-All}
 use Rattle.bao_check.proofs.Presence.{Meets, Meets-from_wants}
 use Rattle.bao_check.proofs.Sizes.{nodes_size-without_chunks, wants_whole}
-use Rattle.bao_check.proofs.Walking.{chunk_node, leaf_nodes}
+use Rattle.bao_check.proofs.EachNode.{chunk_node, each_node}
 use Rattle.bao_check.proofs.Written.{At_bytes}
 
 -- The parents of a subtree are found among all places as they are among the subtree's own.
@@ -106,45 +106,28 @@ module _ (outline chunks : List ℕ) (own choice : Choice) (total first len : �
       let start : choice.start ≡ 1024 * first = covers.start in
       record { most = omega arith; whole = λ enough. omega arith }
 
-  fits_small : (number n : ℕ) (sides : List Side) (source : ℕ) → n ≤ 1024 → 1024 * number + n ≤ total
-      → AllByRecursion (Fits outline first len chunks) (subtree_nodes choice number n sides source)
-  fits_small number n sides source one within =
-      let P : List TreeNode → Type 0 = AllByRecursion (Fits outline first len chunks) in
-      elim (cases_Bool (wants choice (1024 * number) n)) [
-        | inr skipped ↦ subst P (sym (subtree_nodes-unwanted choice number n sides source skipped)) tt
-        | inl wanted ↦
-            subst P (sym (leaf_nodes choice number n sides source wanted one covers.chunks)) (fits_chunk number n sides source wanted one within, tt)
-      ]
+  -- all nodes' bytes do
+  abbrev AllFit : ℕ → ℕ → List Side → ℕ → TreeNode → Type 0
+  AllFit number n sides source node =
+      (at : ℕ) → 1024 * number + n ≤ total → WantsParents own number n → Finds all_places own number n sides source at → at + 64 * (chunk_count n - 1) ≤ length outline → Fits outline first len chunks node
 
-  fits_levels : (levels number n : ℕ) (sides : List Side) (source at : ℕ) → n ≤ 1024 * levels + 1024 → 1024 * number + n ≤ total
-      → WantsParents own number n → Finds all_places own number n sides source at → at + 64 * (chunk_count n - 1) ≤ length outline
-      → AllByRecursion (Fits outline first len chunks) (subtree_nodes choice number n sides source)
-  fits_levels zero number n sides source at hn within has finds there = fits_small number n sides source (omega arith) within
-  fits_levels (suc levels) number n sides source at hn within has finds there = elim (cases_lt 1024 n) [
-    | inr one ↦ fits_small number n sides source one within
-    | inl more ↦
-        let P : List TreeNode → Type 0 = AllByRecursion (Fits outline first len chunks) in
-        elim (cases_Bool (wants choice (1024 * number) n)) [
-          | inr skipped ↦ subst P (sym (subtree_nodes-unwanted choice number n sides source skipped)) tt
-          | inl wanted ↦
-              let l : ℕ = left_len n in
-              let parts : Parts n l = left_len-Parts n more in
-              let near : List TreeNode = subtree_nodes choice number l (sides ++ left ∷ []) (source + 64) in
-              let far : List TreeNode = subtree_nodes choice (number + l / 1024) (n - l) (sides ++ right ∷ []) (source + 64 + subtree_size l) in
-              let near_fits : P near =
-              fits_levels levels number l (sides ++ left ∷ []) (source + 64) (at + 64) (omega (arith, parts.whole, parts.below)) (omega (arith, parts.below))
-              (near-WantsParents own number n more has) (Finds-near all_places own number n sides source at more has finds) (omega (arith, parts.whole, parts.some, parts.below)) in
-              let far_fits : P far =
-              fits_levels levels (number + l / 1024) (n - l) (sides ++ right ∷ []) (source + 64 + subtree_size l) (at + 64 * (l / 1024))
-              (omega (arith, parts.some)) (omega (arith, parts.whole, parts.below))
-              (far-WantsParents own number n more has) (Finds-far all_places own number n sides source at more has finds) (omega (arith, parts.whole, parts.some, parts.below)) in
-              let rest : length (drop at outline) ≡ length outline - at = length-drop at outline in
-              let all : length (node_beside outline first chunks (parent_node number n sides source)) ≡ 64 =
-              ap length (parent-beside outline chunks first own number n sides source at more has finds) ∙ length-take-le 64 (drop at outline) (omega arith) in
-              subst P (sym (subtree_nodes-parent choice number n sides source wanted more))
-              (record { most = omega arith; whole = λ _. all }, All-append (Fits outline first len chunks) near far near_fits far_fits)
-        ]
-  ]
+  fits_parent : (number n : ℕ) (sides : List Side) (source : ℕ) → 1024 < n → AllFit number n sides source (parent_node number n sides source)
+  fits_parent number n sides source more at within has finds there =
+      let rest : length (drop at outline) ≡ length outline - at = length-drop at outline in
+      let all : length (node_beside outline first chunks (parent_node number n sides source)) ≡ 64 =
+      ap length (parent-beside outline chunks first own number n sides source at more has finds) ∙ length-take-le 64 (drop at outline) (omega arith) in
+      record { most = omega arith; whole = λ _. all }
+
+  fits : (number n : ℕ) (sides : List Side) (source : ℕ) → AllByRecursion (AllFit number n sides source) (subtree_nodes choice number n sides source)
+  fits = each_node choice AllFit
+      (λ number n sides source wanted one kept at within has finds there. fits_chunk number n sides source wanted one within)
+      (λ number n sides source wanted more parts. fits_parent number n sides source more)
+      (λ number n sides source wanted more parts x member h at within has finds there.
+      h (at + 64) (omega (arith, within, parts.below)) (near-WantsParents own number n more has) (Finds-near all_places own number n sides source at more has finds)
+      (omega (arith, there, parts.whole, parts.some, parts.below)))
+      (λ number n sides source wanted more parts x member h at within has finds there.
+      h (at + 64 * (left_len n / 1024)) (omega (arith, within, parts.whole, parts.below)) (far-WantsParents own number n more has) (Finds-far all_places own number n sides source at more has finds)
+      (omega (arith, there, parts.whole, parts.some, parts.below)))
 
 -- lists for nodes, one after another, where none is longer than its node
 flat-most : (f : TreeNode → List ℕ) (nodes : List TreeNode) → AllByRecursion (λ node. length (f node) ≤ size node) nodes → length (flat_map f nodes) ≤ nodes_size nodes
@@ -206,8 +189,9 @@ made_fits outline start len chunks made =
     let sizes : nodes_size (outboard_nodes outline) ≡ 64 * (chunk_count total - 1) =
     nodes_size-without_chunks (of_outboard total) 0 total [] 8 (omega arith) (omega arith) refl in
     let there : 8 + 64 * (chunk_count total - 1) ≤ length outline = omega (arith, made.parents) in
-    fits_levels outline chunks (of_outboard total) (of_slice total start len) total (start / 1024) (bare_len total start len) (covers_chunks total start len made.of_chunks)
-    total 0 total [] 8 8 (omega arith) (omega arith) (outboard-WantsParents total) (Finds-all total) there
+    let each = fits outline chunks (of_outboard total) (of_slice total start len) total (start / 1024) (bare_len total start len) (covers_chunks total start len made.of_chunks) 0 total [] 8 in
+    All-from_members (Fits outline (start / 1024) (bare_len total start len) chunks) (nodes total start len)
+    (λ x h. All-member _ (nodes total start len) each x h 8 (omega arith) (outboard-WantsParents total) (Finds-all total) there)
 
 -- how long the encoding is
 made_length : (outline : List ℕ) (start len : ℕ) (chunks : List ℕ) → 8 ≤ length outline

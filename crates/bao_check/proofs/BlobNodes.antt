@@ -1,5 +1,5 @@
 -- What a blob has at the nodes of a slice of it.
-use Rattle.std.proofs.Common.{◌≡◌, ◌⊎◌, ℕ, zero, suc, ◌+◌, ◌-◌, ◌*◌, ◌/◌, ◌<◌, ◌≤◌, ◌==◌, min, None, Some, List, [], ◌∷◌, ◌++◌, length, take, drop, true, false, refl, sym, ap, subst, ◌∙◌, arith, inl, inr, length-drop}
+use Rattle.std.proofs.Common.{◌≡◌, ◌⊎◌, ℕ, ◌+◌, ◌-◌, ◌*◌, ◌/◌, ◌<◌, ◌≤◌, ◌==◌, min, None, Some, List, [], ◌∷◌, ◌++◌, length, take, drop, true, false, refl, sym, ap, ◌∙◌, arith, inl, inr, length-drop}
 use Rattle.std.specs.List.{AllByRecursion, Contains, flat_map}
 use Rattle.std.specs.Option.{option_map}
 use Rattle.std.proofs.lemmas.Bool.{cases_Bool, cases_lt, eqb-true, lt-ltb}
@@ -13,16 +13,16 @@ use Rattle.bao_text.specs.Nodes.{TreeNode, Side, chosen_nodes, left, nodes, righ
 use Rattle.bao_text.specs.Texts.{length_text, node_text}
 use Rattle.bao_text.proofs.Everything.{wants_all}
 use Rattle.bao_text.proofs.Laws.{chosen_text-nodes}
-use Rattle.bao_text.proofs.SubtreeNodes.{parent_node, subtree_nodes-parent, subtree_nodes-unwanted}
+use Rattle.bao_text.proofs.SubtreeNodes.{parent_node, subtree_nodes-parent}
 use Rattle.bao_text.proofs.SubtreeText.{Parts, left_len-Parts}
 use Rattle.bao_check.specs.Laws.{NodesMakeSlice, known_at}
 use Rattle.bao_text.specs.NodeNames.{boundary}
 use Rattle.bao_check.specs.Parents.{find_parent, is_parent_at, parent_of}
 use Rattle.bao_check.specs.Pieces.{chunk_of}
-use Rattle.bao_check.proofs.Lists.{All-append, All-from_members, All-member, Contains-head, Contains-tail}
+use Rattle.bao_check.proofs.Lists.{All-from_members, All-member, Contains-head, Contains-tail}
 use Rattle.bao_check.proofs.Locating.{IsInside, boundaries_inside}
 use Rattle.bao_check.proofs.Parenting.{not_parent_at}
-use Rattle.bao_check.proofs.Walking.{leaf_nodes, leaf_without}
+use Rattle.bao_check.proofs.EachNode.{each_node}
 
 find_parent-first : (xs ys : List TreeNode) (m : ℕ) (node : TreeNode) → find_parent xs m ≡ Some node → find_parent (xs ++ ys) m ≡ Some node
 find_parent-first [] ys m node h = let bad : None ≡ Some node = h in cc
@@ -40,19 +40,6 @@ find_parent-second (x ∷ xs) ys m all = rw all.0 (find_parent-second xs ys m al
 -- the parent is the one that everything has at its boundary
 abbrev IsFound : Choice → ℕ → ℕ → List Side → ℕ → TreeNode → Type 0
 IsFound all number n sides source node = node.is_chunk ≡ false → find_parent (subtree_nodes all number n sides source) (boundary node) ≡ Some node
-
-found_small : (all choice : Choice) (number n : ℕ) (sides : List Side) (source : ℕ) → n ≤ 1024
-    → AllByRecursion (IsFound all number n sides source) (subtree_nodes choice number n sides source)
-found_small all choice number n sides source one =
-    let P : List TreeNode → Type 0 = AllByRecursion (IsFound all number n sides source) in
-    elim (cases_Bool (wants choice (1024 * number) n)) [
-      | inr skipped ↦ subst P (sym (subtree_nodes-unwanted choice number n sides source skipped)) tt
-      | inl wanted ↦
-          elim (cases_Bool choice.chunks) [
-            | inl there ↦ subst P (sym (leaf_nodes choice number n sides source wanted one there)) ((λ e. let bad : true ≡ false = e in cc), tt)
-            | inr gone ↦ subst P (sym (leaf_without choice number n sides source wanted one gone)) tt
-          ]
-    ]
 
 module _ (all choice : Choice) (number n : ℕ) (sides : List Side) (source : ℕ) (more : 1024 < n) (wanted : wants choice (1024 * number) n ≡ true) (all_wanted : wants all (1024 * number) n ≡ true) where
   abbrev middle : ℕ
@@ -111,33 +98,15 @@ module _ (all choice : Choice) (number n : ℕ) (sides : List Side) (source : �
       omega (arith, high, low, same, near_count))) in
       past_own (boundary x) (λ same. omega (arith, low, same)) ∙ find_parent-second (near_of all) (far_of all) (boundary x) lacks ∙ found parent
 
-found_levels : (levels : ℕ) (all choice : Choice) (number n : ℕ) (sides : List Side) (source : ℕ) → n ≤ 1024 * levels + 1024 → all.start ≡ 0 → 1024 * number + n ≤ all.end
-    → AllByRecursion (IsFound all number n sides source) (subtree_nodes choice number n sides source)
-found_levels zero all choice number n sides source hn start fits = found_small all choice number n sides source (omega arith)
-found_levels (suc levels) all choice number n sides source hn start fits = elim (cases_lt 1024 n) [
-  | inr one ↦ found_small all choice number n sides source one
-  | inl more ↦
-      let P : TreeNode → Type 0 = IsFound all number n sides source in
-      elim (cases_Bool (wants choice (1024 * number) n)) [
-        | inr skipped ↦ subst (AllByRecursion P) (sym (subtree_nodes-unwanted choice number n sides source skipped)) tt
-        | inl wanted ↦
-            let l : ℕ = left_len n in
-            let parts : Parts n l = left_len-Parts n more in
-            let all_wanted : wants all (1024 * number) n ≡ true = wants_all all (1024 * number) n start (omega arith) in
-            let near : List TreeNode = subtree_nodes choice number l (sides ++ left ∷ []) (source + 64) in
-            let far : List TreeNode = subtree_nodes choice (number + l / 1024) (n - l) (sides ++ right ∷ []) (source + 64 + subtree_size l) in
-            let Near : TreeNode → Type 0 = IsFound all number l (sides ++ left ∷ []) (source + 64) in
-            let Far : TreeNode → Type 0 = IsFound all (number + l / 1024) (n - l) (sides ++ right ∷ []) (source + 64 + subtree_size l) in
-            let in_near = found_levels levels all choice number l (sides ++ left ∷ []) (source + 64) (omega (arith, parts.whole, parts.below)) start (omega (arith, parts.below)) in
-            let in_far = found_levels levels all choice (number + l / 1024) (n - l) (sides ++ right ∷ []) (source + 64 + subtree_size l) (omega (arith, parts.some)) start (omega (arith, parts.whole, parts.below)) in
-            subst (AllByRecursion P) (sym (subtree_nodes-parent choice number n sides source wanted more)) (
-              (λ parent. found_own all choice number n sides source more wanted all_wanted),
-              All-append P near far
-                  (All-from_members P near (λ x h. found_near all choice number n sides source more wanted all_wanted x h (All-member Near near in_near x h)))
-                  (All-from_members P far (λ x h. found_far all choice number n sides source more wanted all_wanted x h (All-member Far far in_far x h))),
-            )
-      ]
-]
+all_found : (all choice : Choice) (number n : ℕ) (sides : List Side) (source : ℕ)
+    → AllByRecursion (λ node. all.start ≡ 0 → 1024 * number + n ≤ all.end → IsFound all number n sides source node) (subtree_nodes choice number n sides source)
+all_found all choice = each_node choice (λ number n sides source node. all.start ≡ 0 → 1024 * number + n ≤ all.end → IsFound all number n sides source node)
+    (λ number n sides source wanted one kept start fits e. let bad : true ≡ false = e in cc)
+    (λ number n sides source wanted more parts start fits parent. found_own all choice number n sides source more wanted (wants_all all (1024 * number) n start (omega (arith, fits, more))))
+    (λ number n sides source wanted more parts x member h start fits.
+    found_near all choice number n sides source more wanted (wants_all all (1024 * number) n start (omega (arith, fits, more))) x member (h start (omega (arith, fits, parts.below))))
+    (λ number n sides source wanted more parts x member h start fits.
+    found_far all choice number n sides source more wanted (wants_all all (1024 * number) n start (omega (arith, fits, more))) x member (h start (omega (arith, fits, parts.whole, parts.below))))
 
 -- the parent of a slice of the blob is the blob's
 pub parent_of-boundary : (mode : Mode) (blob : List ℕ) (choice : Choice) (node : TreeNode) → Contains (chosen_nodes choice (length blob)) node → node.is_chunk ≡ false
@@ -146,7 +115,7 @@ parent_of-boundary mode blob choice node there parent =
     let total : ℕ = length blob in
     let all : Choice = of_combined total in
     let found : find_parent (chosen_nodes all total) (boundary node) ≡ Some node =
-    All-member (IsFound all 0 total [] 8) (chosen_nodes choice total) (found_levels total all choice 0 total [] 8 (omega arith) refl (omega arith)) node there parent in
+    All-member _ (chosen_nodes choice total) (all_found all choice 0 total [] 8) node there refl (omega arith) parent in
     ap (option_map (node_text mode blob)) found
 
 pub parent_of-node : (mode : Mode) (blob : List ℕ) (choice : Choice) (m : ℕ) (node : TreeNode) → Contains (chosen_nodes choice (length blob)) node → is_parent_at m node ≡ true
@@ -167,19 +136,6 @@ record IsChunkOf (total : ℕ) (node : TreeNode) : Type 0 where
 abbrev IsChunkIn : ℕ → TreeNode → Type 0
 IsChunkIn total node = node.is_chunk ≡ true → IsChunkOf total node
 
-chunks_small : (total : ℕ) (choice : Choice) (number n : ℕ) (sides : List Side) (source : ℕ) → n ≤ 1024 → number < chunk_count total → n ≡ min 1024 (total - 1024 * number)
-    → AllByRecursion (IsChunkIn total) (subtree_nodes choice number n sides source)
-chunks_small total choice number n sides source one below len_is =
-    let P : List TreeNode → Type 0 = AllByRecursion (IsChunkIn total) in
-    elim (cases_Bool (wants choice (1024 * number) n)) [
-      | inr skipped ↦ subst P (sym (subtree_nodes-unwanted choice number n sides source skipped)) tt
-      | inl wanted ↦
-          elim (cases_Bool choice.chunks) [
-            | inl there ↦ subst P (sym (leaf_nodes choice number n sides source wanted one there)) ((λ e. record { below = below; len_is = len_is }), tt)
-            | inr gone ↦ subst P (sym (leaf_without choice number n sides source wanted one gone)) tt
-          ]
-    ]
-
 -- a subtree ends with the blob, or with a whole chunk before its end
 record IsPart (total number n : ℕ) : Type 0 where
   below : number < chunk_count total
@@ -192,37 +148,24 @@ part_len total number n one is = elim is.ends [
   | inr whole ↦ let some : 0 < n = whole.0 in let e : 1024 * (n / 1024) ≡ n = whole.1 in omega (arith, some, e, is.fits)
 ]
 
-chunks_levels : (levels total : ℕ) (choice : Choice) (number n : ℕ) (sides : List Side) (source : ℕ) → n ≤ 1024 * levels + 1024 → IsPart total number n
-    → AllByRecursion (IsChunkIn total) (subtree_nodes choice number n sides source)
-chunks_levels zero total choice number n sides source hn is = chunks_small total choice number n sides source (omega arith) is.below (part_len total number n (omega arith) is)
-chunks_levels (suc levels) total choice number n sides source hn is = elim (cases_lt 1024 n) [
-  | inr one ↦ chunks_small total choice number n sides source one is.below (part_len total number n one is)
-  | inl more ↦
-      let P : TreeNode → Type 0 = IsChunkIn total in
-      elim (cases_Bool (wants choice (1024 * number) n)) [
-        | inr skipped ↦ subst (AllByRecursion P) (sym (subtree_nodes-unwanted choice number n sides source skipped)) tt
-        | inl wanted ↦
-            let l : ℕ = left_len n in
-            let parts : Parts n l = left_len-Parts n more in
-            let near : List TreeNode = subtree_nodes choice number l (sides ++ left ∷ []) (source + 64) in
-            let far : List TreeNode = subtree_nodes choice (number + l / 1024) (n - l) (sides ++ right ∷ []) (source + 64 + subtree_size l) in
-            let near_is : IsPart total number l = record { below = is.below; fits = omega (arith, is.fits, parts.below); ends = inr (omega (arith, parts.some), parts.whole) } in
-            let far_is : IsPart total (number + l / 1024) (n - l) = record {
-              below = omega (arith, is.fits, parts.below, parts.whole);
-              fits = omega (arith, is.fits, parts.below, parts.whole);
-              ends = elim is.ends [
-                | inl last ↦ inl (omega (arith, parts.whole, parts.below))
-                | inr w ↦ let e : 1024 * (n / 1024) ≡ n = w.1 in inr (omega (arith, parts.below), omega (arith, e, parts.whole, parts.below))
-              ];
-            } in
-            subst (AllByRecursion P) (sym (subtree_nodes-parent choice number n sides source wanted more)) (
-              (λ e. let bad : false ≡ true = e in cc),
-              All-append P near far
-                  (chunks_levels levels total choice number l (sides ++ left ∷ []) (source + 64) (omega (arith, parts.whole, parts.below)) near_is)
-                  (chunks_levels levels total choice (number + l / 1024) (n - l) (sides ++ right ∷ []) (source + 64 + subtree_size l) (omega (arith, parts.some)) far_is),
-            )
-      ]
-]
+near_part : (total number n : ℕ) → Parts n (left_len n) → IsPart total number n → IsPart total number (left_len n)
+near_part total number n parts is = record { below = is.below; fits = omega (arith, is.fits, parts.below); ends = inr (omega (arith, parts.some), parts.whole) }
+
+far_part : (total number n : ℕ) → Parts n (left_len n) → IsPart total number n → IsPart total (number + left_len n / 1024) (n - left_len n)
+far_part total number n parts is = record {
+  below = omega (arith, is.fits, parts.below, parts.whole);
+  fits = omega (arith, is.fits, parts.below, parts.whole);
+  ends = elim is.ends [
+    | inl last ↦ inl (omega (arith, parts.whole, parts.below))
+    | inr w ↦ let e : 1024 * (n / 1024) ≡ n = w.1 in inr (omega (arith, parts.below), omega (arith, e, parts.whole, parts.below))
+  ];
+}
+
+all_chunks : (total : ℕ) (choice : Choice) (number n : ℕ) (sides : List Side) (source : ℕ) → AllByRecursion (λ node. IsPart total number n → IsChunkIn total node) (subtree_nodes choice number n sides source)
+all_chunks total choice = each_node choice (λ number n sides source node. IsPart total number n → IsChunkIn total node)
+    (λ number n sides source wanted one kept is e. record { below = is.below; len_is = part_len total number n one is })
+    (λ number n sides source wanted more parts is e. let bad : false ≡ true = e in cc)
+    (λ number n sides source wanted more parts x member h is. h (near_part total number n parts is)) (λ number n sides source wanted more parts x member h is. h (far_part total number n parts is))
 
 -- the chunk of a slice of the blob is the blob's
 pub chunk_of-node : (mode : Mode) (blob : List ℕ) (choice : Choice) (node : TreeNode) → Contains (chosen_nodes choice (length blob)) node → node.is_chunk ≡ true
@@ -230,8 +173,7 @@ pub chunk_of-node : (mode : Mode) (blob : List ℕ) (choice : Choice) (node : Tr
 chunk_of-node mode blob choice node there chunk =
     let total : ℕ = length blob in
     let is : IsChunkOf total node =
-    All-member (IsChunkIn total) (chosen_nodes choice total)
-    (chunks_levels total total choice 0 total [] 8 (omega arith) (record { below = omega arith; fits = omega arith; ends = inl (omega arith) })) node there chunk in
+    All-member _ (chosen_nodes choice total) (all_chunks total choice 0 total [] 8) node there (record { below = omega arith; fits = omega arith; ends = inl (omega arith) }) chunk in
     let rest : List ℕ = drop (1024 * node.number) blob in
     let size : length rest ≡ total - 1024 * node.number = length-drop (1024 * node.number) blob in
     let cut : take 1024 rest ≡ take node.len rest = elim (cases_lt 1024 (length rest)) [

@@ -28,7 +28,7 @@ use Rattle.bao_check.specs.Walk.{AreGood, Meets}
 use Rattle.bao_check.proofs.Lists.{Contains-cons_cases, Contains-head, Contains-tail, nodes_size}
 use Rattle.bao_check.proofs.Parts.{AreGood-split, PartsGood, below, placed_nodes-parent}
 use Rattle.bao_check.proofs.Stepping.{is_over-parent, steps_outside, steps_to-append}
-use Rattle.bao_check.proofs.Walking.{chunk_node}
+use Rattle.bao_check.proofs.EachNode.{chunk_node}
 
 -- the way goes to the right there
 abbrev pub GoesRight : Step → Type 0

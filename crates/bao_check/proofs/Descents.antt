@@ -11,10 +11,10 @@ use Rattle.bao_text.specs.declared.choice.Choice.{Choice}
 use Rattle.bao_text.specs.Choice.{chunk_count, wants}
 use Rattle.bao_text.specs.Nodes.{Side, TreeNode, left, placed_nodes, right, subtree_nodes, subtree_size}
 use Rattle.bao_text.proofs.Everything.{chunk_part}
-use Rattle.bao_text.proofs.SubtreeText.{Parts, left_len-Parts}
 use Rattle.bao_check.specs.declared.locate.Span.{Span}
 use Rattle.bao_check.specs.Parents.{parent_place}
 use Rattle.bao_check.specs.Spans.{chunk_place}
+use Rattle.bao_text.proofs.Halves.{by_halves}
 use Rattle.bao_check.proofs.Lists.{nodes_size}
 use Rattle.bao_check.proofs.Locating.{and_false, chunk_place-leaf, chunk_place-unwanted, chunk_place-without, count_parts}
 use Rattle.bao_check.proofs.Parenting.{outside_lacks, parent_place-here, parent_place-none, parent_place-unwanted}
@@ -215,35 +215,26 @@ parent_full (suc levels) choice number n sides source at m size low high start =
     ]
 
 -- the parent at a boundary is there where the chunk after it is wanted
-parent_levels : (levels : ℕ) (choice : Choice) (number n : ℕ) (sides : List Side) (source at m : ℕ) → n ≤ 1024 * levels + 1024 → number < m → m < number + chunk_count n → Meets choice (1024 * m) 1
+pub parent_wanted : (choice : Choice) (m : ℕ) → Meets choice (1024 * m) 1 → (number n : ℕ) (sides : List Side) (source at : ℕ) → number < m → m < number + chunk_count n
     → is_some (parent_place (placed_nodes at (subtree_nodes choice number n sides source)) m) ≡ true
-parent_levels zero choice number n sides source at m bound low high meets = absurd (omega (arith, bound, low, high))
-parent_levels (suc levels) choice number n sides source at m bound low high meets = elim (cases_lt 1024 n) [
-  | inr one ↦ absurd (omega (arith, one, low, high))
-  | inl more ↦
-      let l : ℕ = left_len n in
-      let parts : Parts n l = left_len-Parts n more in
-      let there : Option ℕ → Bool = λ o. is_some o in
-      elim (cases_lt m (number + l / 1024)) [
-        | inl before ↦
-            ap there (parent_near choice number n sides source at more m before)
-            ∙ parent_levels levels choice number l (sides ++ left ∷ []) (source + 64) (at + 64) m (omega (arith, bound, parts.whole, parts.below)) low (omega (arith, before, parts.whole)) meets
-        | inr after ↦
-            elim (cases_lt (number + l / 1024) m) [
-              | inl past ↦
-                  ap there (parent_far choice number n sides source at more m past)
-                  ∙ parent_levels levels choice (number + l / 1024) (n - l) (sides ++ right ∷ []) (source + 64 + subtree_size l) (at + 64 + nodes_size (near choice number n sides source at more)) m
-                  (omega (arith, bound, parts.some)) past (omega (arith, high, count_parts n more)) meets
-              | inr same ↦
-                  let whole : wants choice (1024 * number) n ≡ true = wants-from_Meets choice (1024 * number) n (record { before = omega (arith, meets.before, low); after = omega (arith, meets.after, high, more) }) in
-                  ap there (parent_place-here choice number n sides source at m whole more (omega (arith, after, same)))
-            ]
-      ]
-]
-
-pub parent_wanted : (choice : Choice) (number n : ℕ) (sides : List Side) (source at m : ℕ) → number < m → m < number + chunk_count n → Meets choice (1024 * m) 1
-    → is_some (parent_place (placed_nodes at (subtree_nodes choice number n sides source)) m) ≡ true
-parent_wanted choice number n sides source at m low high meets = parent_levels n choice number n sides source at m (omega arith) low high meets
+parent_wanted choice m meets = by_halves
+    (λ number n sides source. (at : ℕ) → number < m → m < number + chunk_count n → is_some (parent_place (placed_nodes at (subtree_nodes choice number n sides source)) m) ≡ true)
+    (λ number n sides source one at low high. absurd (omega (arith, one, low, high)))
+    (λ number n sides source more parts in_near in_far at low high.
+    let l : ℕ = left_len n in
+    let there : Option ℕ → Bool = λ o. is_some o in
+    elim (cases_lt m (number + l / 1024)) [
+      | inl before ↦ ap there (parent_near choice number n sides source at more m before) ∙ in_near (at + 64) low (omega (arith, before, parts.whole))
+      | inr after ↦
+          elim (cases_lt (number + l / 1024) m) [
+            | inl past ↦
+                ap there (parent_far choice number n sides source at more m past)
+                ∙ in_far (at + 64 + nodes_size (near choice number n sides source at more)) past (omega (arith, high, count_parts n more))
+            | inr same ↦
+                let whole : wants choice (1024 * number) n ≡ true = wants-from_Meets choice (1024 * number) n (record { before = omega (arith, meets.before, low); after = omega (arith, meets.after, high, more) }) in
+                ap there (parent_place-here choice number n sides source at m whole more (omega (arith, after, same)))
+          ]
+    ])
 
 -- so large a power of two is no part of a number of 64 digits
 pub few_chunks : (levels : ℕ) → 1024 * 2 ^ levels < 2 ^ 64 → 2048 * 2 ^ levels ≤ 2 ^ 64

@@ -31,7 +31,7 @@ use Rattle.bao_check.proofs.Lists.{Contains-head, Contains-tail, nodes_size}
 use Rattle.bao_check.proofs.Locating.{chunk_in-place, chunk_place-far, chunk_place-near, count_parts}
 use Rattle.bao_check.proofs.Parenting.{parent_in-place, parent_place-far, parent_place-here, parent_place-near}
 use Rattle.bao_check.proofs.Parts.{AreGood-split, PartsGood, placed_nodes-parent}
-use Rattle.bao_check.proofs.Walking.{chunk_node, leaf_nodes}
+use Rattle.bao_check.proofs.EachNode.{chunk_node, leaf_nodes}
 
 -- the input that a parent's bytes make
 abbrev pub input_of : Mode → List ℕ → Input

@@ -1,26 +1,26 @@
 -- Where the nodes of a subtree have a chunk, and how many bytes they are.
-use Rattle.std.proofs.Common.{◌≡◌, ◌≢◌, ℕ, zero, suc, ◌+◌, ◌-◌, ◌*◌, ◌/◌, ◌<◌, ◌≤◌, List, [], ◌∷◌, ◌++◌, take, drop, Bool, true, false, None, Some, IfSome, refl, sym, ap, subst, ◌∙◌, arith, inl, inr}
+use Rattle.std.proofs.Common.{◌≡◌, ◌≢◌, ℕ, ◌+◌, ◌-◌, ◌*◌, ◌/◌, ◌<◌, ◌≤◌, List, [], ◌∷◌, ◌++◌, take, drop, Bool, true, false, None, Some, IfSome, refl, ap, ◌∙◌, arith, inl, inr}
 use Rattle.std.specs.List.{AllByRecursion}
 use Rattle.std.specs.Option.{option_map}
 use Rattle.std.specs.Prelude.{◌&&◌, ◌==◌}
-use Rattle.std.proofs.lemmas.Bool.{cases_Bool, cases_lt}
+use Rattle.std.proofs.lemmas.Bool.{cases_Bool}
 use Rattle.std.proofs.lemmas.Bool.Decides.{eqb_tells}
 use Rattle.b3tree.specs.Tree.{left_len}
 use Rattle.bao_text.specs.declared.choice.Choice.{Choice}
 use Rattle.bao_text.specs.Choice.{chunk_count, wants}
 use Rattle.bao_text.specs.NodeNames.{boundary}
 use Rattle.bao_text.specs.Nodes.{TreeNode, Side, left, placed_nodes, right, size, subtree_nodes, subtree_size}
-use Rattle.bao_text.proofs.SubtreeNodes.{subtree_nodes-parent, subtree_nodes-unwanted}
+use Rattle.bao_text.proofs.SubtreeNodes.{subtree_nodes-unwanted}
 use Rattle.bao_text.proofs.SubtreeText.{Parts, left_len-Parts}
 use Rattle.bao_check.specs.Accepted.{end_of}
 use Rattle.bao_check.specs.Pieces.{chunk_in}
 use Rattle.bao_check.specs.Spans.{chunk_place}
-use Rattle.bao_check.proofs.Lists.{All-append, All-from_members, All-member, nodes_size}
+use Rattle.bao_check.proofs.Lists.{All-from_members, All-member, nodes_size}
 use Rattle.bao_check.proofs.Parts.{placed_nodes-All, placed_nodes-parent}
-use Rattle.bao_check.proofs.Walking.{leaf_nodes, leaf_without}
+use Rattle.bao_check.proofs.EachNode.{each_node, leaf_nodes, leaf_without}
 
 -- the chunks of the two parts
-count_left : (n : ℕ) → 1024 < n → chunk_count (left_len n) ≡ left_len n / 1024
+pub count_left : (n : ℕ) → 1024 < n → chunk_count (left_len n) ≡ left_len n / 1024
 count_left n more = let parts : Parts n (left_len n) = left_len-Parts n more in omega (arith, parts.whole, parts.some)
 
 pub count_parts : (n : ℕ) → 1024 < n → chunk_count n ≡ left_len n / 1024 + chunk_count (n - left_len n)
@@ -37,54 +37,14 @@ IsInside number count node = node.is_chunk ≡ false → (number < boundary node
 abbrev IsAmong : ℕ → ℕ → TreeNode → Type 0
 IsAmong number count node = IsWithin number count node × IsInside number count node
 
--- so do those of a part
-among_part : (number count part parts : ℕ) → number ≤ part → part + parts ≤ number + count → (nodes : List TreeNode) → AllByRecursion (IsAmong part parts) nodes
-    → AllByRecursion (IsAmong number count) nodes
-among_part number count part parts first last nodes all =
-    All-from_members (IsAmong number count) nodes (λ x h.
-    let w : IsAmong part parts x = All-member (IsAmong part parts) nodes all x h in
-    ((omega (arith, first, w.0.0), omega (arith, last, w.0.1)), (λ parent. let inside = w.1 parent in (omega (arith, first, inside.0), omega (arith, last, inside.1)))))
-
-among_small : (choice : Choice) (number n : ℕ) (sides : List Side) (source : ℕ) → n ≤ 1024
-    → AllByRecursion (IsAmong number (chunk_count n)) (subtree_nodes choice number n sides source)
-among_small choice number n sides source one =
-    let P : List TreeNode → Type 0 = AllByRecursion (IsAmong number (chunk_count n)) in
-    elim (cases_Bool (wants choice (1024 * number) n)) [
-      | inr skipped ↦ subst P (sym (subtree_nodes-unwanted choice number n sides source skipped)) tt
-      | inl wanted ↦
-          elim (cases_Bool choice.chunks) [
-            | inl there ↦ subst P (sym (leaf_nodes choice number n sides source wanted one there)) (((omega arith, omega arith), (λ e. let bad : true ≡ false = e in cc)), tt)
-            | inr gone ↦ subst P (sym (leaf_without choice number n sides source wanted one gone)) tt
-          ]
-    ]
-
-among_levels : (levels : ℕ) (choice : Choice) (number n : ℕ) (sides : List Side) (source : ℕ) → n ≤ 1024 * levels + 1024
-    → AllByRecursion (IsAmong number (chunk_count n)) (subtree_nodes choice number n sides source)
-among_levels zero choice number n sides source hn = among_small choice number n sides source (omega arith)
-among_levels (suc levels) choice number n sides source hn = elim (cases_lt 1024 n) [
-  | inr one ↦ among_small choice number n sides source one
-  | inl more ↦
-      let P : List TreeNode → Type 0 = AllByRecursion (IsAmong number (chunk_count n)) in
-      elim (cases_Bool (wants choice (1024 * number) n)) [
-        | inr skipped ↦ subst P (sym (subtree_nodes-unwanted choice number n sides source skipped)) tt
-        | inl wanted ↦
-            let l : ℕ = left_len n in
-            let parts : Parts n l = left_len-Parts n more in
-            let near : List TreeNode = subtree_nodes choice number l (sides ++ left ∷ []) (source + 64) in
-            let far : List TreeNode = subtree_nodes choice (number + l / 1024) (n - l) (sides ++ right ∷ []) (source + 64 + subtree_size l) in
-            let in_near = among_levels levels choice number l (sides ++ left ∷ []) (source + 64) (omega (arith, parts.whole, parts.below)) in
-            let in_far = among_levels levels choice (number + l / 1024) (n - l) (sides ++ right ∷ []) (source + 64 + subtree_size l) (omega (arith, parts.some)) in
-            let near_count : chunk_count l ≡ l / 1024 = count_left n more in
-            let all : chunk_count n ≡ l / 1024 + chunk_count (n - l) = count_parts n more in
-            let near_all = among_part number (chunk_count n) number (chunk_count l) (omega arith) (omega (arith, near_count, all)) near in_near in
-            let far_all = among_part number (chunk_count n) (number + l / 1024) (chunk_count (n - l)) (omega arith) (omega (arith, all)) far in_far in
-            subst P (sym (subtree_nodes-parent choice number n sides source wanted more))
-            (((omega arith, omega arith), (λ _. (omega (arith, parts.whole, parts.some), omega (arith, all)))), All-append (IsAmong number (chunk_count n)) near far near_all far_all)
-      ]
-]
-
 among : (choice : Choice) (number n : ℕ) (sides : List Side) (source : ℕ) → AllByRecursion (IsAmong number (chunk_count n)) (subtree_nodes choice number n sides source)
-among choice number n sides source = among_levels n choice number n sides source (omega arith)
+among choice = each_node choice (λ number n sides source node. IsAmong number (chunk_count n) node)
+    (λ number n sides source wanted one kept. ((omega arith, omega arith), λ e. let bad : true ≡ false = e in cc))
+    (λ number n sides source wanted more parts. ((omega arith, omega arith), λ _. (omega (arith, parts.whole, parts.some), omega (arith, count_parts n more))))
+    (λ number n sides source wanted more parts x member h.
+    ((h.0.0, omega (arith, h.0.1, count_left n more, count_parts n more)), λ parent. let inside = h.1 parent in (inside.0, omega (arith, inside.1, count_left n more, count_parts n more))))
+    (λ number n sides source wanted more parts x member h.
+    ((omega (arith, h.0.0), omega (arith, h.0.1, count_parts n more)), λ parent. let inside = h.1 parent in (omega (arith, inside.0), omega (arith, inside.1, count_parts n more))))
 
 pub numbers_within : (choice : Choice) (number n : ℕ) (sides : List Side) (source : ℕ) → AllByRecursion (IsWithin number (chunk_count n)) (subtree_nodes choice number n sides source)
 numbers_within choice number n sides source =

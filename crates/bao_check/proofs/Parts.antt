@@ -2,8 +2,7 @@
 use Rattle.std.specs.List.{AllByRecursion, Contains}
 use Rattle.std.proofs.lemmas.List.{append-nil, append_assoc, append_cancel_left}
 use Rattle.std.proofs.lemmas.List.Elements.{Contains-append_cases, Contains-append_left, Contains-append_right}
-use Rattle.std.proofs.lemmas.Bool.{cases_Bool, cases_lt}
-use Rattle.std.proofs.Common.{length-append, subst, inl, inr, ◌⊎◌, ◌≢◌, ◌≡◌, ℕ, zero, suc, ◌+◌, ◌-◌, ◌*◌, ◌/◌, ◌<◌, ◌≤◌, List, [], ◌∷◌, ◌++◌, length, take, drop, true, false, refl, sym, ap, ◌∙◌, arith}
+use Rattle.std.proofs.Common.{length-append, subst, inl, inr, ◌⊎◌, ◌≢◌, ◌≡◌, ℕ, ◌+◌, ◌-◌, ◌*◌, ◌/◌, ◌<◌, ◌≤◌, List, [], ◌∷◌, ◌++◌, length, take, drop, true, false, refl, sym, ap, ◌∙◌, arith}
 use Rattle.b3tree.specs.declared.mode.Mode.{Mode}
 use Rattle.b3tree.specs.Tree.{left_len, parent_input}
 use Rattle.bao_text.specs.declared.choice.Choice.{Choice}
@@ -12,8 +11,8 @@ use Rattle.bao_text.specs.Nodes.{TreeNode, Side, left, right, size, placed_nodes
 use Rattle.bao_check.specs.declared.asked.Asked.{Asked}
 use Rattle.bao_check.specs.Accepted.{bytes_at, end_of, input_at, part_value}
 use Rattle.bao_check.specs.Walk.{AreGood, IsAskedIn, IsGoodIn, Meets}
-use Rattle.bao_text.proofs.SubtreeNodes.{parent_node, subtree_nodes-leaf, subtree_nodes-parent, subtree_nodes-unwanted}
-use Rattle.bao_text.proofs.SubtreeText.{Parts, left_len-Parts}
+use Rattle.bao_text.proofs.SubtreeNodes.{parent_node, subtree_nodes-parent}
+use Rattle.bao_check.proofs.EachNode.{each_node}
 use Rattle.bao_check.proofs.Lists.{All-append, All-from_members, All-member, Contains-cons_cases, Contains-head, Contains-tail, nodes_size, placed_nodes-append}
 
 -- what a parent's 64 bytes ask of its part on a side
@@ -25,7 +24,7 @@ pub record Extends (sides more : List Side) : Type 0 where
   pub tail : List Side
   pub is : more ≡ sides ++ tail
 
-Extends-further : (sides : List Side) (d : Side) (more : List Side) → Extends (sides ++ d ∷ []) more → Extends sides more
+pub Extends-further : (sides : List Side) (d : Side) (more : List Side) → Extends (sides ++ d ∷ []) more → Extends sides more
 Extends-further sides d more h = record { tail = d ∷ h.tail; is = h.is ∙ append_assoc sides (d ∷ []) h.tail }
 
 -- one more side
@@ -38,46 +37,10 @@ Extends-longer sides d more h =
 Extends-same : (sides : List Side) → Extends sides sides
 Extends-same sides = record { tail = []; is = sym (append-nil sides) }
 
-nodes-Extends_small : (choice : Choice) (number n : ℕ) (sides : List Side) (source : ℕ) → n ≤ 1024
-    → AllByRecursion (λ node. Extends sides node.sides) (subtree_nodes choice number n sides source)
-nodes-Extends_small choice number n sides source one =
-    let P : List TreeNode → Type 0 = λ nodes. AllByRecursion (λ node. Extends sides node.sides) nodes in
-    elim (cases_Bool (wants choice (1024 * number) n)) [
-      | inr skipped ↦ subst P (sym (subtree_nodes-unwanted choice number n sides source skipped)) tt
-      | inl wanted ↦
-          subst P (sym (subtree_nodes-leaf choice number n sides source wanted one))
-          (elim (cases_Bool choice.chunks) [ inl there ↦ rw there (Extends-same sides, tt) | inr gone ↦ rw gone tt ])
-    ]
-
-nodes-Extends_levels : (levels : ℕ) (choice : Choice) (number n : ℕ) (sides : List Side) (source : ℕ) → n ≤ 1024 * levels + 1024
-    → AllByRecursion (λ node. Extends sides node.sides) (subtree_nodes choice number n sides source)
-nodes-Extends_levels zero choice number n sides source hn = nodes-Extends_small choice number n sides source (omega arith)
-nodes-Extends_levels (suc levels) choice number n sides source hn = elim (cases_lt 1024 n) [
-  | inr one ↦ nodes-Extends_small choice number n sides source one
-  | inl more ↦
-      let P : List TreeNode → Type 0 = λ nodes. AllByRecursion (λ node. Extends sides node.sides) nodes in
-      elim (cases_Bool (wants choice (1024 * number) n)) [
-        | inr skipped ↦ subst P (sym (subtree_nodes-unwanted choice number n sides source skipped)) tt
-        | inl wanted ↦
-            let l : ℕ = left_len n in
-            let parts : Parts n l = left_len-Parts n more in
-            let near : List TreeNode = subtree_nodes choice number l (sides ++ left ∷ []) (source + 64) in
-            let far : List TreeNode = subtree_nodes choice (number + l / 1024) (n - l) (sides ++ right ∷ []) (source + 64 + subtree_size l) in
-            let near_on : AllByRecursion (λ node. Extends (sides ++ left ∷ []) node.sides) near =
-            nodes-Extends_levels levels choice number l (sides ++ left ∷ []) (source + 64) (omega (arith, parts.whole, parts.below)) in
-            let far_on : AllByRecursion (λ node. Extends (sides ++ right ∷ []) node.sides) far =
-            nodes-Extends_levels levels choice (number + l / 1024) (n - l) (sides ++ right ∷ []) (source + 64 + subtree_size l) (omega (arith, parts.some)) in
-            let near_further = All-from_members (λ node. Extends sides node.sides) near
-            (λ x h. Extends-further sides left x.sides (All-member (λ node. Extends (sides ++ left ∷ []) node.sides) near near_on x h)) in
-            let far_further = All-from_members (λ node. Extends sides node.sides) far
-            (λ x h. Extends-further sides right x.sides (All-member (λ node. Extends (sides ++ right ∷ []) node.sides) far far_on x h)) in
-            subst P (sym (subtree_nodes-parent choice number n sides source wanted more))
-            (Extends-same sides, All-append (λ node. Extends sides node.sides) near far near_further far_further)
-      ]
-]
-
 nodes-Extends : (choice : Choice) (number n : ℕ) (sides : List Side) (source : ℕ) → AllByRecursion (λ node. Extends sides node.sides) (subtree_nodes choice number n sides source)
-nodes-Extends choice number n sides source = nodes-Extends_levels n choice number n sides source (omega arith)
+nodes-Extends choice = each_node choice (λ number n sides source node. Extends sides node.sides)
+    (λ number n sides source wanted one kept. Extends-same sides) (λ number n sides source wanted more parts. Extends-same sides)
+    (λ number n sides source wanted more parts x member h. Extends-further sides left x.sides h) (λ number n sides source wanted more parts x member h. Extends-further sides right x.sides h)
 
 pub placed_nodes-All : (P : TreeNode → Type 0) (at : ℕ) (nodes : List TreeNode) → AllByRecursion P nodes → AllByRecursion (λ place. P place.1) (placed_nodes at nodes)
 placed_nodes-All P at [] all = tt
@@ -106,7 +69,7 @@ only_below sides d side more h is =
     cc
 
 -- no node of one part is below one of the other
-apart : (sides : List Side) (d e side : Side) (more upper : List Side) → Extends (sides ++ d ∷ []) more → Extends (sides ++ e ∷ []) upper → more ≡ upper ++ side ∷ [] → d ≡ e
+pub apart : (sides : List Side) (d e side : Side) (more upper : List Side) → Extends (sides ++ d ∷ []) more → Extends (sides ++ e ∷ []) upper → more ≡ upper ++ side ∷ [] → d ≡ e
 apart sides d e side more upper h k is =
     let upper_is : upper ++ side ∷ [] ≡ sides ++ ((e ∷ []) ++ (k.tail ++ side ∷ [])) =
     ap (λ (s : List Side). s ++ side ∷ []) k.is ∙ append_assoc (sides ++ e ∷ []) k.tail (side ∷ []) ∙ append_assoc sides (e ∷ []) (k.tail ++ side ∷ []) in

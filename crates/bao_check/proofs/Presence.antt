@@ -1,5 +1,5 @@
 -- Which chunks an encoding has, and in which part of a subtree.
-use Rattle.std.proofs.Common.{ltb, ◌&&◌, ◌≡◌, ℕ, zero, suc, ◌+◌, ◌-◌, ◌*◌, ◌/◌, ◌<◌, ◌≤◌, ◌↔◌, min, max, List, [], ◌∷◌, ◌++◌, Bool, true, false, None, Option, IsSome, is_some, refl, sym, ap, ◌∙◌, arith, inl, inr}
+use Rattle.std.proofs.Common.{ltb, ◌&&◌, ◌≡◌, ℕ, ◌+◌, ◌-◌, ◌*◌, ◌/◌, ◌<◌, ◌≤◌, ◌↔◌, min, max, List, [], ◌∷◌, ◌++◌, Bool, true, false, None, Option, IsSome, is_some, refl, sym, ap, ◌∙◌, arith, inl, inr}
 use Rattle.std.proofs.lemmas.Bool.{and_from, cases_Bool, cases_lt, lt-ltb, ltb-true}
 use Rattle.b3tree.specs.Tree.{left_len}
 use Rattle.bao_text.specs.declared.choice.Choice.{Choice}
@@ -10,6 +10,7 @@ use Rattle.bao_check.specs.declared.locate.Span.{Span}
 use Rattle.bao_check.specs.Parents.{parent_place}
 use Rattle.bao_check.specs.Spans.{chunk_place}
 use Rattle.bao_check.proofs.Lists.{nodes_size}
+use Rattle.bao_text.proofs.Halves.{by_halves}
 use Rattle.bao_check.proofs.Locating.{chunk_place-far, chunk_place-leaf, chunk_place-near, chunk_place-outside, chunk_place-unwanted, count_parts}
 use Rattle.bao_check.proofs.Parenting.{parent_place-far, parent_place-near, parent_place-unwanted}
 
@@ -117,27 +118,22 @@ present_alone choice number n sides source at i chunks one same =
           ∙ ap there (chunk_place-leaf choice number n sides source at wanted one chunks) ∙ sym (sym asked ∙ wanted)
     ]
 
-present_levels : (levels : ℕ) (choice : Choice) (number n : ℕ) (sides : List Side) (source at i : ℕ) → n ≤ 1024 * levels + 1024 → choice.chunks ≡ true → number ≤ i → i < number + chunk_count n
-    → IsPresent choice number n sides source at i
-present_levels zero choice number n sides source at i hn chunks first last = present_alone choice number n sides source at i chunks (omega (arith, hn)) (omega (arith, hn, first, last))
-present_levels (suc levels) choice number n sides source at i hn chunks first last = elim (cases_lt 1024 n) [
-  | inr one ↦ present_alone choice number n sides source at i chunks one (omega (arith, one, first, last))
-  | inl more ↦
-      let l : ℕ = left_len n in
-      let parts : Parts n l = left_len-Parts n more in
-      let there : Option Span → Bool = λ o. is_some o in
-      elim (cases_lt i (number + l / 1024)) [
-        | inl before ↦
-            ap there (chunk_near choice number n sides source at more i before)
-            ∙ present_levels levels choice number l (sides ++ left ∷ []) (source + 64) (at + 64) i (omega (arith, hn, parts.whole, parts.below)) chunks first (omega (arith, before, parts.whole))
-            ∙ ap (wants choice (1024 * i)) (omega (arith, before, first, parts.whole, parts.below))
-        | inr after ↦
-            ap there (chunk_far choice number n sides source at more i after)
-            ∙ present_levels levels choice (number + l / 1024) (n - l) (sides ++ right ∷ []) (source + 64 + subtree_size l) (at + 64 + nodes_size (near choice number n sides source at more)) i
-            (omega (arith, hn, parts.some)) chunks after (omega (arith, last, count_parts n more))
-            ∙ ap (wants choice (1024 * i)) (omega (arith, parts.whole, parts.below))
-      ]
-]
+present : (choice : Choice) → choice.chunks ≡ true → (i number n : ℕ) (sides : List Side) (source at : ℕ) → number ≤ i → i < number + chunk_count n → IsPresent choice number n sides source at i
+present choice chunks i = by_halves (λ number n sides source. (at : ℕ) → number ≤ i → i < number + chunk_count n → IsPresent choice number n sides source at i)
+    (λ number n sides source one at first last. present_alone choice number n sides source at i chunks one (omega (arith, one, first, last)))
+    (λ number n sides source more parts in_near in_far at first last.
+    let l : ℕ = left_len n in
+    let there : Option Span → Bool = λ o. is_some o in
+    elim (cases_lt i (number + l / 1024)) [
+      | inl before ↦
+          ap there (chunk_near choice number n sides source at more i before)
+          ∙ in_near (at + 64) first (omega (arith, before, parts.whole))
+          ∙ ap (wants choice (1024 * i)) (omega (arith, before, first, parts.whole, parts.below))
+      | inr after ↦
+          ap there (chunk_far choice number n sides source at more i after)
+          ∙ in_far (at + 64 + nodes_size (near choice number n sides source at more)) after (omega (arith, last, count_parts n more))
+          ∙ ap (wants choice (1024 * i)) (omega (arith, parts.whole, parts.below))
+    ])
 
 -- a slice has the chunks that its positions meet
 pub slice_present : (total start len at i : ℕ)
@@ -150,10 +146,10 @@ slice_present total start len at i =
     let low : first ≤ max total 1 - 1 = omega arith in
     let high : end ≤ max total 1 = omega arith in
     let some : first < end = omega arith in
-    let present : i < chunk_count total → IsPresent choice 0 total [] 8 at i = λ inside. present_levels total choice 0 total [] 8 at i (omega arith) refl (omega arith) (omega (arith, inside)) in (
+    let own : i < chunk_count total → IsPresent choice 0 total [] 8 at i = λ inside. present choice refl i 0 total [] 8 at (omega arith) (omega (arith, inside)) in (
       λ h. elim (cases_lt i (chunk_count total)) [
         | inl inside ↦
-            let meets : Meets choice (1024 * i) (chunk_len 0 total i) = Meets-from_wants choice (1024 * i) (chunk_len 0 total i) (sym (present inside) ∙ h) in
+            let meets : Meets choice (1024 * i) (chunk_len 0 total i) = Meets-from_wants choice (1024 * i) (chunk_len 0 total i) (sym (own inside) ∙ h) in
             (omega (arith, meets.after, inside), omega (arith, meets.before))
         | inr past ↦
             let none : chunk_place (placed_nodes at (nodes total start len)) i ≡ None = chunk_place-outside choice 0 total [] 8 at i (λ w. omega (arith, w.1, past)) in
@@ -161,5 +157,5 @@ slice_present total start len at i =
       ],
       λ h.
           let inside : i < chunk_count total = omega (arith, h.1, high) in
-          present inside ∙ wants-from_Meets choice (1024 * i) (chunk_len 0 total i) (record { before = omega (arith, h.1); after = omega (arith, h.0, h.1, inside) }),
+          own inside ∙ wants-from_Meets choice (1024 * i) (chunk_len 0 total i) (record { before = omega (arith, h.1); after = omega (arith, h.0, h.1, inside) }),
     )

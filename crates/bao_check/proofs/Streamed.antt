@@ -52,14 +52,6 @@ module _ (mode : Mode) (root : List ℕ) (start len : ℕ) where
   abbrev task : CheckTask
   task = record { mode = mode; root = root; start = start; len = len }
 
-  -- the length isn't wholly there
-  pub cut_header : (new : List ℕ) (after : Option (List ℕ)) (fault : CheckFault) → IsCutShort 8 [] new after fault → IsReadStop mode root start len new after fault
-  cut_header new after (Short at) h = (inl (omega (arith, h.1), h.0), h.2)
-  cut_header new after (Mismatch at) h = absurd h
-  cut_header new after (Trailing at) h = absurd h
-  cut_header new after Memory h = inl (omega (arith, h))
-  cut_header new after Reader h = inl (omega (arith, h))
-
   -- the node that comes next isn't
   within_node : (taken more : List ℕ) (n : ℕ) → IsStopAs task (taken ++ more) (Short (length taken)) (length taken + n) → EndsWithin mode root (taken ++ more) (slice_nodes (taken ++ more) start len)
   within_node taken more n stop =

@@ -19,7 +19,8 @@ use Rattle.bao_check.specs.Forms.{choice_of, form_nodes}
 use Rattle.bao_check.specs.Subtree.{PassesIn, StopsIn}
 use Rattle.bao_check.specs.Walk.{IsStop, IsTopStop, Meets, Passes, Stops, asked_root, chunk_at, parent_at}
 use Rattle.bao_check.proofs.Parts.{below}
-use Rattle.bao_check.proofs.Walking.{both_passes, chunk_passes, chunk_stops, far_stops, leaf_without, near_stops, none_passes, parent_stops}
+use Rattle.bao_check.proofs.EachNode.{leaf_without}
+use Rattle.bao_check.proofs.Walking.{both_passes, chunk_passes, chunk_stops, far_stops, near_stops, none_passes, parent_stops}
 
 -- a subtree without nodes: it isn't wanted, or is a chunk that the encoding leaves out
 module _ (asked : Asked) (mode : Mode) (choice : Choice) (number n : ℕ) (text : List ℕ) (at : ℕ) where

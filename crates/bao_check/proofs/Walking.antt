@@ -1,5 +1,5 @@
 -- A walk through a subtree's nodes: its parent, its left part, its right part.
-use Rattle.std.proofs.Common.{◌≡◌, ℕ, ◌+◌, ◌-◌, ◌*◌, ◌/◌, ◌<◌, ◌≤◌, List, [], ◌∷◌, ◌++◌, length, take, drop, true, false, refl, sym, ap, subst, ◌∙◌, arith}
+use Rattle.std.proofs.Common.{◌≡◌, ℕ, ◌+◌, ◌-◌, ◌*◌, ◌/◌, ◌<◌, ◌≤◌, List, [], ◌∷◌, ◌++◌, length, take, drop, true, refl, sym, ap, subst, ◌∙◌, arith}
 use Rattle.std.specs.List.{Contains}
 use Rattle.std.proofs.lemmas.List.Elements.{Contains-append_left}
 use Rattle.std.proofs.lemmas.List.{append_assoc}
@@ -9,12 +9,13 @@ use Rattle.b3tree.specs.Tree.{left_len}
 use Rattle.bao_text.specs.declared.choice.Choice.{Choice}
 use Rattle.bao_text.specs.Choice.{wants}
 use Rattle.bao_text.specs.Nodes.{TreeNode, Side, left, placed_nodes, right, size, subtree_nodes, subtree_size}
-use Rattle.bao_text.proofs.SubtreeNodes.{parent_node, subtree_nodes-leaf, subtree_nodes-parent}
+use Rattle.bao_text.proofs.SubtreeNodes.{parent_node, subtree_nodes-parent}
 use Rattle.bao_check.specs.declared.asked.Asked.{Asked}
 use Rattle.bao_check.specs.declared.fault.CheckFault.{CheckFault}
 use Rattle.bao_check.specs.declared.fault.CheckFault.TheVariants.{Short, Mismatch, Trailing, Memory, Reader}
 use Rattle.bao_check.specs.Accepted.{end_of, input_at}
 use Rattle.bao_check.specs.Walk.{AreGood, IsGoodIn, IsStop, IsTopStop, Meets, Passes, Stops, chunk_at, parent_at}
+use Rattle.bao_check.proofs.EachNode.{chunk_node, leaf_nodes}
 use Rattle.bao_check.proofs.Lists.{All-append, All-from_members, All-member, nodes_size, nodes_size-cons}
 use Rattle.bao_check.proofs.Parts.{AreGood-join, Tree, below, far_bad, far_good, near_bad, near_good, placed_nodes-parent, subtree_Tree, top_bad, top_good}
 
@@ -35,19 +36,6 @@ top_stops asked sides mode text q others top fault h = record {
   ends = refl;
   is = top_stop asked sides mode text q others top fault h;
 }
-
--- one chunk
-abbrev pub chunk_node : ℕ → ℕ → List Side → ℕ → TreeNode
-chunk_node number n sides source = record { is_chunk = true; number = number; len = n; sides = sides; source = source }
-
--- the nodes of a wanted chunk
-pub leaf_nodes : (choice : Choice) (number n : ℕ) (sides : List Side) (source : ℕ) → wants choice (1024 * number) n ≡ true → n ≤ 1024 → choice.chunks ≡ true
-    → subtree_nodes choice number n sides source ≡ chunk_node number n sides source ∷ []
-leaf_nodes choice number n sides source wanted one there = subtree_nodes-leaf choice number n sides source wanted one ∙ rw there refl
-
-pub leaf_without : (choice : Choice) (number n : ℕ) (sides : List Side) (source : ℕ) → wants choice (1024 * number) n ≡ true → n ≤ 1024 → choice.chunks ≡ false
-    → subtree_nodes choice number n sides source ≡ []
-leaf_without choice number n sides source wanted one gone = subtree_nodes-leaf choice number n sides source wanted one ∙ rw gone refl
 
 module _ (asked : Asked) (choice : Choice) (mode : Mode) (text : List ℕ) (at number n : ℕ) (sides : List Side) (source : ℕ) (wanted : wants choice (1024 * number) n ≡ true) where
   module _ (one : n ≤ 1024) (kept : choice.chunks ≡ true) where

@@ -26,7 +26,7 @@ use Rattle.bao_check.proofs.Lists.{Contains-head, Contains-tail, nodes_size}
 use Rattle.bao_check.proofs.Locating.{chunk_in-place, chunk_place-far, chunk_place-near, count_parts}
 use Rattle.bao_check.proofs.Parenting.{parent_in-place, parent_place-far, parent_place-here, parent_place-near}
 use Rattle.bao_check.proofs.Parts.{AreGood-split, PartsGood, placed_nodes-parent}
-use Rattle.bao_check.proofs.Walking.{chunk_node, leaf_nodes, leaf_without}
+use Rattle.bao_check.proofs.EachNode.{chunk_node, leaf_nodes, leaf_without}
 
 -- from the top of an accepted encoding
 pub way_whole : (mode : Mode) (root text : List ℕ) (start len number : ℕ) (bytes : List ℕ) → IsAccepted mode root text (slice_nodes text start len)

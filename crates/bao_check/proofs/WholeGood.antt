@@ -21,7 +21,8 @@ use Rattle.bao_check.specs.Accepted.{part_value}
 use Rattle.bao_check.specs.Walk.{Meets, Passes}
 use Rattle.bao_check.specs.Whole.{HasEight, HasWhole, HasWholeAhead, IsWholeAsked, IsWholeOf, IsWholeText, StandsAt, lane_top, whole_len}
 use Rattle.bao_check.proofs.Parts.{below}
-use Rattle.bao_check.proofs.Walking.{both_passes, chunk_passes, leaf_without, none_passes}
+use Rattle.bao_check.proofs.EachNode.{leaf_without}
+use Rattle.bao_check.proofs.Walking.{both_passes, chunk_passes, none_passes}
 
 wants_whole : (kept : Bool) (choice : Choice) (number chunks : ℕ) → 0 < chunks → HasWhole kept choice number chunks → wants choice (1024 * number) (1024 * chunks) ≡ true
 wants_whole kept choice number chunks some has =

@@ -1,7 +1,7 @@
 -- What is written is accepted.
-use Rattle.std.proofs.Common.{◌≡◌, ℕ, zero, suc, ◌+◌, ◌-◌, ◌*◌, ◌/◌, ◌^◌, ◌<◌, ◌≤◌, max, List, [], ◌∷◌, ◌++◌, length, take, drop, true, refl, sym, ap, subst, ◌∙◌, arith, inl, inr, length-append, length-drop, zero-add}
+use Rattle.std.proofs.Common.{◌≡◌, ℕ, ◌+◌, ◌-◌, ◌*◌, ◌/◌, ◌^◌, ◌<◌, ◌≤◌, max, List, [], ◌∷◌, ◌++◌, length, take, drop, true, refl, sym, ap, subst, ◌∙◌, arith, inl, inr, length-append, length-drop, zero-add}
 use Rattle.std.specs.Int.{w64, from_le_bytes}
-use Rattle.std.proofs.lemmas.Bool.{cases_Bool, cases_lt}
+use Rattle.std.proofs.lemmas.Bool.{cases_Bool}
 use Rattle.std.proofs.lemmas.List.{append-nil, drop_at, length_push, length-take-le, take_all, take_at}
 use Rattle.std.proofs.lemmas.Nat.{from_le_bytes-to_le_bytes_8}
 use Rattle.b3word.specs.declared.input.Input.{Input}
@@ -19,7 +19,7 @@ use Rattle.b3tree.proofs.TopInput.{top_input-chunk, top_input-parent}
 use Rattle.bao_text.specs.declared.choice.Choice.{Choice}
 use Rattle.bao_text.specs.Choice.{of_combined, of_outboard, of_slice, slice_end, slice_start, wants}
 use Rattle.bao_text.specs.Cut.{claimed}
-use Rattle.bao_text.specs.Nodes.{TreeNode, Side, chosen_nodes, chunk_nodes, left, nodes, right, subtree_nodes, subtree_size}
+use Rattle.bao_text.specs.Nodes.{TreeNode, Side, chosen_nodes, chunk_nodes, left, nodes, right, subtree_nodes}
 use Rattle.bao_text.specs.Texts.{chosen_text, chunk_text, combined_text, length_text, outboard_text, parent_text, slice_text, subtree_text}
 use Rattle.bao_text.proofs.Everything.{At, At_first, At_rest, length-parent_text}
 use Rattle.b3tree.proofs.HashOutput.{length-bytes_of}
@@ -29,6 +29,7 @@ use Rattle.bao_text.proofs.TextNodes.{length-span, span, span-left, span-right}
 use Rattle.bao_check.specs.declared.asked.Asked.{Asked}
 use Rattle.bao_check.specs.Accepted.{IsAccepted, outboard_nodes, part_value, slice_nodes}
 use Rattle.bao_check.specs.Walk.{AreGood, Meets}
+use Rattle.bao_text.proofs.Halves.{Far, Near, by_halves, far_nodes, near_nodes}
 use Rattle.bao_check.proofs.Lists.{Contains-cons_cases, nodes_size}
 use Rattle.bao_check.proofs.Sizes.{nodes_size-parent}
 use Rattle.bao_check.proofs.Parts.{AreGood-join, below}
@@ -86,43 +87,35 @@ text_parts choice mode blob number n fits wanted more =
     ∙ (λ i. parent ++ (subtree_text choice mode number (take (left_len (e i)) s) ++ subtree_text choice mode (number + left_len (e i) / 1024) (drop (left_len (e i)) s)))
     ∙ (λ i. parent ++ (subtree_text choice mode number (span-left blob number n l le i) ++ subtree_text choice mode (number + l / 1024) (span-right blob number n l le parts.whole i)))
 
-text_size-levels : (levels : ℕ) (choice : Choice) (mode : Mode) (blob : List ℕ) (number n : ℕ) (sides : List Side) (source : ℕ)
-    → n ≤ 1024 * levels + 1024 → 1024 * number + n ≤ length blob
+text_size-parent : (choice : Choice) (mode : Mode) (blob : List ℕ) (number n : ℕ) (sides : List Side) (source : ℕ) → 1024 < n → 1024 * number + n ≤ length blob
+    → length (subtree_text choice mode number (span blob number (left_len n))) ≡ nodes_size (near_nodes choice number n sides source)
+    → length (subtree_text choice mode (number + left_len n / 1024) (span blob (number + left_len n / 1024) (n - left_len n))) ≡ nodes_size (far_nodes choice number n sides source)
     → length (subtree_text choice mode number (span blob number n)) ≡ nodes_size (subtree_nodes choice number n sides source)
-text_size-levels zero choice mode blob number n sides source hn fits = text_size-small choice mode blob number n sides source (omega arith) fits
-text_size-levels (suc levels) choice mode blob number n sides source hn fits = elim (cases_lt 1024 n) [
-  | inr one ↦ text_size-small choice mode blob number n sides source one fits
-  | inl more ↦
-      let s : List ℕ = span blob number n in
-      let e : length s ≡ n = length-span blob number n fits in
-      elim (cases_Bool (wants choice (1024 * number) n)) [
-        | inr skipped ↦
-            ap length (subtree_text-unwanted choice mode number s (ap (wants choice (1024 * number)) e ∙ skipped))
-            ∙ ap nodes_size (sym (subtree_nodes-unwanted choice number n sides source skipped))
-        | inl wanted ↦
-            let l : ℕ = left_len n in
-            let parts : Parts n l = left_len-Parts n more in
-            let near : List TreeNode = subtree_nodes choice number l (sides ++ left ∷ []) (source + 64) in
-            let far : List TreeNode = subtree_nodes choice (number + l / 1024) (n - l) (sides ++ right ∷ []) (source + 64 + subtree_size l) in
-            let a : List ℕ = subtree_text choice mode number (span blob number l) in
-            let b : List ℕ = subtree_text choice mode (number + l / 1024) (span blob (number + l / 1024) (n - l)) in
-            let near_len : length a ≡ nodes_size near =
-            text_size-levels levels choice mode blob number l (sides ++ left ∷ []) (source + 64) (omega (arith, parts.whole, parts.below)) (omega (arith, parts.below)) in
-            let far_len : length b ≡ nodes_size far =
-            text_size-levels levels choice mode blob (number + l / 1024) (n - l) (sides ++ right ∷ []) (source + 64 + subtree_size l) (omega (arith, parts.some)) (omega (arith, parts.whole, parts.below)) in
-            let all : length (parent_text mode number s ++ (a ++ b)) ≡ 64 + (length a + length b) =
-            length-append (parent_text mode number s) (a ++ b) ∙ (λ i. length-parent_text mode number s i + length-append a b i) in
-            ap length (text_parts choice mode blob number n fits wanted more)
-            ∙ all
-            ∙ (λ i. 64 + (near_len i + far_len i))
-            ∙ sym (nodes_size-parent number n sides source near far)
-            ∙ ap nodes_size (sym (subtree_nodes-parent choice number n sides source wanted more))
-      ]
-]
+text_size-parent choice mode blob number n sides source more fits near far =
+    let s : List ℕ = span blob number n in
+    let e : length s ≡ n = length-span blob number n fits in
+    elim (cases_Bool (wants choice (1024 * number) n)) [
+      | inr skipped ↦
+          ap length (subtree_text-unwanted choice mode number s (ap (wants choice (1024 * number)) e ∙ skipped))
+          ∙ ap nodes_size (sym (subtree_nodes-unwanted choice number n sides source skipped))
+      | inl wanted ↦
+          let a : List ℕ = subtree_text choice mode number (span blob number (left_len n)) in
+          let b : List ℕ = subtree_text choice mode (number + left_len n / 1024) (span blob (number + left_len n / 1024) (n - left_len n)) in
+          ap length (text_parts choice mode blob number n fits wanted more)
+          ∙ length-append (parent_text mode number s) (a ++ b)
+          ∙ (λ i. length-parent_text mode number s i + length-append a b i)
+          ∙ (λ i. 64 + (near i + far i))
+          ∙ sym (nodes_size-parent number n sides source (near_nodes choice number n sides source) (far_nodes choice number n sides source))
+          ∙ ap nodes_size (sym (subtree_nodes-parent choice number n sides source wanted more))
+    ]
 
 pub text_size : (choice : Choice) (mode : Mode) (blob : List ℕ) (number n : ℕ) (sides : List Side) (source : ℕ) → 1024 * number + n ≤ length blob
     → length (subtree_text choice mode number (span blob number n)) ≡ nodes_size (subtree_nodes choice number n sides source)
-text_size choice mode blob number n sides source fits = text_size-levels n choice mode blob number n sides source (omega arith) fits
+text_size choice mode blob = by_halves
+    (λ number n sides source. 1024 * number + n ≤ length blob → length (subtree_text choice mode number (span blob number n)) ≡ nodes_size (subtree_nodes choice number n sides source))
+    (λ number n sides source one fits. text_size-small choice mode blob number n sides source one fits)
+    (λ number n sides source more parts near far fits.
+    text_size-parent choice mode blob number n sides source more fits (near (omega (arith, fits, parts.below))) (far (omega (arith, fits, parts.whole, parts.below))))
 
 -- a node by itself
 pub one_good : (asked : Asked) (mode : Mode) (text : List ℕ) (at number n : ℕ) (sides : List Side) (source : ℕ) → at + n ≤ length text
@@ -224,51 +217,45 @@ parent_values mode blob number n keyed bound fits more =
       top_input-parent mode number s m (left_len-IsLeftLen (length s) long) long ∙ (λ i. parent_input mode (sym near i) (sym far i)),
     )
 
--- by the number of levels, the encoding of a subtree is good where the subtree has the value asked for
-pub good-levels : (levels : ℕ) (asked : Asked) (choice : Choice) (mode : Mode) (blob text : List ℕ) (at number n : ℕ) (sides : List Side) (source : ℕ)
-    → IsKeyed mode → length blob < 2 ^ 64 → n ≤ 1024 * levels + 1024 → 1024 * number + n ≤ length blob
-    → Meets asked (top_input mode number (span blob number n)) → At text at (subtree_text choice mode number (span blob number n))
+-- the encoding of a subtree is good where the subtree has the value asked for
+abbrev GoodAsked : Choice → Mode → List ℕ → List ℕ → ℕ → ℕ → List Side → ℕ → Type 0
+GoodAsked choice mode blob text number n sides source =
+    (asked : Asked) (at : ℕ) → 1024 * number + n ≤ length blob → Meets asked (top_input mode number (span blob number n)) → At text at (subtree_text choice mode number (span blob number n))
     → AreGood asked sides mode text at (subtree_nodes choice number n sides source)
-good-levels zero asked choice mode blob text at number n sides source keyed bound hn fits meets h =
-    good-small asked choice mode blob text at number n sides source (omega arith) fits meets h
-good-levels (suc levels) asked choice mode blob text at number n sides source keyed bound hn fits meets h = elim (cases_lt 1024 n) [
-  | inr one ↦ good-small asked choice mode blob text at number n sides source one fits meets h
-  | inl more ↦
-      elim (cases_Bool (wants choice (1024 * number) n)) [
-        | inr skipped ↦ subst (AreGood asked sides mode text at) (sym (subtree_nodes-unwanted choice number n sides source skipped)) tt
-        | inl wanted ↦
-            let s : List ℕ = span blob number n in
-            let e : length s ≡ n = length-span blob number n fits in
-            let l : ℕ = left_len n in
-            let parts : Parts n l = left_len-Parts n more in
-            let le : l ≤ n = omega (arith, parts.below) in
-            let near : List ℕ = span blob number l in
-            let far : List ℕ = span blob (number + l / 1024) (n - l) in
-            let near_fits : 1024 * number + l ≤ length blob = omega (arith, parts.below) in
-            let far_fits : 1024 * (number + l / 1024) + (n - l) ≤ length blob = omega (arith, parts.whole, parts.below) in
-            let parent : List ℕ = parent_text mode number s in
-            let a : List ℕ = subtree_text choice mode number near in
-            let b : List ℕ = subtree_text choice mode (number + l / 1024) far in
-            let here : At text at (parent ++ (a ++ b)) = subst (At text at) (text_parts choice mode blob number n fits wanted more) h in
-            let parent_len : length parent ≡ 64 = length-parent_text mode number s in
-            let parent_here : At text at parent = At_first text at parent (a ++ b) here in
-            let parent_is : take 64 (drop at text) ≡ parent = At_bytes text at 64 parent parent_len parent_here in
-            let kids : At text (at + 64) (a ++ b) = At_rest text at 64 parent (a ++ b) parent_len here in
-            let near_len : length a ≡ nodes_size (subtree_nodes choice number l (sides ++ left ∷ []) (source + 64)) =
-            text_size choice mode blob number l (sides ++ left ∷ []) (source + 64) near_fits in
-            let values = parent_values mode blob number n keyed bound fits more in
-            AreGood-join asked choice mode text at number n sides source wanted more
-            (record {
-              there = At_fits text at 64 parent parent_len parent_here;
-              meets = subst (λ (bytes : List ℕ). Meets asked (parent_input mode (part_value left bytes) (part_value right bytes))) (sym parent_is)
-                  (subst (Meets asked) values.2 meets);
-              near_good = good-levels levels (below left (take 64 (drop at text))) choice mode blob text (at + 64) number l (sides ++ left ∷ []) (source + 64) keyed bound
-                  (omega (arith, parts.whole, parts.below)) near_fits (sym values.0 ∙ ap (part_value left) (sym parent_is)) (At_first text (at + 64) a b kids);
-              far_good = good-levels levels (below right (take 64 (drop at text))) choice mode blob text _ (number + l / 1024) (n - l) (sides ++ right ∷ []) (source + 64 + subtree_size l) keyed bound
-                  (omega (arith, parts.some)) far_fits (sym values.1 ∙ ap (part_value right) (sym parent_is)) (At_rest text (at + 64) _ a b near_len kids);
-            })
-      ]
+
+good-parent : (choice : Choice) (mode : Mode) (blob text : List ℕ) (number n : ℕ) (sides : List Side) (source : ℕ) → IsKeyed mode → length blob < 2 ^ 64 → 1024 < n → Parts n (left_len n)
+    → Near (GoodAsked choice mode blob text) number n sides source → Far (GoodAsked choice mode blob text) number n sides source → GoodAsked choice mode blob text number n sides source
+good-parent choice mode blob text number n sides source keyed bound more parts near far asked at fits meets h = elim (cases_Bool (wants choice (1024 * number) n)) [
+  | inr skipped ↦ subst (AreGood asked sides mode text at) (sym (subtree_nodes-unwanted choice number n sides source skipped)) tt
+  | inl wanted ↦
+      let l : ℕ = left_len n in
+      let near_fits : 1024 * number + l ≤ length blob = omega (arith, parts.below) in
+      let far_fits : 1024 * (number + l / 1024) + (n - l) ≤ length blob = omega (arith, parts.whole, parts.below) in
+      let parent : List ℕ = parent_text mode number (span blob number n) in
+      let a : List ℕ = subtree_text choice mode number (span blob number l) in
+      let b : List ℕ = subtree_text choice mode (number + l / 1024) (span blob (number + l / 1024) (n - l)) in
+      let here : At text at (parent ++ (a ++ b)) = subst (At text at) (text_parts choice mode blob number n fits wanted more) h in
+      let parent_len : length parent ≡ 64 = length-parent_text mode number (span blob number n) in
+      let parent_here : At text at parent = At_first text at parent (a ++ b) here in
+      let parent_is : take 64 (drop at text) ≡ parent = At_bytes text at 64 parent parent_len parent_here in
+      let kids : At text (at + 64) (a ++ b) = At_rest text at 64 parent (a ++ b) parent_len here in
+      let near_len : length a ≡ nodes_size (near_nodes choice number n sides source) = text_size choice mode blob number l (sides ++ left ∷ []) (source + 64) near_fits in
+      let values = parent_values mode blob number n keyed bound fits more in
+      AreGood-join asked choice mode text at number n sides source wanted more
+      (record {
+        there = At_fits text at 64 parent parent_len parent_here;
+        meets = subst (λ (bytes : List ℕ). Meets asked (parent_input mode (part_value left bytes) (part_value right bytes))) (sym parent_is)
+            (subst (Meets asked) values.2 meets);
+        near_good = near (below left (take 64 (drop at text))) (at + 64) near_fits (sym values.0 ∙ ap (part_value left) (sym parent_is)) (At_first text (at + 64) a b kids);
+        far_good = far (below right (take 64 (drop at text))) _ far_fits (sym values.1 ∙ ap (part_value right) (sym parent_is)) (At_rest text (at + 64) _ a b near_len kids);
+      })
 ]
+
+pub text_good : (choice : Choice) (mode : Mode) (blob text : List ℕ) → IsKeyed mode → length blob < 2 ^ 64 → (number n : ℕ) (sides : List Side) (source : ℕ)
+    → GoodAsked choice mode blob text number n sides source
+text_good choice mode blob text keyed bound = by_halves (GoodAsked choice mode blob text)
+    (λ number n sides source one asked at fits meets h. good-small asked choice mode blob text at number n sides source one fits meets h)
+    (λ number n sides source more parts near far. good-parent choice mode blob text number n sides source keyed bound more parts near far)
 
 -- the encoding of a blob for a choice is accepted under the blob's hash
 pub written_accepted : (choice : Choice) (mode : Mode) (blob : List ℕ) → IsKeyed mode → length blob < 2 ^ 64
@@ -294,7 +281,7 @@ written_accepted choice mode blob keyed bound =
     let all : length text ≡ 8 + length rest = length-append first rest in
     record {
       long = omega arith;
-      good = good-levels n asked choice mode blob text 8 0 n [] 8 keyed bound (omega arith) (omega arith) meets here;
+      good = text_good choice mode blob text keyed bound 0 n [] 8 asked 8 (omega arith) meets here;
       ends = all ∙ ap (λ (k : ℕ). 8 + k) size;
     }
 

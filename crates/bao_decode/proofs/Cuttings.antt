@@ -1,5 +1,5 @@
 -- Which bytes of a combined encoding a slice goes on with.
-use Rattle.std.proofs.Common.{◌≡◌, ℕ, zero, suc, ◌+◌, ◌-◌, ◌*◌, ◌/◌, ◌^◌, ◌<◌, ◌≤◌, List, [], ◌∷◌, ◌++◌, length, take, drop, min, sum_by, true, false, Option, None, Some, IfSome, IfNone, Result, Ok, Err, IfOk, OnErr, inl, inr, refl, sym, ap, subst, ◌∙◌, arith, length-append, length-drop}
+use Rattle.std.proofs.Common.{◌≡◌, ℕ, ◌+◌, ◌-◌, ◌*◌, ◌/◌, ◌^◌, ◌<◌, ◌≤◌, List, [], ◌∷◌, ◌++◌, length, take, drop, min, sum_by, true, false, Option, None, Some, IfSome, IfNone, Result, Ok, Err, IfOk, OnErr, inl, inr, refl, sym, ap, subst, ◌∙◌, arith, length-append, length-drop}
 use Rattle.std.proofs.Math.Seq.{drop-append-add}
 use Rattle.std.proofs.lemmas.Bool.{cases_Bool, cases_lt, le-ltb, leb-false, leb-true, lt-ltb}
 use Rattle.std.proofs.lemmas.List.{append-nil, append_assoc, drop-append-le, drop-drop, drop-take, drop_all, length-take, length-take-le, take-append-le, take-take, take_all}
@@ -12,9 +12,10 @@ use Rattle.bao_text.specs.Choice.{of_slice, wants}
 use Rattle.bao_text.specs.Cut.{claimed, cut_nodes, cut_text, has, has_all}
 use Rattle.bao_text.specs.Nodes.{Side, TreeNode, left, nodes, right, size, subtree_nodes, subtree_size}
 use Rattle.bao_text.proofs.Cutting.{cut_nodes-append, cut_nodes-append_short, has_all-append, has_all-one}
+use Rattle.bao_check.proofs.EachNode.{by_nodes, chunk_node}
+use Rattle.bao_text.proofs.Halves.{far_nodes, near_nodes}
 use Rattle.bao_text.proofs.Runs.{IsRun, run-one}
-use Rattle.bao_text.proofs.SubtreeNodes.{parent_node, subtree_nodes-leaf, subtree_nodes-parent, subtree_nodes-unwanted, subtree_size-parts}
-use Rattle.bao_text.proofs.SubtreeText.{Parts, left_len-Parts}
+use Rattle.bao_text.proofs.SubtreeNodes.{parent_node, subtree_nodes-parent, subtree_nodes-unwanted, subtree_size-parts}
 use Rattle.bao_decode.specs.Cutting.{ClaimsLength, GoesOn, cut_as, cut_contents}
 
 -- what is cut of nodes is no more than these are
@@ -65,49 +66,22 @@ module _ (s : List ℕ) (choice : Choice) where
   ends_later : (end later : ℕ) (xs : List TreeNode) → end ≤ later → EndsIn end xs → EndsIn later xs
   ends_later end later xs order a = λ gone. let less : length s < end = a gone in omega (arith, less, order)
 
-  ends_leaf : (number n : ℕ) (sides : List Side) (at : ℕ) → n ≤ 1024 → EndsIn (at + subtree_size n) (subtree_nodes choice number n sides at)
-  ends_leaf number n sides at one = elim (cases_Bool (wants choice (1024 * number) n)) [
-    | inr skipped ↦ ends_none (at + subtree_size n) (subtree_nodes choice number n sides at) (subtree_nodes-unwanted choice number n sides at skipped)
-    | inl wanted ↦
-        let node : TreeNode = record { is_chunk = true; number = number; len = n; sides = sides; source = at } in
-        elim (cases_Bool choice.chunks) [
-          | inl chunks ↦
-              let leaf : subtree_nodes choice number n sides at ≡ node ∷ [] = subtree_nodes-leaf choice number n sides at wanted one ∙ rw chunks refl in
-              let same : at + n ≡ at + subtree_size n = omega arith in
-              subst (λ (xs : List TreeNode). EndsIn (at + subtree_size n) xs) (sym leaf) (subst (λ (k : ℕ). EndsIn k (node ∷ [])) same (ends_one node))
-          | inr bare ↦
-              ends_none (at + subtree_size n) (subtree_nodes choice number n sides at) (subtree_nodes-leaf choice number n sides at wanted one ∙ rw bare refl)
-        ]
-  ]
-
-  ends_levels : (levels : ℕ) (number n : ℕ) (sides : List Side) (at : ℕ) → n ≤ 1024 * levels + 1024 → EndsIn (at + subtree_size n) (subtree_nodes choice number n sides at)
-  ends_levels zero number n sides at hn = ends_leaf number n sides at (omega (arith, hn))
-  ends_levels (suc levels) number n sides at hn = elim (cases_lt 1024 n) [
-    | inr one ↦ ends_leaf number n sides at one
-    | inl more ↦
-        elim (cases_Bool (wants choice (1024 * number) n)) [
-          | inr skipped ↦ ends_none (at + subtree_size n) (subtree_nodes choice number n sides at) (subtree_nodes-unwanted choice number n sides at skipped)
-          | inl wanted ↦
-              let l : ℕ = left_len n in
-              let parts : Parts n l = left_len-Parts n more in
-              let node : TreeNode = parent_node number n sides at in
-              let near : List TreeNode = subtree_nodes choice number l (sides ++ left ∷ []) (at + 64) in
-              let far : List TreeNode = subtree_nodes choice (number + l / 1024) (n - l) (sides ++ right ∷ []) (at + 64 + subtree_size l) in
-              let end : ℕ = at + subtree_size n in
-              let whole : subtree_size n ≡ 64 + subtree_size l + subtree_size (n - l) = subtree_size-parts n more in
-              let tree : subtree_nodes choice number n sides at ≡ node ∷ (near ++ far) = subtree_nodes-parent choice number n sides at wanted more in
-              let a : EndsIn end near =
-              ends_later (at + 64 + subtree_size l) end near (omega (arith, whole)) (ends_levels levels number l (sides ++ left ∷ []) (at + 64) (omega (arith, hn, parts.whole, parts.below))) in
-              let b : EndsIn end far =
-              ends_later (at + 64 + subtree_size l + subtree_size (n - l)) end far (omega (arith, whole))
-              (ends_levels levels (number + l / 1024) (n - l) (sides ++ right ∷ []) (at + 64 + subtree_size l) (omega (arith, hn, parts.some))) in
-              let top : EndsIn end (node ∷ []) = ends_later (at + 64) end (node ∷ []) (omega (arith, whole)) (ends_one node) in
-              subst (λ (xs : List TreeNode). EndsIn end xs) (sym tree) (ends_append end (node ∷ []) (near ++ far) top (ends_append end near far a b))
-        ]
-  ]
-
-  pub ends_within : (number n : ℕ) (sides : List Side) (at : ℕ) → has_all s (subtree_nodes choice number n sides at) ≡ false → length s < at + subtree_size n
-  ends_within number n sides at = ends_levels n number n sides at (omega arith)
+  pub ends_within : (number n : ℕ) (sides : List Side) (at : ℕ) → EndsIn (at + subtree_size n) (subtree_nodes choice number n sides at)
+  ends_within = by_nodes choice (λ number n sides at nodes. EndsIn (at + subtree_size n) nodes)
+      (λ number n sides at skipped. ends_none (at + subtree_size n) [] refl)
+      (λ number n sides at wanted one. elim (cases_Bool choice.chunks) [
+        | inl there ↦ rw there (subst (λ (k : ℕ). EndsIn k (chunk_node number n sides at ∷ [])) (omega (arith, one)) (ends_one (chunk_node number n sides at)))
+        | inr gone ↦ rw gone (ends_none (at + subtree_size n) [] refl)
+      ])
+      (λ number n sides at wanted more parts near far.
+      let l : ℕ = left_len n in
+      let end : ℕ = at + subtree_size n in
+      let whole : subtree_size n ≡ 64 + subtree_size l + subtree_size (n - l) = subtree_size-parts n more in
+      let ns : List TreeNode = near_nodes choice number n sides at in
+      let fs : List TreeNode = far_nodes choice number n sides at in
+      ends_append end (parent_node number n sides at ∷ []) (ns ++ fs) (ends_later (at + 64) end (parent_node number n sides at ∷ []) (omega (arith, whole)) (ends_one (parent_node number n sides at)))
+      (ends_append end ns fs (ends_later (at + 64 + subtree_size l) end ns (omega (arith, whole)) near)
+      (ends_later (at + 64 + subtree_size l + subtree_size (n - l)) end fs (omega (arith, whole)) far)))
 
 -- and no more is cut of them than the encoding has from there on
 module _ (s : List ℕ) (choice : Choice) where
@@ -142,45 +116,21 @@ module _ (s : List ℕ) (choice : Choice) where
             (omega (arith, size_is, near_few), omega (arith, size_is, near_rest))
       ]
 
-  few_leaf : (number n : ℕ) (sides : List Side) (at : ℕ) → n ≤ 1024 → FewFrom at (subtree_size n) (subtree_nodes choice number n sides at)
-  few_leaf number n sides at one = elim (cases_Bool (wants choice (1024 * number) n)) [
-    | inr skipped ↦ few_none at (subtree_size n) (subtree_nodes choice number n sides at) (subtree_nodes-unwanted choice number n sides at skipped)
-    | inl wanted ↦
-        let node : TreeNode = record { is_chunk = true; number = number; len = n; sides = sides; source = at } in
-        elim (cases_Bool choice.chunks) [
-          | inl chunks ↦
-              let leaf : subtree_nodes choice number n sides at ≡ node ∷ [] = subtree_nodes-leaf choice number n sides at wanted one ∙ rw chunks refl in
-              let same : n ≡ subtree_size n = omega arith in
-              subst (λ (xs : List TreeNode). FewFrom at (subtree_size n) xs) (sym leaf) (subst (λ (k : ℕ). FewFrom at k (node ∷ [])) same (few_one node))
-          | inr bare ↦
-              few_none at (subtree_size n) (subtree_nodes choice number n sides at) (subtree_nodes-leaf choice number n sides at wanted one ∙ rw bare refl)
-        ]
-  ]
-
-  few_levels : (levels : ℕ) (number n : ℕ) (sides : List Side) (at : ℕ) → n ≤ 1024 * levels + 1024 → FewFrom at (subtree_size n) (subtree_nodes choice number n sides at)
-  few_levels zero number n sides at hn = few_leaf number n sides at (omega (arith, hn))
-  few_levels (suc levels) number n sides at hn = elim (cases_lt 1024 n) [
-    | inr one ↦ few_leaf number n sides at one
-    | inl more ↦
-        elim (cases_Bool (wants choice (1024 * number) n)) [
-          | inr skipped ↦ few_none at (subtree_size n) (subtree_nodes choice number n sides at) (subtree_nodes-unwanted choice number n sides at skipped)
-          | inl wanted ↦
-              let l : ℕ = left_len n in
-              let parts : Parts n l = left_len-Parts n more in
-              let node : TreeNode = parent_node number n sides at in
-              let near : List TreeNode = subtree_nodes choice number l (sides ++ left ∷ []) (at + 64) in
-              let far : List TreeNode = subtree_nodes choice (number + l / 1024) (n - l) (sides ++ right ∷ []) (at + 64 + subtree_size l) in
-              let whole : 64 + subtree_size l + subtree_size (n - l) ≡ subtree_size n = sym (subtree_size-parts n more) in
-              let tree : subtree_nodes choice number n sides at ≡ (node ∷ near) ++ far = subtree_nodes-parent choice number n sides at wanted more in
-              let a : FewFrom (at + 64) (subtree_size l) near = few_levels levels number l (sides ++ left ∷ []) (at + 64) (omega (arith, hn, parts.whole, parts.below)) in
-              let place : at + 64 + subtree_size l ≡ at + (64 + subtree_size l) = omega arith in
-              let b : FewFrom (at + (64 + subtree_size l)) (subtree_size (n - l)) far =
-              subst (λ (p : ℕ). FewFrom p (subtree_size (n - l)) far) place (few_levels levels (number + l / 1024) (n - l) (sides ++ right ∷ []) (at + 64 + subtree_size l) (omega (arith, hn, parts.some))) in
-              let top : FewFrom at (64 + subtree_size l) (node ∷ near) = few_append at 64 (subtree_size l) (node ∷ []) near (few_one node) a in
-              subst (λ (xs : List TreeNode). FewFrom at (subtree_size n) xs) (sym tree)
-              (subst (λ (k : ℕ). FewFrom at k ((node ∷ near) ++ far)) whole (few_append at (64 + subtree_size l) (subtree_size (n - l)) (node ∷ near) far top b))
-        ]
-  ]
+  few_nodes : (number n : ℕ) (sides : List Side) (at : ℕ) → FewFrom at (subtree_size n) (subtree_nodes choice number n sides at)
+  few_nodes = by_nodes choice (λ number n sides at nodes. FewFrom at (subtree_size n) nodes)
+      (λ number n sides at skipped. few_none at (subtree_size n) [] refl)
+      (λ number n sides at wanted one. elim (cases_Bool choice.chunks) [
+        | inl there ↦ rw there (subst (λ (k : ℕ). FewFrom at k (chunk_node number n sides at ∷ [])) (omega (arith, one)) (few_one (chunk_node number n sides at)))
+        | inr gone ↦ rw gone (few_none at (subtree_size n) [] refl)
+      ])
+      (λ number n sides at wanted more parts near far.
+      let l : ℕ = left_len n in
+      let node : TreeNode = parent_node number n sides at in
+      let ns : List TreeNode = near_nodes choice number n sides at in
+      let fs : List TreeNode = far_nodes choice number n sides at in
+      let b : FewFrom (at + (64 + subtree_size l)) (subtree_size (n - l)) fs = subst (λ (p : ℕ). FewFrom p (subtree_size (n - l)) fs) (omega arith) far in
+      let top : FewFrom at (64 + subtree_size l) (node ∷ ns) = few_append at 64 (subtree_size l) (node ∷ []) ns (few_one node) near in
+      subst (λ (k : ℕ). FewFrom at k ((node ∷ ns) ++ fs)) (sym (subtree_size-parts n more)) (few_append at (64 + subtree_size l) (subtree_size (n - l)) (node ∷ ns) fs top b))
 
 -- so a slice is no longer than the encoding
 pub cut_text-few : (s : List ℕ) (start len : ℕ) → length (cut_text s start len) ≤ length s
@@ -191,7 +141,7 @@ cut_text-few s start len = elim (cases_lt (length s) 8) [
   | inr long ↦
       let total : ℕ = claimed s in
       let choice : Choice = of_slice total start len in
-      let few : FewFrom s choice 8 (subtree_size total) (nodes total start len) = few_levels s choice total 0 total [] 8 (omega arith) in
+      let few : FewFrom s choice 8 (subtree_size total) (nodes total start len) = few_nodes s choice 0 total [] 8 in
       let same : cut_text s start len ≡ take 8 s ++ cut_nodes s (nodes total start len) = rw (le-ltb (length s) 8 long) refl in
       let rest : length (cut_nodes s (nodes total start len)) ≤ length s - 8 = few.1 in
       omega (arith, ap length same ∙ length-append (take 8 s) (cut_nodes s (nodes total start len)), length-take-le 8 s long, rest, long)

@@ -1,17 +1,16 @@
 -- Of the nodes of an encoding each comes after the parents above it.
 use Rattle.std.specs.List.{AllByRecursion, Contains}
-use Rattle.std.proofs.Common.{◌≡◌, ℕ, zero, suc, ◌+◌, ◌-◌, ◌*◌, ◌/◌, ◌<◌, ◌≤◌, List, [], ◌∷◌, ◌++◌, length, refl, sym, ap, subst, ◌∙◌, arith, inl, inr, length-append}
-use Rattle.std.proofs.lemmas.Bool.{cases_Bool, cases_lt}
-use Rattle.std.proofs.lemmas.List.{append-nil, append_assoc, append_cancel_left}
+use Rattle.std.proofs.Common.{◌≡◌, ℕ, ◌+◌, ◌-◌, ◌<◌, ◌≤◌, List, [], ◌∷◌, ◌++◌, length, refl, sym, ap, subst, ◌∙◌, arith, inl, inr, length-append}
+use Rattle.std.proofs.lemmas.Bool.{cases_Bool}
+use Rattle.std.proofs.lemmas.List.{append-nil}
 use Rattle.std.proofs.lemmas.List.Elements.{Contains-append_cases, Contains-append_right}
-use Rattle.b3tree.specs.Tree.{left_len}
 use Rattle.bao_text.specs.declared.choice.Choice.{Choice}
-use Rattle.bao_text.specs.Choice.{wants}
-use Rattle.bao_text.specs.Nodes.{TreeNode, Side, left, right, placed_nodes, subtree_nodes, subtree_size}
-use Rattle.bao_text.proofs.SubtreeNodes.{parent_node, subtree_nodes-leaf, subtree_nodes-parent, subtree_nodes-unwanted}
-use Rattle.bao_text.proofs.SubtreeText.{Parts, left_len-Parts}
+use Rattle.bao_text.specs.Nodes.{TreeNode, Side, left, right, placed_nodes, subtree_nodes}
+use Rattle.bao_text.proofs.Halves.{far_nodes, near_nodes}
+use Rattle.bao_text.proofs.SubtreeNodes.{parent_node}
 use Rattle.bao_check.proofs.Lists.{All-append, All-from_members, All-member, Contains-cons_cases, Contains-head, Contains-tail, nodes_size, placed_nodes-append}
-use Rattle.bao_check.proofs.Parts.{Extends, left_right}
+use Rattle.bao_check.proofs.EachNode.{by_nodes}
+use Rattle.bao_check.proofs.Parts.{Extends, Extends-further, apart, left_right}
 
 -- the one place is right below the other
 abbrev pub IsBelow : ℕ × TreeNode → ℕ × TreeNode → Type 0
@@ -51,19 +50,6 @@ longer sides more on = omega (arith, ap length on.is, length-append sides on.tai
 not_below_longer : (p a : ℕ × TreeNode) → length p.1.sides ≤ length a.1.sides → ¬ IsBelow p a
 not_below_longer p a less (side, is) = omega (arith, less, ap length is, length-append a.1.sides (side ∷ []))
 
-further : (sides : List Side) (d : Side) (more : List Side) → Extends (sides ++ d ∷ []) more → Extends sides more
-further sides d more h = record { tail = d ∷ h.tail; is = h.is ∙ append_assoc sides (d ∷ []) h.tail }
-
--- no node of one part is below one of the other
-apart : (sides : List Side) (d e side : Side) (more upper : List Side) → Extends (sides ++ d ∷ []) more → Extends (sides ++ e ∷ []) upper → more ≡ upper ++ side ∷ [] → d ≡ e
-apart sides d e side more upper h k is =
-    let upper_is : upper ++ side ∷ [] ≡ sides ++ ((e ∷ []) ++ (k.tail ++ side ∷ [])) =
-    ap (λ (s : List Side). s ++ side ∷ []) k.is ∙ append_assoc (sides ++ e ∷ []) k.tail (side ∷ []) ∙ append_assoc sides (e ∷ []) (k.tail ++ side ∷ []) in
-    let more_is : more ≡ sides ++ ((d ∷ []) ++ h.tail) = h.is ∙ append_assoc sides (d ∷ []) h.tail in
-    let same : (d ∷ []) ++ h.tail ≡ (e ∷ []) ++ (k.tail ++ side ∷ []) =
-    append_cancel_left sides ((d ∷ []) ++ h.tail) ((e ∷ []) ++ (k.tail ++ side ∷ [])) (sym more_is ∙ is ∙ upper_is) in
-    cc
-
 -- the places of a subtree: their ways go on from its own, and they are in order
 record IsTree (sides : List Side) (places : List (ℕ × TreeNode)) : Type 0 where
   on : AllByRecursion (λ place. Extends sides place.1.sides) places
@@ -88,8 +74,8 @@ tree_of_parts : (sides : List Side) (p : ℕ × TreeNode) (near far : List (ℕ 
     → IsTree sides (p ∷ (near ++ far))
 tree_of_parts sides p near far is one other =
     let E : ℕ × TreeNode → Type 0 = λ place. Extends sides place.1.sides in
-    let near_on = All-from_members E near (λ x h. further sides left x.1.sides (All-member (λ place. Extends (sides ++ left ∷ []) place.1.sides) near one.on x h)) in
-    let far_on = All-from_members E far (λ x h. further sides right x.1.sides (All-member (λ place. Extends (sides ++ right ∷ []) place.1.sides) far other.on x h)) in
+    let near_on = All-from_members E near (λ x h. Extends-further sides left x.1.sides (All-member (λ place. Extends (sides ++ left ∷ []) place.1.sides) near one.on x h)) in
+    let far_on = All-from_members E far (λ x h. Extends-further sides right x.1.sides (All-member (λ place. Extends (sides ++ right ∷ []) place.1.sides) far other.on x h)) in
     let all_on : AllByRecursion E (p ∷ (near ++ far)) = (record { tail = []; is = is ∙ sym (append-nil sides) }, All-append E near far near_on far_on) in
     record {
       on = all_on;
@@ -102,39 +88,16 @@ tree_of_parts sides p near far is one other =
       );
     }
 
-small_tree : (choice : Choice) (number n : ℕ) (sides : List Side) (source at : ℕ) → n ≤ 1024 → IsTree sides (placed_nodes at (subtree_nodes choice number n sides source))
-small_tree choice number n sides source at one =
-    let P : List TreeNode → Type 0 = λ nodes. IsTree sides (placed_nodes at nodes) in
-    elim (cases_Bool (wants choice (1024 * number) n)) [
-      | inl wanted ↦
-          subst P (sym (subtree_nodes-leaf choice number n sides source wanted one))
-          (elim (cases_Bool choice.chunks) [ inl there ↦ rw there (tree_one sides _ refl) | inr gone ↦ rw gone (tree_none sides) ])
-      | inr skipped ↦ subst P (sym (subtree_nodes-unwanted choice number n sides source skipped)) (tree_none sides)
-    ]
-
-tree_levels : (levels : ℕ) (choice : Choice) (number n : ℕ) (sides : List Side) (source at : ℕ) → n ≤ 1024 * levels + 1024
-    → IsTree sides (placed_nodes at (subtree_nodes choice number n sides source))
-tree_levels zero choice number n sides source at hn = small_tree choice number n sides source at (omega arith)
-tree_levels (suc levels) choice number n sides source at hn = elim (cases_lt 1024 n) [
-  | inr one ↦ small_tree choice number n sides source at one
-  | inl more ↦
-      let P : List TreeNode → Type 0 = λ nodes. IsTree sides (placed_nodes at nodes) in
-      elim (cases_Bool (wants choice (1024 * number) n)) [
-        | inr skipped ↦ subst P (sym (subtree_nodes-unwanted choice number n sides source skipped)) (tree_none sides)
-        | inl wanted ↦
-            let l : ℕ = left_len n in
-            let parts : Parts n l = left_len-Parts n more in
-            let near = subtree_nodes choice number l (sides ++ left ∷ []) (source + 64) in
-            let far = subtree_nodes choice (number + l / 1024) (n - l) (sides ++ right ∷ []) (source + 64 + subtree_size l) in
-            let near_tree = tree_levels levels choice number l (sides ++ left ∷ []) (source + 64) (at + 64) (omega (arith, parts.whole, parts.below)) in
-            let far_tree = tree_levels levels choice (number + l / 1024) (n - l) (sides ++ right ∷ []) (source + 64 + subtree_size l) (at + 64 + nodes_size near) (omega (arith, parts.some)) in
-            let q : ℕ × TreeNode = (at, parent_node number n sides source) in
-            let all : IsTree sides (q ∷ (placed_nodes (at + 64) near ++ placed_nodes (at + 64 + nodes_size near) far)) =
-            tree_of_parts sides q (placed_nodes (at + 64) near) (placed_nodes (at + 64 + nodes_size near) far) refl near_tree far_tree in
-            subst P (sym (subtree_nodes-parent choice number n sides source wanted more))
-            (subst (λ (ps : List (ℕ × TreeNode)). IsTree sides (q ∷ ps)) (sym (placed_nodes-append (at + 64) near far)) all)
-      ]
-]
+tree : (choice : Choice) (number n : ℕ) (sides : List Side) (source at : ℕ) → IsTree sides (placed_nodes at (subtree_nodes choice number n sides source))
+tree choice = by_nodes choice (λ number n sides source nodes. (at : ℕ) → IsTree sides (placed_nodes at nodes))
+    (λ number n sides source skipped at. tree_none sides)
+    (λ number n sides source wanted one at. elim (cases_Bool choice.chunks) [ inl there ↦ rw there (tree_one sides _ refl) | inr gone ↦ rw gone (tree_none sides) ])
+    (λ number n sides source wanted more parts in_near in_far at.
+    let near : List TreeNode = near_nodes choice number n sides source in
+    let far : List TreeNode = far_nodes choice number n sides source in
+    let q : ℕ × TreeNode = (at, parent_node number n sides source) in
+    subst (λ (ps : List (ℕ × TreeNode)). IsTree sides (q ∷ ps)) (sym (placed_nodes-append (at + 64) near far))
+    (tree_of_parts sides q (placed_nodes (at + 64) near) (placed_nodes (at + 64 + nodes_size near) far) refl (in_near (at + 64)) (in_far (at + 64 + nodes_size near))))
 
 pub in_order : (choice : Choice) (number n : ℕ) (sides : List Side) (source at : ℕ) → AreInOrder (placed_nodes at (subtree_nodes choice number n sides source))
-in_order choice number n sides source at = (tree_levels n choice number n sides source at (omega arith)).order
+in_order choice number n sides source at = (tree choice number n sides source at).order

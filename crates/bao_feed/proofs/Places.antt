@@ -1,52 +1,20 @@
 -- The places of the parents of an outboard encoding: one after another, 64 bytes each.
-use Rattle.std.proofs.Common.{◌≡◌, ℕ, zero, suc, ◌+◌, ◌-◌, ◌*◌, ◌/◌, ◌<◌, ◌≤◌, List, [], ◌∷◌, ◌++◌, length, take, false, refl, sym, ap, subst, arith, inl, inr}
+use Rattle.std.proofs.Common.{◌≡◌, ℕ, zero, suc, ◌+◌, ◌-◌, ◌*◌, ◌<◌, ◌≤◌, List, [], ◌∷◌, ◌++◌, length, take, false, true, refl, sym, ◌∙◌, ap, arith, inl, inr}
 use Rattle.std.specs.List.{AllByRecursion, Contains}
-use Rattle.std.proofs.lemmas.Bool.{cases_Bool, cases_lt}
-use Rattle.b3tree.specs.Tree.{left_len}
 use Rattle.bao_text.specs.declared.choice.Choice.{Choice}
-use Rattle.bao_text.specs.Choice.{wants}
-use Rattle.bao_text.specs.Nodes.{TreeNode, Side, left, placed_nodes, right, size, subtree_nodes, subtree_size}
-use Rattle.bao_text.proofs.SubtreeNodes.{subtree_nodes-leaf, subtree_nodes-parent, subtree_nodes-unwanted}
-use Rattle.bao_text.proofs.SubtreeText.{Parts, left_len-Parts}
-use Rattle.bao_check.proofs.Lists.{All-append, Contains-cons_cases, Contains-head, Contains-tail, nodes_size, nodes_size-cons}
+use Rattle.bao_text.specs.Nodes.{TreeNode, Side, placed_nodes, size, subtree_nodes}
+use Rattle.bao_check.proofs.EachNode.{each_node}
+use Rattle.bao_check.proofs.Lists.{Contains-cons_cases, Contains-head, Contains-tail, nodes_size, nodes_size-cons}
 
 -- the node is a parent
 abbrev pub IsParent : TreeNode → Type 0
 IsParent node = node.is_chunk ≡ false
 
 -- a choice without chunks has parents alone
-parents-small : (choice : Choice) (number n : ℕ) (sides : List Side) (source : ℕ) → choice.chunks ≡ false → n ≤ 1024
-    → AllByRecursion IsParent (subtree_nodes choice number n sides source)
-parents-small choice number n sides source gone one = elim (cases_Bool (wants choice (1024 * number) n)) [
-  | inr skipped ↦ subst (λ (nodes : List TreeNode). AllByRecursion IsParent nodes) (sym (subtree_nodes-unwanted choice number n sides source skipped)) tt
-  | inl wanted ↦
-      subst (λ (nodes : List TreeNode). AllByRecursion IsParent nodes) (sym (subtree_nodes-leaf choice number n sides source wanted one)) (rw gone tt)
-]
-
-parents-levels : (levels : ℕ) (choice : Choice) (number n : ℕ) (sides : List Side) (source : ℕ) → choice.chunks ≡ false → n ≤ 1024 * levels + 1024
-    → AllByRecursion IsParent (subtree_nodes choice number n sides source)
-parents-levels zero choice number n sides source gone hn = parents-small choice number n sides source gone (omega arith)
-parents-levels (suc levels) choice number n sides source gone hn = elim (cases_lt 1024 n) [
-  | inr one ↦ parents-small choice number n sides source gone one
-  | inl more ↦
-      let P : List TreeNode → Type 0 = λ nodes. AllByRecursion IsParent nodes in
-      elim (cases_Bool (wants choice (1024 * number) n)) [
-        | inr skipped ↦ subst P (sym (subtree_nodes-unwanted choice number n sides source skipped)) tt
-        | inl wanted ↦
-            let l : ℕ = left_len n in
-            let parts : Parts n l = left_len-Parts n more in
-            let near : List TreeNode = subtree_nodes choice number l (sides ++ left ∷ []) (source + 64) in
-            let far : List TreeNode = subtree_nodes choice (number + l / 1024) (n - l) (sides ++ right ∷ []) (source + 64 + subtree_size l) in
-            let near_all : AllByRecursion IsParent near =
-            parents-levels levels choice number l (sides ++ left ∷ []) (source + 64) gone (omega (arith, parts.whole, parts.below)) in
-            let far_all : AllByRecursion IsParent far =
-            parents-levels levels choice (number + l / 1024) (n - l) (sides ++ right ∷ []) (source + 64 + subtree_size l) gone (omega (arith, parts.some)) in
-            subst P (sym (subtree_nodes-parent choice number n sides source wanted more)) (refl, All-append IsParent near far near_all far_all)
-      ]
-]
-
 pub all_parents : (choice : Choice) (number n : ℕ) (sides : List Side) (source : ℕ) → choice.chunks ≡ false → AllByRecursion IsParent (subtree_nodes choice number n sides source)
-all_parents choice number n sides source gone = parents-levels n choice number n sides source gone (omega arith)
+all_parents choice number n sides source gone = each_node choice (λ number n sides source node. IsParent node)
+    (λ number n sides source wanted one there. let bad : true ≡ false = sym there ∙ gone in cc) (λ number n sides source wanted more parts. refl)
+    (λ number n sides source wanted more parts x member h. h) (λ number n sides source wanted more parts x member h. h) number n sides source
 
 -- a parent is 64 bytes
 pub parent_size : (node : TreeNode) → IsParent node → size node ≡ 64

@@ -5,7 +5,7 @@ use Rattle.bao_text.specs.Nodes.{TreeNode, Side, placed_nodes, size}
 use Rattle.bao_text.proofs.SubtreeNodes.{parent_node}
 use Rattle.bao_check.proofs.Lists.{nodes_size, nodes_size-cons, placed_nodes-append}
 use Rattle.bao_check.proofs.Sizes.{nodes_size-parent}
-use Rattle.bao_check.proofs.Walking.{chunk_node}
+use Rattle.bao_check.proofs.EachNode.{chunk_node}
 use Rattle.bao_tasks.specs.declared.spot.Spot.{Spot}
 use Rattle.bao_tasks.specs.declared.spot.Walk.{Walk}
 use Rattle.bao_tasks.specs.declared.spot.Walk.TheVariants.{Past, Met}

@@ -12,8 +12,9 @@ use Rattle.b3tree.proofs.HashOutput.{length-bytes_of, length-out}
 use Rattle.bao_text.specs.declared.choice.Choice.{Choice}
 use Rattle.bao_text.specs.Choice.{chunk_count, wants}
 use Rattle.bao_text.specs.Cut.{cut_nodes, has}
-use Rattle.bao_text.specs.Nodes.{TreeNode, Side, left, right, size, subtree_nodes, subtree_size}
+use Rattle.bao_text.specs.Nodes.{TreeNode, Side, size, subtree_nodes, subtree_size}
 use Rattle.bao_text.specs.Texts.{chunk_text, node_text, parent_text, subtree_text}
+use Rattle.bao_text.proofs.Halves.{Far, Near, by_halves}
 use Rattle.bao_text.proofs.SubtreeNodes.{subtree_nodes-leaf, subtree_nodes-parent, subtree_nodes-unwanted}
 use Rattle.bao_text.proofs.SubtreeText.{Parts, left_len-Parts, subtree_text-leaf, subtree_text-parent}
 use Rattle.bao_text.proofs.TextNodes.{length-span, span, span-left, span-right, subtree_text-nodes}
@@ -172,52 +173,49 @@ AtAll-small all choice mode blob text number n sides source one fits start chunk
           (elim (cases_Bool choice.chunks) [ inl there ↦ rw there (e, here, tt) | inr gone ↦ rw gone tt ])
     ]
 
-AtAll-levels : (levels : ℕ) (all choice : Choice) (mode : Mode) (blob text : List ℕ) (number n : ℕ) (sides : List Side) (source : ℕ)
-    → n ≤ 1024 * levels + 1024 → 1024 * number + n ≤ length blob
-    → all.start ≡ 0 → all.chunks ≡ true → 1024 * number < all.end → 1024 * number + n ≤ all.end
-    → At text source (subtree_text all mode number (span blob number n)) → AtAll text mode blob (subtree_nodes choice number n sides source)
-AtAll-levels zero all choice mode blob text number n sides source hn fits start chunks below end h =
-    AtAll-small all choice mode blob text number n sides source (omega arith) fits start chunks below h
-AtAll-levels (suc levels) all choice mode blob text number n sides source hn fits start chunks below end h = elim (cases_lt 1024 n) [
-  | inr one ↦ AtAll-small all choice mode blob text number n sides source one fits start chunks below h
-  | inl more ↦
-      let P : List TreeNode → Type 0 = AtAll text mode blob in
-      elim (cases_Bool (wants choice (1024 * number) n)) [
-        | inr skipped ↦ subst P (sym (subtree_nodes-unwanted choice number n sides source skipped)) tt
-        | inl wanted ↦
-            let s : List ℕ = span blob number n in
-            let e : length s ≡ n = length-span blob number n fits in
-            let l : ℕ = left_len n in
-            let parts : Parts n l = left_len-Parts n more in
-            let le : l ≤ n = omega (arith, parts.below) in
-            let parent : List ℕ = parent_text mode number s in
-            let a : List ℕ = subtree_text all mode number (span blob number l) in
-            let b : List ℕ = subtree_text all mode (number + l / 1024) (span blob (number + l / 1024) (n - l)) in
-            let near_fits : 1024 * number + l ≤ length blob = omega (arith, parts.below) in
-            let near_end : 1024 * number + l ≤ all.end = omega (arith, parts.below) in
-            let far_fits : 1024 * (number + l / 1024) + (n - l) ≤ length blob = omega (arith, parts.whole, parts.below) in
-            let far_below : 1024 * (number + l / 1024) < all.end = omega (arith, parts.whole, parts.below) in
-            let far_end : 1024 * (number + l / 1024) + (n - l) ≤ all.end = omega (arith, parts.whole, parts.below) in
-            let text_is : subtree_text all mode number s ≡ parent ++ (a ++ b) =
-            subtree_text-parent all mode number s (wants_all all (1024 * number) (length s) start below) (omega arith)
-            ∙ (λ i. parent ++ (subtree_text all mode number (take (left_len (e i)) s) ++ subtree_text all mode (number + left_len (e i) / 1024) (drop (left_len (e i)) s)))
-            ∙ (λ i. parent ++ (subtree_text all mode number (span-left blob number n l le i) ++ subtree_text all mode (number + l / 1024) (span-right blob number n l le parts.whole i))) in
-            let here : At text source (parent ++ (a ++ b)) = subst (At text source) text_is h in
-            let parent_len : length parent ≡ 64 = length-parent_text mode number s in
-            let kids : At text (source + 64) (a ++ b) = At_rest text source 64 parent (a ++ b) parent_len here in
-            let span_len : length (span blob number l) ≡ l = length-span blob number l near_fits in
-            let near_len : length a ≡ subtree_size l =
-            sized all mode number (span blob number l) start chunks below (rw span_len near_end) ∙ ap subtree_size span_len in
-            let near : P (subtree_nodes choice number l (sides ++ left ∷ []) (source + 64)) =
-            AtAll-levels levels all choice mode blob text number l (sides ++ left ∷ []) (source + 64) (omega (arith, parts.whole, parts.below)) near_fits start chunks below near_end
-            (At_first text (source + 64) a b kids) in
-            let far : P (subtree_nodes choice (number + l / 1024) (n - l) (sides ++ right ∷ []) (source + 64 + subtree_size l)) =
-            AtAll-levels levels all choice mode blob text (number + l / 1024) (n - l) (sides ++ right ∷ []) (source + 64 + subtree_size l) (omega (arith, parts.some)) far_fits start chunks far_below far_end
-            (At_rest text (source + 64) (subtree_size l) a b near_len kids) in
-            subst P (sym (subtree_nodes-parent choice number n sides source wanted more))
-            (parent_len, At_first text source parent (a ++ b) here, AtAll-append text mode blob _ _ near far)
-      ]
-]
+-- an encoding with everything has each node of a choice at its place
+module _ (all choice : Choice) (mode : Mode) (blob text : List ℕ) (start : all.start ≡ 0) (chunks : all.chunks ≡ true) where
+  abbrev HasAll : ℕ → ℕ → List Side → ℕ → Type 0
+  HasAll number n sides source =
+      1024 * number + n ≤ length blob → 1024 * number < all.end → 1024 * number + n ≤ all.end → At text source (subtree_text all mode number (span blob number n))
+      → AtAll text mode blob (subtree_nodes choice number n sides source)
+
+  AtAll-parent : (number n : ℕ) (sides : List Side) (source : ℕ) → 1024 < n → Parts n (left_len n) → Near HasAll number n sides source → Far HasAll number n sides source
+      → HasAll number n sides source
+  AtAll-parent number n sides source more parts in_near in_far fits below end h = elim (cases_Bool (wants choice (1024 * number) n)) [
+    | inr skipped ↦ subst (AtAll text mode blob) (sym (subtree_nodes-unwanted choice number n sides source skipped)) tt
+    | inl wanted ↦
+        let s : List ℕ = span blob number n in
+        let e : length s ≡ n = length-span blob number n fits in
+        let l : ℕ = left_len n in
+        let le : l ≤ n = omega (arith, parts.below) in
+        let parent : List ℕ = parent_text mode number s in
+        let a : List ℕ = subtree_text all mode number (span blob number l) in
+        let b : List ℕ = subtree_text all mode (number + l / 1024) (span blob (number + l / 1024) (n - l)) in
+        let near_fits : 1024 * number + l ≤ length blob = omega (arith, parts.below) in
+        let near_end : 1024 * number + l ≤ all.end = omega (arith, parts.below) in
+        let text_is : subtree_text all mode number s ≡ parent ++ (a ++ b) =
+        subtree_text-parent all mode number s (wants_all all (1024 * number) (length s) start below) (omega arith)
+        ∙ (λ i. parent ++ (subtree_text all mode number (take (left_len (e i)) s) ++ subtree_text all mode (number + left_len (e i) / 1024) (drop (left_len (e i)) s)))
+        ∙ (λ i. parent ++ (subtree_text all mode number (span-left blob number n l le i) ++ subtree_text all mode (number + l / 1024) (span-right blob number n l le parts.whole i))) in
+        let here : At text source (parent ++ (a ++ b)) = subst (At text source) text_is h in
+        let parent_len : length parent ≡ 64 = length-parent_text mode number s in
+        let kids : At text (source + 64) (a ++ b) = At_rest text source 64 parent (a ++ b) parent_len here in
+        let span_len : length (span blob number l) ≡ l = length-span blob number l near_fits in
+        let near_len : length a ≡ subtree_size l =
+        sized all mode number (span blob number l) start chunks below (rw span_len near_end) ∙ ap subtree_size span_len in
+        subst (AtAll text mode blob) (sym (subtree_nodes-parent choice number n sides source wanted more)) (
+          parent_len,
+          At_first text source parent (a ++ b) here,
+          AtAll-append text mode blob _ _ (in_near near_fits below near_end (At_first text (source + 64) a b kids))
+              (in_far (omega (arith, fits, parts.whole, parts.below)) (omega (arith, end, parts.whole, parts.below)) (omega (arith, end, parts.whole, parts.below))
+              (At_rest text (source + 64) (subtree_size l) a b near_len kids)),
+        )
+  ]
+
+  has_all_nodes : (number n : ℕ) (sides : List Side) (source : ℕ) → HasAll number n sides source
+  has_all_nodes = by_halves HasAll
+      (λ number n sides source one fits below end h. AtAll-small all choice mode blob text number n sides source one fits start chunks below h) AtAll-parent
 
 -- what is cut out of an encoding with everything is the encoding of what was chosen
 pub cut_nodes-everything : (all choice : Choice) (mode : Mode) (blob before : List ℕ) → all.start ≡ 0 → all.chunks ≡ true → all.end ≡ max (length blob) 1
@@ -232,5 +230,5 @@ cut_nodes-everything all choice mode blob before start chunks end =
       whole = (λ i. before ++ subtree_text all mode 0 (sym whole i)) ∙ ap (λ (xs : List ℕ). before ++ xs) (sym (append-nil _));
       place = refl;
     } in
-    cut_nodes-AtAll text mode blob nodes (AtAll-levels (length blob) all choice mode blob text 0 (length blob) [] (length before) (omega arith) (omega arith) start chunks (omega arith) (omega arith) here)
+    cut_nodes-AtAll text mode blob nodes (has_all_nodes all choice mode blob text start chunks 0 (length blob) [] (length before) (omega arith) (omega arith) (omega arith) here)
     ∙ sym (subtree_text-nodes choice mode blob [] (length before))

@@ -5,6 +5,7 @@ pub mod PieceTexts
 pub mod ParentPut
 pub mod SubtreeNodes
 pub mod SubtreeText
+pub mod Halves
 pub mod TextNodes
 pub mod Writing
 pub mod EightChunks

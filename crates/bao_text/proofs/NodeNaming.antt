@@ -1,5 +1,5 @@
 -- The names of a subtree's nodes, and those of the subtrees that wait.
-use Rattle.std.proofs.Common.{◌≡◌, ℕ, zero, suc, ◌+◌, ◌-◌, ◌*◌, ◌/◌, ◌^◌, ◌<◌, ◌≤◌, List, [], ◌∷◌, ◌++◌, length, map, true, false, refl, sym, ap, subst, ◌∙◌, arith, inl, inr}
+use Rattle.std.proofs.Common.{◌≡◌, ℕ, suc, ◌+◌, ◌-◌, ◌*◌, ◌/◌, ◌^◌, ◌<◌, ◌≤◌, List, [], ◌∷◌, ◌++◌, length, map, true, false, refl, sym, ap, subst, ◌∙◌, arith, inl, inr}
 use Rattle.std.proofs.Math.Pow.{pow_mono}
 use Rattle.std.proofs.lemmas.Bool.{cases_Bool, cases_lt}
 use Rattle.std.proofs.lemmas.List.{append-nil, append_assoc}
@@ -11,6 +11,7 @@ use Rattle.bao_text.specs.declared.walk.Subtree.{Subtree}
 use Rattle.bao_text.specs.Choice.{wants}
 use Rattle.bao_text.specs.NodeNames.{AreWaiting, IsWaiting, name, node_names, waiting_names}
 use Rattle.bao_text.specs.Nodes.{TreeNode, Side, chunk_nodes, left, right, subtree_nodes, subtree_size}
+use Rattle.bao_text.proofs.Halves.{Far, Near, by_halves, far_nodes, near_nodes}
 use Rattle.bao_text.proofs.SubtreeNodes.{parent_node, subtree_nodes-leaf, subtree_nodes-parent, subtree_nodes-unwanted}
 use Rattle.bao_text.proofs.SubtreeText.{Parts, left_len-Parts}
 
@@ -43,35 +44,28 @@ bare-small choice number n sides others source other one = elim (cases_Bool (wan
       ∙ sym (ap (map bare) (subtree_nodes-leaf choice number n others other wanted one))
 ]
 
-bare-levels : (levels : ℕ) (choice : Choice) (number n : ℕ) (sides others : List Side) (source other : ℕ) → n ≤ 1024 * levels + 1024
-    → map bare (subtree_nodes choice number n sides source) ≡ map bare (subtree_nodes choice number n others other)
-bare-levels zero choice number n sides others source other hn = bare-small choice number n sides others source other (omega arith)
-bare-levels (suc levels) choice number n sides others source other hn = elim (cases_lt 1024 n) [
-  | inr one ↦ bare-small choice number n sides others source other one
-  | inl more ↦
-      elim (cases_Bool (wants choice (1024 * number) n)) [
-        | inr skipped ↦ ap (map bare) (subtree_nodes-unwanted choice number n sides source skipped ∙ sym (subtree_nodes-unwanted choice number n others other skipped))
-        | inl wanted ↦
-            let l : ℕ = left_len n in
-            let middle : ℕ = number + l / 1024 in
-            let parts : Parts n l = left_len-Parts n more in
-            let near : List TreeNode = subtree_nodes choice number l (sides ++ left ∷ []) (source + 64) in
-            let far : List TreeNode = subtree_nodes choice middle (n - l) (sides ++ right ∷ []) (source + 64 + subtree_size l) in
-            let near2 : List TreeNode = subtree_nodes choice number l (others ++ left ∷ []) (other + 64) in
-            let far2 : List TreeNode = subtree_nodes choice middle (n - l) (others ++ right ∷ []) (other + 64 + subtree_size l) in
-            let near_same : map bare near ≡ map bare near2 =
-            bare-levels levels choice number l (sides ++ left ∷ []) (others ++ left ∷ []) (source + 64) (other + 64) (omega (arith, parts.whole, parts.below)) in
-            let far_same : map bare far ≡ map bare far2 =
-            bare-levels levels choice middle (n - l) (sides ++ right ∷ []) (others ++ right ∷ []) (source + 64 + subtree_size l) (other + 64 + subtree_size l) (omega (arith, parts.some)) in
-            ap (map bare) (subtree_nodes-parent choice number n sides source wanted more)
-            ∙ ap (λ (xs : List TreeNode). parent_node number n [] 0 ∷ xs) (bare-append near far ∙ (λ i. near_same i ++ far_same i) ∙ sym (bare-append near2 far2))
-            ∙ sym (ap (map bare) (subtree_nodes-parent choice number n others other wanted more))
-      ]
+-- the way to a subtree and its place in an encoding change no more of its nodes
+abbrev SameBare : Choice → ℕ → ℕ → List Side → ℕ → Type 0
+SameBare choice number n sides source = (others : List Side) (other : ℕ) → map bare (subtree_nodes choice number n sides source) ≡ map bare (subtree_nodes choice number n others other)
+
+bare-parent : (choice : Choice) (number n : ℕ) (sides : List Side) (source : ℕ) → 1024 < n → Near (SameBare choice) number n sides source → Far (SameBare choice) number n sides source
+    → SameBare choice number n sides source
+bare-parent choice number n sides source more near far others other = elim (cases_Bool (wants choice (1024 * number) n)) [
+  | inr skipped ↦ ap (map bare) (subtree_nodes-unwanted choice number n sides source skipped ∙ sym (subtree_nodes-unwanted choice number n others other skipped))
+  | inl wanted ↦
+      let near_same = near (others ++ left ∷ []) (other + 64) in
+      let far_same = far (others ++ right ∷ []) (other + 64 + subtree_size (left_len n)) in
+      ap (map bare) (subtree_nodes-parent choice number n sides source wanted more)
+      ∙ ap (λ (xs : List TreeNode). parent_node number n [] 0 ∷ xs)
+      (bare-append (near_nodes choice number n sides source) (far_nodes choice number n sides source) ∙ (λ i. near_same i ++ far_same i)
+      ∙ sym (bare-append (near_nodes choice number n others other) (far_nodes choice number n others other)))
+      ∙ sym (ap (map bare) (subtree_nodes-parent choice number n others other wanted more))
 ]
 
--- the way to a subtree and its place in an encoding change no more of its nodes
 pub bare-anywhere : (choice : Choice) (number n : ℕ) (sides : List Side) (source : ℕ) → map bare (subtree_nodes choice number n sides source) ≡ map bare (subtree_nodes choice number n [] 0)
-bare-anywhere choice number n sides source = bare-levels n choice number n sides [] source 0 (omega arith)
+bare-anywhere choice number n sides source = by_halves (SameBare choice)
+    (λ number n sides source one others other. bare-small choice number n sides others source other one)
+    (λ number n sides source more parts near far. bare-parent choice number n sides source more near far) number n sides source [] 0
 
 names-bare : (xs : List TreeNode) → map name (map bare xs) ≡ map name xs
 names-bare [] = refl

@@ -1,6 +1,6 @@
 -- Nodes that stand one after another are one part of the bytes.
-use Rattle.std.proofs.Common.{◌≡◌, ℕ, zero, suc, ◌+◌, ◌-◌, ◌*◌, ◌/◌, ◌<◌, ◌≤◌, max, List, [], ◌∷◌, ◌++◌, length, take, drop, nat_le, sum_by, true, refl, sym, ap, subst, ◌∙◌, arith, inl, inr}
-use Rattle.std.proofs.lemmas.Bool.{and_from, cases_Bool, cases_lt, leb-false, lt-leb, lt-ltb}
+use Rattle.std.proofs.Common.{◌≡◌, ℕ, ◌+◌, ◌-◌, ◌*◌, ◌<◌, ◌≤◌, max, List, [], ◌∷◌, ◌++◌, length, take, drop, nat_le, sum_by, true, refl, sym, ap, subst, ◌∙◌, arith, inl, inr}
+use Rattle.std.proofs.lemmas.Bool.{and_from, cases_Bool, leb-false, lt-leb, lt-ltb}
 use Rattle.std.proofs.lemmas.List.{length-drop, take_all}
 use Rattle.std.proofs.lemmas.List.Sums.{sum_by-append}
 use Rattle.b3tree.specs.Tree.{left_len}
@@ -8,10 +8,11 @@ use Rattle.b3tree.proofs.Pieces.{piece-append}
 use Rattle.bao_text.specs.declared.choice.Choice.{Choice}
 use Rattle.bao_text.specs.Choice.{wants}
 use Rattle.bao_text.specs.Cut.{cut_nodes, has, has_all}
-use Rattle.bao_text.specs.Nodes.{TreeNode, Side, left, right, size, subtree_nodes, subtree_size}
+use Rattle.bao_text.specs.Nodes.{TreeNode, Side, size, subtree_nodes, subtree_size}
+use Rattle.bao_text.proofs.Halves.{by_halves, far_nodes, near_nodes}
 use Rattle.bao_text.proofs.Cutting.{cut_nodes-append, cut_nodes-append_short, cut_nodes-one, has_all-append, has_all-append_short, has_all-one}
 use Rattle.bao_text.proofs.SubtreeNodes.{parent_node, subtree_nodes-leaf, subtree_nodes-parent, subtree_size-parts}
-use Rattle.bao_text.proofs.SubtreeText.{Parts, left_len-Parts}
+use Rattle.bao_text.proofs.SubtreeText.{Parts}
 
 -- the k bytes from a place on
 pub record IsRun (at k : ℕ) (nodes : List TreeNode) : Type 0 where
@@ -74,31 +75,28 @@ run-chunk choice number n sides at one chunks wanted =
 wants_all : (choice : Choice) (at n : ℕ) → choice.start ≤ at → at + max n 1 ≤ choice.end → wants choice at n ≡ true
 wants_all choice at n start end = and_from _ _ (lt-ltb at choice.end (omega arith)) (lt-ltb choice.start (at + max n 1) (omega arith))
 
-run-levels : (levels : ℕ) (choice : Choice) (number n : ℕ) (sides : List Side) (at : ℕ) → n ≤ 1024 * levels + 1024 → choice.chunks ≡ true
-    → choice.start ≤ 1024 * number → 1024 * number + max n 1 ≤ choice.end → IsRun at (subtree_size n) (subtree_nodes choice number n sides at)
-run-levels zero choice number n sides at hn chunks start end = run-chunk choice number n sides at (omega arith) chunks (wants_all choice (1024 * number) n start end)
-run-levels (suc levels) choice number n sides at hn chunks start end = elim (cases_lt 1024 n) [
-  | inr one ↦ run-chunk choice number n sides at one chunks (wants_all choice (1024 * number) n start end)
-  | inl more ↦
-      let l : ℕ = left_len n in
-      let parts : Parts n l = left_len-Parts n more in
-      let node : TreeNode = parent_node number n sides at in
-      let near : List TreeNode = subtree_nodes choice number l (sides ++ left ∷ []) (at + 64) in
-      let far : List TreeNode = subtree_nodes choice (number + l / 1024) (n - l) (sides ++ right ∷ []) (at + 64 + subtree_size l) in
-      let tree : subtree_nodes choice number n sides at ≡ node ∷ (near ++ far) = subtree_nodes-parent choice number n sides at (wants_all choice (1024 * number) n start end) more in
-      let a : IsRun (at + 64) (subtree_size l) near =
-      run-levels levels choice number l (sides ++ left ∷ []) (at + 64) (omega (arith, parts.whole, parts.below)) chunks start (omega (arith, parts.some, parts.below)) in
-      let b : IsRun (at + 64 + subtree_size l) (subtree_size (n - l)) far =
-      run-levels levels choice (number + l / 1024) (n - l) (sides ++ right ∷ []) (at + 64 + subtree_size l) (omega (arith, parts.some)) chunks (omega (arith, parts.whole)) (omega (arith, parts.whole, parts.below)) in
-      let both : IsRun (at + 64) (subtree_size l + subtree_size (n - l)) (near ++ far) =
-      run-append (at + 64) (subtree_size l) (subtree_size (n - l)) near far (omega (arith, parts.some)) (omega (arith, parts.below)) a b in
-      let whole : IsRun at (64 + (subtree_size l + subtree_size (n - l))) (node ∷ (near ++ far)) =
-      run-append at 64 (subtree_size l + subtree_size (n - l)) (node ∷ []) (near ++ far) (omega arith) (omega (arith, parts.some)) (run-one node) both in
-      let len : 64 + (subtree_size l + subtree_size (n - l)) ≡ subtree_size n = omega (arith, subtree_size-parts n more) in
-      subst (λ (nodes : List TreeNode). IsRun at (subtree_size n) nodes) (sym tree) (subst (λ (k : ℕ). IsRun at k (node ∷ (near ++ far))) len whole)
-]
+run-parent : (choice : Choice) (number n : ℕ) (sides : List Side) (at : ℕ) → wants choice (1024 * number) n ≡ true → 1024 < n → Parts n (left_len n)
+    → IsRun (at + 64) (subtree_size (left_len n)) (near_nodes choice number n sides at)
+    → IsRun (at + 64 + subtree_size (left_len n)) (subtree_size (n - left_len n)) (far_nodes choice number n sides at) → IsRun at (subtree_size n) (subtree_nodes choice number n sides at)
+run-parent choice number n sides at wanted more parts a b =
+    let l : ℕ = left_len n in
+    let node : TreeNode = parent_node number n sides at in
+    let near : List TreeNode = near_nodes choice number n sides at in
+    let far : List TreeNode = far_nodes choice number n sides at in
+    let both : IsRun (at + 64) (subtree_size l + subtree_size (n - l)) (near ++ far) =
+    run-append (at + 64) (subtree_size l) (subtree_size (n - l)) near far (omega (arith, parts.some)) (omega (arith, parts.below)) a b in
+    let whole : IsRun at (64 + (subtree_size l + subtree_size (n - l))) (node ∷ (near ++ far)) =
+    run-append at 64 (subtree_size l + subtree_size (n - l)) (node ∷ []) (near ++ far) (omega arith) (omega (arith, parts.some)) (run-one node) both in
+    let len : 64 + (subtree_size l + subtree_size (n - l)) ≡ subtree_size n = omega (arith, subtree_size-parts n more) in
+    subst (λ (nodes : List TreeNode). IsRun at (subtree_size n) nodes) (sym (subtree_nodes-parent choice number n sides at wanted more))
+    (subst (λ (k : ℕ). IsRun at k (node ∷ (near ++ far))) len whole)
 
 -- a subtree of which everything is wanted
-pub run-subtree : (choice : Choice) (number n : ℕ) (sides : List Side) (at : ℕ) → choice.chunks ≡ true
+pub run-subtree : (choice : Choice) → choice.chunks ≡ true → (number n : ℕ) (sides : List Side) (at : ℕ)
     → choice.start ≤ 1024 * number → 1024 * number + max n 1 ≤ choice.end → IsRun at (subtree_size n) (subtree_nodes choice number n sides at)
-run-subtree choice number n sides at chunks start end = run-levels n choice number n sides at (omega arith) chunks start end
+run-subtree choice chunks = by_halves
+    (λ number n sides at. choice.start ≤ 1024 * number → 1024 * number + max n 1 ≤ choice.end → IsRun at (subtree_size n) (subtree_nodes choice number n sides at))
+    (λ number n sides at one start end. run-chunk choice number n sides at one chunks (wants_all choice (1024 * number) n start end))
+    (λ number n sides at more parts near far start end.
+    run-parent choice number n sides at (wants_all choice (1024 * number) n start end) more parts (near start (omega (arith, end, parts.some, parts.below)))
+    (far (omega (arith, start, parts.whole)) (omega (arith, end, parts.whole, parts.below))))

@@ -7,7 +7,7 @@ use Rattle.b3tree.specs.declared.mode.Mode.{Mode}
 use Rattle.b3tree.specs.Tree.{left_len}
 use Rattle.bao_check.proofs.BesidePlaces.{Finds, Finds-all, Finds-far, Finds-near, parent-beside}
 use Rattle.bao_check.proofs.Outlines.{far-WantsParents, near-WantsParents, outboard-WantsParents}
-use Rattle.bao_check.proofs.Walking.{leaf_nodes}
+use Rattle.bao_check.proofs.EachNode.{leaf_nodes}
 use Rattle.bao_check.specs.Accepted.{outboard_nodes, places_of}
 use Rattle.bao_check.specs.Bare.{AreBare, bare_part}
 use Rattle.bao_check.specs.Beside.{bare_len, beside_text, node_beside}

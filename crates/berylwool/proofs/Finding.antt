@@ -4,7 +4,7 @@ use Rattle.std.specs.Option.{option_map, unwrap_or}
 use Rattle.std.proofs.lemmas.Bool.{cases_lt, le-ltb, lt-ltb}
 use Rattle.b3tree.specs.Tree.{left_len}
 use Rattle.bao_check.proofs.Sizes.{wants_whole}
-use Rattle.bao_check.proofs.Walking.{chunk_node, leaf_nodes}
+use Rattle.bao_check.proofs.EachNode.{chunk_node, leaf_nodes}
 use Rattle.bao_text.proofs.SubtreeNodes.{parent_node, subtree_nodes-parent, subtree_nodes-unwanted, subtree_size-parts}
 use Rattle.bao_text.proofs.SubtreeText.{Parts, left_len-Parts}
 use Rattle.bao_text.specs.declared.choice.Choice.{Choice}

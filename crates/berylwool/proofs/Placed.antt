@@ -5,7 +5,7 @@ use Rattle.std.proofs.lemmas.List.{length-append, map-append}
 use Rattle.b3tree.specs.Tree.{left_len}
 use Rattle.bao_check.proofs.Parenting.{parent_place-here}
 use Rattle.bao_check.proofs.Sizes.{wants_whole}
-use Rattle.bao_check.proofs.Walking.{chunk_node, leaf_nodes}
+use Rattle.bao_check.proofs.EachNode.{chunk_node, leaf_nodes}
 use Rattle.bao_check.specs.Parents.{parent_place}
 use Rattle.bao_text.proofs.SubtreeNodes.{parent_node, subtree_nodes-parent, subtree_nodes-unwanted}
 use Rattle.bao_text.proofs.SubtreeText.{Parts, left_len-Parts}

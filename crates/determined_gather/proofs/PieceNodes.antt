@@ -83,7 +83,7 @@ module _ (text : List ℕ) (n len : ℕ) (all : n ≤ len) where
   parent_of_whole : (m : ℕ) → 0 < m → m < chunk_count n → is_some (parent_in text (placed_nodes 8 (nodes n 0 len)) m) ≡ true
   parent_of_whole m low high =
       parent_in-some text (placed_nodes 8 (nodes n 0 len)) m
-      ∙ parent_wanted whole 0 n [] 8 8 m low (omega (arith, high)) (record { before = omega (arith, low, high, all); after = omega arith })
+      ∙ parent_wanted whole m (record { before = omega (arith, low, high, all); after = omega arith }) 0 n [] 8 8 low (omega (arith, high))
 
   node_of_whole : (start some : ℕ) (node : TreeNode) → Contains (nodes n start some) node → HasIn text 8 (nodes n 0 len) (name node)
   node_of_whole start some node there =

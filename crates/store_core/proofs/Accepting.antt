@@ -40,7 +40,7 @@ use Rattle.bao_check.proofs.Lists.{Contains-cons_cases, Contains-head, Contains-
 use Rattle.bao_check.proofs.Marked.{SameParts, same_parts}
 use Rattle.bao_check.proofs.Parts.{AreGood-join}
 use Rattle.bao_check.proofs.Sizes.{nodes_size-parent}
-use Rattle.bao_check.proofs.Walking.{chunk_node, leaf_nodes}
+use Rattle.bao_check.proofs.EachNode.{chunk_node, leaf_nodes}
 use Rattle.bao_check.proofs.Written.{At_bytes, At_fits, one_good}
 use Rattle.store_core.specs.declared.fixed.Fixed.{Fixed}
 use Rattle.store_core.specs.declared.history.Event.{Event}

@@ -4,7 +4,7 @@ use Rattle.bao_text.specs.Nodes.{TreeNode, left, right, subtree_nodes, subtree_s
 use Rattle.bao_text.proofs.SubtreeNodes.{subtree_nodes-parent, subtree_nodes-unwanted}
 use Rattle.bao_check.proofs.Lists.{nodes_size, nodes_size-cons}
 use Rattle.bao_check.proofs.Sizes.{nodes_size-parent, nodes_size-with_chunks, nodes_size-without_chunks}
-use Rattle.bao_check.proofs.Walking.{chunk_node, leaf_nodes, leaf_without}
+use Rattle.bao_check.proofs.EachNode.{chunk_node, leaf_nodes, leaf_without}
 use Rattle.bao_check.proofs.locate.+nodes_size.Goals as goal
 
 pub returns-then-not-wants-clause-value : goal.returns-then-not-wants-clause-value

@@ -17,7 +17,7 @@ returns-then-skip-size-clause-after t c = λ sides.
       | then-n-via-then-n w ↦ run-chunk choice c.args.number c.args.n sides c.args.at w.if-n.true c.requires.chunks (sym c.wants.ensures ∙ c.if-not-wants.false)
       | then-n-via-else-n+then-covers w ↦
           let both : (choice.start ≤ 1024 * c.args.number) × (1024 * c.args.number + max c.args.n 1 ≤ choice.end) = w.covers.ensures.0 w.if-covers.true in
-          run-subtree choice c.args.number c.args.n sides c.args.at c.requires.chunks both.0 both.1
+          run-subtree choice c.requires.chunks c.args.number c.args.n sides c.args.at both.0 both.1
     ] in
     omega (arith, run.len, c.subtree_size-size.ensures, c.if-skip-size.true)
 
@@ -29,7 +29,7 @@ returns-then-n-clause-found t c = λ s sides rest.
       | then-n-via-then-n w ↦ run-chunk choice c.args.number c.args.n sides c.args.at w.if-n.true c.requires.chunks (sym c.wants.ensures ∙ c.if-not-wants.false)
       | then-n-via-else-n+then-covers w ↦
           let both : (choice.start ≤ 1024 * c.args.number) × (1024 * c.args.number + max c.args.n 1 ≤ choice.end) = w.covers.ensures.0 w.if-covers.true in
-          run-subtree choice c.args.number c.args.n sides c.args.at c.requires.chunks both.0 both.1
+          run-subtree choice c.requires.chunks c.args.number c.args.n sides c.args.at both.0 both.1
     ] in
     find_run choice c.args.number c.args.n s sides rest c.args.at c.args.skip c.subtree_size-size.result run c.subtree_size-size.ensures (omega (arith, c.if-skip-size.false))
 

@@ -1,6 +1,6 @@
 use Rattle.std.proofs.Common.{ℕ, ◌+◌, ◌∙◌, [], subst, sym, arith}
 use Rattle.bao_text.specs.Nodes.{subtree_nodes}
-use Rattle.bao_check.proofs.Walking.{chunk_node, leaf_nodes, leaf_without}
+use Rattle.bao_check.proofs.EachNode.{chunk_node, leaf_nodes, leaf_without}
 use Rattle.bao_tasks.specs.declared.spot.Walk.TheVariants.{Past}
 use Rattle.bao_tasks.specs.Spots.{IsMet}
 use Rattle.bao_tasks.proofs.Spots.{met_node, past_chunk, past_none}

@@ -37,7 +37,7 @@ returns-then-n-clause-cuts g t c = λ sides.
           run-chunk choice c.args.number n sides at w.if-n.true c.requires.chunks (sym c.wants.ensures ∙ c.if-not-wants.false)
       | then-n-via-else-n+then-covers w ↦
           let both : (choice.start ≤ 1024 * c.args.number) × (1024 * c.args.number + max n 1 ≤ choice.end) = w.covers.ensures.0 w.if-covers.true in
-          run-subtree choice c.args.number n sides at c.requires.chunks both.0 both.1
+          run-subtree choice c.requires.chunks c.args.number n sides at both.0 both.1
     ] in
     let of : IsRun at c.subtree_size.result nodes = subst (λ (k : ℕ). IsRun at k nodes) (sym c.subtree_size.ensures) run in
     let least : n ≤ c.subtree_size.result = omega (arith, c.subtree_size.ensures) in

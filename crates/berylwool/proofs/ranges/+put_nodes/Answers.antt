@@ -23,7 +23,7 @@ returns-then-n-clause-parts t c =
       | then-n-via-then-n w ↦ run-chunk choice c.args.number n sides at w.if-n.true c.requires.chunks (sym c.wants.ensures ∙ c.if-not-wants.false)
       | then-n-via-else-n+then-covers w ↦
           let both : (choice.start ≤ 1024 * c.args.number) × (1024 * c.args.number + max n 1 ≤ choice.end) = w.covers.ensures.0 w.if-covers.true in
-          run-subtree choice c.args.number n sides at c.requires.chunks both.0 both.1
+          run-subtree choice c.requires.chunks c.args.number n sides at both.0 both.1
     ] in
     let there : has_all text nodes ≡ true = elim c.then-n.branch [
       | then-n-via-then-n w ↦ leaf_there choice c.args.number n sides at text w.if-n.true c.requires.chunks (sym c.wants.ensures ∙ c.if-not-wants.false) (omega (arith, long))
