@@ -51,7 +51,6 @@ record IsPart (sides : List Side) (d : Side) (ps : List (ℕ × TreeNode)) (q : 
   parent_there : Contains ps q
   parent_sides : q.1.sides ≡ sides
   own_there : (a : ℕ × TreeNode) → Contains own a → Contains ps a
-  own_sides : (a : ℕ × TreeNode) → Contains own a → Extends (sides ++ d ∷ []) a.1.sides
   others : (a : ℕ × TreeNode) → Contains ps a → (a ≡ q) ⊎ (Contains own a ⊎ ((e : Side) × (e ≢ d) × Extends (sides ++ e ∷ []) a.1.sides))
 
 -- what a place of the part asks for, seen from the whole and seen from the part
@@ -122,7 +121,6 @@ near_part sides q near far tree = record {
   parent_there = Contains-head (near ++ far) q;
   parent_sides = tree.top;
   own_there = λ a h. Contains-tail (near ++ far) q a (Contains-append_left near far a h);
-  own_sides = All-member (λ place. Extends (sides ++ left ∷ []) place.1.sides) near tree.near_on;
   others = λ a h. elim (Contains-cons_cases (near ++ far) q a h) [
     | inl same ↦ inl same
     | inr rest ↦
@@ -138,7 +136,6 @@ far_part sides q near far tree = record {
   parent_there = Contains-head (near ++ far) q;
   parent_sides = tree.top;
   own_there = λ a h. Contains-tail (near ++ far) q a (Contains-append_right near far a h);
-  own_sides = All-member (λ place. Extends (sides ++ right ∷ []) place.1.sides) far tree.far_on;
   others = λ a h. elim (Contains-cons_cases (near ++ far) q a h) [
     | inl same ↦ inl same
     | inr rest ↦

@@ -1,6 +1,6 @@
 -- An encoding that is verified in blocks, and written as it stands.
 use Rattle.std.proofs.Common.{◌≡◌, ℕ, ◌+◌, ◌-◌, ◌<◌, ◌≤◌, List, [], ◌++◌, length, drop, Option, Some, None, IfSome, sym, ap, subst, ◌∙◌, arith, length-append}
-use Rattle.std.proofs.KnownBytes.{Appends-nil, Appends-trans}
+use Rattle.std.proofs.KnownBytes.{Appends-trans}
 use Rattle.std.proofs.lemmas.List.{append_assoc}
 use Rattle.std.specs.Io.KnownBytes.{Appends}
 use Rattle.b3tree.specs.declared.mode.Mode.{Mode}
@@ -74,14 +74,6 @@ module _ (mode : Mode) (root : List ℕ) (part : Part) where
         written = Appends-trans old mid new text more it.written wrote;
       }
 
-  -- where the length was refused
-  pub length_refused : (contents : Option (List ℕ)) (faultless : Type 0) (old : Option (List ℕ)) (fault : PassFault) → IfSome contents (λ s. StopsAs our_task faultless s fault)
-      → IfSome contents (λ s. EncodingStops our_task faultless s old old fault)
-  length_refused None faultless old fault stops = tt
-  length_refused (Some s) faultless old (Check fault) stops = (stops, (0, Appends-nil old))
-  length_refused (Some s) faultless old Input stops = (stops, (0, Appends-nil old))
-  length_refused (Some s) faultless old Output stops = absurd stops
-
   -- a beginning was written
   copied_beginning : (s : List ℕ) (first last : ℕ) (check : Checking) (at : ℕ) (old new : Option (List ℕ)) (text blob : List ℕ) → IsCopied (Some s) first last check at old new text blob
       → AppendsBeginning old new s
@@ -105,12 +97,6 @@ module _ (mode : Mode) (root : List ℕ) (part : Part) where
       let rest : List ℕ = drop (length (text ++ more)) s in
       let all : s ≡ text ++ (more ++ rest) = sym (rest_of s (text ++ more) (given_more (Some s) text more at at_is before given)) ∙ append_assoc text more rest in
       begins old mid new text more rest s fault all had wrote
-
-  pub header_output : (contents : Option (List ℕ)) (faultless : Type 0) (old new : Option (List ℕ)) (header : List ℕ) (fault : WriteFault) → GivenAt contents 0 header
-      → WroteOnly old new header fault → IfSome contents (λ s. EncodingStops our_task faultless s old new Output)
-  header_output None faultless old new header fault given wrote = tt
-  header_output (Some s) faultless old new header fault given wrote =
-      begins old old new [] header (drop (length header) s) s fault (sym (rest_of s header given)) (Appends-nil old) wrote
 
   -- all of it
   pub copied_all : (contents : Option (List ℕ)) (first last : ℕ) (check : Checking) (at : ℕ) (old new : Option (List ℕ)) (text blob : List ℕ)

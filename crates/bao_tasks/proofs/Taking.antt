@@ -62,32 +62,6 @@ kind_more at paths kinds kind path n size at_path told before i p within there s
 
 module _ {S : Type 0} (contents : S → Option (List ℕ)) (faultless : S → Type 0) (sure : Type 0) (most : ℕ) (at : List ℕ → FileState) (paths : List (Bor (List ℕ)))
     (regular starved_before : Bool) (before : List S) where
-  pub taking_none : IsTaking contents faultless sure most at paths regular 0 starved_before before starved_before before
-  taking_none = record {
-    hungry = λ h. h;
-    files = λ are. are;
-    kept = λ bytes has. has;
-    there = λ is surely i path bytes below. absurd (omega (arith, below));
-  }
-
-  -- a file of the other kind is passed over
-  pub taking_skip : (kinds : List Bool) (count : ℕ) (starved : Bool) (sources : List S) (kind : Bool) → AreKinds at paths kinds → slice_get kinds count ≡ Some kind → (kind ≡ regular → ⊥)
-      → IsTaking contents faultless sure most at paths regular count starved_before before starved sources
-      → IsTaking contents faultless sure most at paths regular (count + 1) starved_before before starved sources
-  taking_skip kinds count starved sources kind are is other so = record {
-    hungry = so.hungry;
-    files = so.files;
-    kept = so.kept;
-    there = λ yes surely i path bytes below there named stored. elim (cases_lt i count) [
-      | inl less ↦ so.there yes surely i path bytes less there named stored
-      | inr more ↦
-          let here : i ≡ count = omega (arith, below, more) in
-          let told : slice_get kinds count ≡ Some (is_regular path.now) = subst (λ (k : ℕ). slice_get kinds k ≡ Some (is_regular path.now)) here (are i path there (is_stored (at path.now) bytes stored)) in
-          let same : kind ≡ is_regular path.now = same_Some kind (is_regular path.now) (sym is ∙ told) in
-          absurd (other (same ∙ named ∙ sym yes))
-    ];
-  }
-
   -- a file of the kind was taken, or left out
   pub taking_more : (kinds : List Bool) (count : ℕ) (hungry starved : Bool) (sources new : List S) (path : Bor (List ℕ)) → AreKinds at paths kinds → slice_get kinds count ≡ Some regular
       → slice_get paths count ≡ Some path → (hungry ≡ true → starved ≡ true)
