@@ -1,20 +1,18 @@
 -- Chunks are accepted beside an outline exactly where the slice that they make with it is.
-use Rattle.std.proofs.Common.{◌≡◌, ℕ, ◌+◌, ◌-◌, ◌*◌, ◌/◌, ◌^◌, ◌<◌, ◌≤◌, min, List, [], length, take, drop, refl, sym, subst, ◌∙◌, arith, length-drop, length-take}
+use Rattle.std.proofs.Common.{◌≡◌, ℕ, ◌+◌, ◌-◌, ◌*◌, ◌/◌, ◌^◌, ◌<◌, ◌≤◌, min, List, [], length, take, drop, refl, sym, subst, ◌∙◌, arith, length-drop}
 use Rattle.b3tree.specs.declared.mode.Mode.{Mode}
 use Rattle.b3tree.specs.Valid.{AreBytes}
 use Rattle.b3tree.proofs.BlockWords.{AreBytes-take}
-use Rattle.bao_text.specs.Choice.{chunk_count, of_outboard, of_slice}
+use Rattle.bao_text.specs.Choice.{chunk_count, of_slice}
 use Rattle.bao_text.specs.Cut.{claimed}
 use Rattle.bao_text.specs.Nodes.{nodes}
 use Rattle.bao_check.specs.Accepted.{IsAccepted, outboard_nodes, slice_nodes}
-use Rattle.bao_check.specs.Bare.{AreBare, AreGoodBare, IsWhollyThere, bare_at, bare_chunk, bare_part, chunk_len}
+use Rattle.bao_check.specs.Bare.{AreBare, AreGoodBare, bare_part}
 use Rattle.bao_check.specs.Beside.{bare_len, beside_text}
 use Rattle.bao_check.specs.Laws.{BareAccepted}
 use Rattle.bao_check.specs.Walk.{AreGood, asked_root}
-use Rattle.bao_check.proofs.BareAsked.{value-meets}
-use Rattle.bao_check.proofs.BareGood.{Inside, Ranges, asked_levels, good_levels, input_beside, all_there}
-use Rattle.bao_check.proofs.BesidePlaces.{Finds-all, IsMade, IsOfChunks-counted, IsWhole, made-At, made-claimed, made-ends, whole-chunks, whole-text}
-use Rattle.bao_check.proofs.Outlines.{outboard-WantsParents}
+use Rattle.bao_check.proofs.BareGood.{Ranges, made_good, made_values}
+use Rattle.bao_check.proofs.BesidePlaces.{IsMade, IsOfChunks-counted, IsWhole, made-At, made-claimed, made-ends, whole-chunks, whole-text}
 
 -- an encoding of bytes claims less than 2 ^ 64
 pub claimed-small : (text : List ℕ) → AreBytes text → claimed text < 2 ^ 64
@@ -25,9 +23,6 @@ claimed-small text valid =
 -- the encoding of the chunks
 abbrev made : List ℕ → ℕ → ℕ → List ℕ → List ℕ
 made outline first count chunks = beside_text outline (1024 * first) (bare_part count) chunks
-
-Inside-all : (total : ℕ) → Inside total 0 total
-Inside-all total = record { within = omega arith; full = λ less. absurd (omega arith); some = omega arith }
 
 -- the slice is of these chunks
 ranges_counted : (total first count : ℕ) → total < 2 ^ 64 → 1 ≤ count → first + count ≤ chunk_count total
@@ -42,14 +37,6 @@ len_counted total first count small some = omega arith
 last_end : (total first count : ℕ) → 1 ≤ count → first + count ≤ chunk_count total
     → 1024 * (first + count - 1 - first) + min 1024 (total - 1024 * (first + count - 1)) ≡ bare_len total (1024 * first) (1024 * count)
 last_end total first count some within = omega arith
-
--- a chunk none of whose bytes is missing
-wholly_there : (total first k : ℕ) (chunks : List ℕ) → k < chunk_count total → length (bare_chunk total first chunks k) ≡ chunk_len total k → IsWhollyThere total first chunks k
-wholly_there total first k chunks last full =
-    let rest : List ℕ = drop (bare_at first k) chunks in
-    let rest_len : length rest ≡ length chunks - bare_at first k = length-drop (bare_at first k) chunks in
-    let taken : length (bare_chunk total first chunks k) ≡ min (chunk_len total k) (length rest) = length-take (chunk_len total k) rest in
-    omega arith
 
 -- no more bytes than so many, and no fewer
 same_size : (all len bare end : ℕ) → all - len ≡ 0 → len ≡ bare → end ≡ bare → end ≤ all → all ≡ bare
@@ -76,14 +63,10 @@ module _ (mode : Mode) (root outline chunks : List ℕ) (first count : ℕ) (acc
       let len : ℕ = bare_part count in
       let exact : length chunks ≡ bare_len total start len = bare.ends ∙ sym (len_counted total first count small some) in
       let whole : IsWhole outline start len chunks = whole-chunks outline start len chunks is_made exact in
-      let good_bare : AreGoodBare mode root outline (start / 1024) chunks (first + count) = subst (λ (j : ℕ). AreGoodBare mode root outline j chunks (first + count)) (sym first_is) bare.good in
-      let ranges = ranges_counted total first count small some within in
-      let each = λ (k : ℕ) (since : start / 1024 ≤ k) (to : k < first + count) (low : 0 ≤ k) (high : k < 0 + chunk_count total).
-      (value-meets root outline k (input_beside mode outline text chunks (of_outboard total) (of_slice total start len) total (start / 1024) (first + count) ranges k) (omega arith)).0 (good_bare k since to).1 in
+      let values : AreGoodBare mode root outline (start / 1024) chunks (first + count) = subst (λ (j : ℕ). AreGoodBare mode root outline j chunks (first + count)) (sym first_is) bare.good in
       let good : AreGood (asked_root root) [] mode text 8 (nodes total start len) =
-      good_levels mode outline text chunks (of_outboard total) (of_slice total start len) total (start / 1024) (first + count) ranges
-      total (asked_root root) 0 total [] 8 8 8 (omega arith) (Inside-all total) (outboard-WantsParents total) (Finds-all total) accepted.good
-      whole.sizes (made-At outline start len chunks accepted.long) each in
+      made_good mode root outline text chunks (of_slice total start len) (start / 1024) (first + count) (ranges_counted total first count small some within)
+      (λ k since to. (values k since to).1) accepted.good whole.sizes (made-At outline start len chunks accepted.long) in
       let ends = made-ends outline start len chunks accepted.long whole in
       subst (λ (k : ℕ). IsAccepted mode root text (nodes k start len)) (sym claims) (record { long = omega arith; good = good; ends = ends })
 
@@ -94,18 +77,10 @@ module _ (mode : Mode) (root outline chunks : List ℕ) (first count : ℕ) (acc
       let len : ℕ = bare_part count in
       let own : IsAccepted mode root text (nodes total start len) = subst (λ (k : ℕ). IsAccepted mode root text (nodes k start len)) claims slice in
       let whole : IsWhole outline start len chunks = whole-text outline start len chunks is_made own.ends in
-      let ranges = ranges_counted total first count small some within in
-      let each = asked_levels mode outline text chunks (of_outboard total) (of_slice total start len) total (start / 1024) (first + count) ranges
-      total (asked_root root) 0 total [] 8 8 8 (omega arith) (Inside-all total) (outboard-WantsParents total) (Finds-all total)
+      let values : AreGoodBare mode root outline (start / 1024) chunks (first + count) =
+      made_values mode root outline text chunks (of_slice total start len) (start / 1024) (first + count) (ranges_counted total first count small some within)
       whole.sizes (made-At outline start len chunks accepted.long) own.good in
-      let there = all_there mode outline text chunks (of_outboard total) (of_slice total start len) total (start / 1024) (first + count) ranges
-      0 total [] 8 (Inside-all total) whole.sizes in
-      let good_bare : AreGoodBare mode root outline (start / 1024) chunks (first + count) = λ k since to. (
-        wholly_there total (start / 1024) k chunks (omega arith) (there k since to (omega arith) (omega arith)),
-        (value-meets root outline k (input_beside mode outline text chunks (of_outboard total) (of_slice total start len) total (start / 1024) (first + count) ranges k) (omega arith)).1
-            (each k since to (omega arith) (omega arith)),
-      ) in
-      let good : AreGoodBare mode root outline first chunks (first + count) = subst (λ (j : ℕ). AreGoodBare mode root outline j chunks (first + count)) first_is good_bare in
+      let good : AreGoodBare mode root outline first chunks (first + count) = subst (λ (j : ℕ). AreGoodBare mode root outline j chunks (first + count)) first_is values in
       let last : 1024 * (first + count - 1 - first) + min 1024 (total - 1024 * (first + count - 1)) ≤ length chunks = (good (first + count - 1) (omega arith) (omega arith)).0 in
       let end = last_end total first count some within in
       let size : bare_len total start len ≡ bare_len total start (1024 * count) = len_counted total first count small some in

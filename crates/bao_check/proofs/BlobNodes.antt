@@ -1,5 +1,5 @@
 -- What a blob has at the nodes of a slice of it.
-use Rattle.std.proofs.Common.{◌≡◌, ◌⊎◌, ℕ, ◌+◌, ◌-◌, ◌*◌, ◌/◌, ◌<◌, ◌≤◌, ◌==◌, min, None, Some, List, [], ◌∷◌, ◌++◌, length, take, drop, true, false, refl, sym, ap, ◌∙◌, arith, inl, inr, length-drop}
+use Rattle.std.proofs.Common.{◌≡◌, ℕ, ◌+◌, ◌-◌, ◌*◌, ◌/◌, ◌<◌, ◌≤◌, ◌==◌, min, None, Some, List, [], ◌∷◌, ◌++◌, length, take, drop, true, false, refl, sym, ap, ◌∙◌, arith, inl, inr, length-drop}
 use Rattle.std.specs.List.{AllByRecursion, Contains, flat_map}
 use Rattle.std.specs.Option.{option_map}
 use Rattle.std.proofs.lemmas.Bool.{cases_Bool, cases_lt, eqb-true, lt-ltb}
@@ -15,6 +15,7 @@ use Rattle.bao_text.proofs.Everything.{wants_all}
 use Rattle.bao_text.proofs.Laws.{chosen_text-nodes}
 use Rattle.bao_text.proofs.SubtreeNodes.{parent_node, subtree_nodes-parent}
 use Rattle.bao_text.proofs.SubtreeText.{Parts, left_len-Parts}
+use Rattle.bao_check.specs.HasPart.{Inside}
 use Rattle.bao_check.specs.Laws.{NodesMakeSlice, known_at}
 use Rattle.bao_text.specs.NodeNames.{boundary}
 use Rattle.bao_check.specs.Parents.{find_parent, is_parent_at, parent_of}
@@ -23,6 +24,7 @@ use Rattle.bao_check.proofs.Lists.{All-from_members, All-member, Contains-head, 
 use Rattle.bao_check.proofs.Locating.{IsInside, boundaries_inside}
 use Rattle.bao_check.proofs.Parenting.{not_parent_at}
 use Rattle.bao_check.proofs.EachNode.{each_node}
+use Rattle.bao_check.proofs.Sizes.{Inside-far, Inside-near, Inside-whole, chunk_size}
 
 find_parent-first : (xs ys : List TreeNode) (m : ℕ) (node : TreeNode) → find_parent xs m ≡ Some node → find_parent (xs ++ ys) m ≡ Some node
 find_parent-first [] ys m node h = let bad : None ≡ Some node = h in cc
@@ -136,36 +138,11 @@ record IsChunkOf (total : ℕ) (node : TreeNode) : Type 0 where
 abbrev IsChunkIn : ℕ → TreeNode → Type 0
 IsChunkIn total node = node.is_chunk ≡ true → IsChunkOf total node
 
--- a subtree ends with the blob, or with a whole chunk before its end
-record IsPart (total number n : ℕ) : Type 0 where
-  below : number < chunk_count total
-  fits : 1024 * number + n ≤ total
-  ends : (1024 * number + n ≡ total) ⊎ ((0 < n) × (1024 * (n / 1024) ≡ n))
-
-part_len : (total number n : ℕ) → n ≤ 1024 → IsPart total number n → n ≡ min 1024 (total - 1024 * number)
-part_len total number n one is = elim is.ends [
-  | inl last ↦ omega arith
-  | inr whole ↦ let some : 0 < n = whole.0 in let e : 1024 * (n / 1024) ≡ n = whole.1 in omega (arith, some, e, is.fits)
-]
-
-near_part : (total number n : ℕ) → Parts n (left_len n) → IsPart total number n → IsPart total number (left_len n)
-near_part total number n parts is = record { below = is.below; fits = omega (arith, is.fits, parts.below); ends = inr (omega (arith, parts.some), parts.whole) }
-
-far_part : (total number n : ℕ) → Parts n (left_len n) → IsPart total number n → IsPart total (number + left_len n / 1024) (n - left_len n)
-far_part total number n parts is = record {
-  below = omega (arith, is.fits, parts.below, parts.whole);
-  fits = omega (arith, is.fits, parts.below, parts.whole);
-  ends = elim is.ends [
-    | inl last ↦ inl (omega (arith, parts.whole, parts.below))
-    | inr w ↦ let e : 1024 * (n / 1024) ≡ n = w.1 in inr (omega (arith, parts.below), omega (arith, e, parts.whole, parts.below))
-  ];
-}
-
-all_chunks : (total : ℕ) (choice : Choice) (number n : ℕ) (sides : List Side) (source : ℕ) → AllByRecursion (λ node. IsPart total number n → IsChunkIn total node) (subtree_nodes choice number n sides source)
-all_chunks total choice = each_node choice (λ number n sides source node. IsPart total number n → IsChunkIn total node)
-    (λ number n sides source wanted one kept is e. record { below = is.below; len_is = part_len total number n one is })
+all_chunks : (total : ℕ) (choice : Choice) (number n : ℕ) (sides : List Side) (source : ℕ) → AllByRecursion (λ node. Inside total number n → IsChunkIn total node) (subtree_nodes choice number n sides source)
+all_chunks total choice = each_node choice (λ number n sides source node. Inside total number n → IsChunkIn total node)
+    (λ number n sides source wanted one kept is e. record { below = omega (arith, is.within, is.some); len_is = sym (chunk_size total number n is one) })
     (λ number n sides source wanted more parts is e. let bad : false ≡ true = e in cc)
-    (λ number n sides source wanted more parts x member h is. h (near_part total number n parts is)) (λ number n sides source wanted more parts x member h is. h (far_part total number n parts is))
+    (λ number n sides source wanted more parts x member h is. h (Inside-near total number n more is)) (λ number n sides source wanted more parts x member h is. h (Inside-far total number n more is))
 
 -- the chunk of a slice of the blob is the blob's
 pub chunk_of-node : (mode : Mode) (blob : List ℕ) (choice : Choice) (node : TreeNode) → Contains (chosen_nodes choice (length blob)) node → node.is_chunk ≡ true
@@ -173,7 +150,7 @@ pub chunk_of-node : (mode : Mode) (blob : List ℕ) (choice : Choice) (node : Tr
 chunk_of-node mode blob choice node there chunk =
     let total : ℕ = length blob in
     let is : IsChunkOf total node =
-    All-member _ (chosen_nodes choice total) (all_chunks total choice 0 total [] 8) node there (record { below = omega arith; fits = omega arith; ends = inl (omega arith) }) chunk in
+    All-member _ (chosen_nodes choice total) (all_chunks total choice 0 total [] 8) node there (Inside-whole total) chunk in
     let rest : List ℕ = drop (1024 * node.number) blob in
     let size : length rest ≡ total - 1024 * node.number = length-drop (1024 * node.number) blob in
     let cut : take 1024 rest ≡ take node.len rest = elim (cases_lt 1024 (length rest)) [

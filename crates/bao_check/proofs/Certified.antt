@@ -1,5 +1,5 @@
 -- What an accepted encoding has as a chunk, it certifies.
-use Rattle.std.proofs.Common.{◌≡◌, ◌⊎◌, ℕ, zero, suc, ◌+◌, ◌-◌, ◌*◌, ◌/◌, ◌<◌, ◌≤◌, ◌==◌, ◌&&◌, None, Some, Bool, List, [], ◌∷◌, ◌++◌, length, take, drop, true, false, refl, sym, ap, subst, ◌∙◌, arith, inl, inr, length-drop}
+use Rattle.std.proofs.Common.{◌≡◌, ◌⊎◌, ℕ, ◌+◌, ◌-◌, ◌*◌, ◌/◌, ◌<◌, ◌≤◌, ◌==◌, ◌&&◌, None, Some, Bool, List, [], ◌∷◌, ◌++◌, length, take, drop, true, false, refl, sym, ap, subst, ◌∙◌, arith, inl, inr, length-drop}
 use Rattle.std.specs.List.{AllByRecursion, Contains}
 use Rattle.std.proofs.lemmas.Bool.{cases_Bool, cases_lt, eqb-true, le-ltb, lt-ltb}
 use Rattle.std.proofs.lemmas.List.{append-nil, length-take-le}
@@ -16,7 +16,8 @@ use Rattle.bao_text.specs.declared.choice.Choice.{Choice}
 use Rattle.bao_text.specs.Choice.{chunk_count, of_slice, wants}
 use Rattle.bao_text.specs.Cut.{claimed}
 use Rattle.bao_text.specs.Nodes.{TreeNode, Side, chosen_nodes, chunk_nodes, left, placed_nodes, right, size, subtree_nodes, subtree_size}
-use Rattle.bao_text.proofs.SubtreeNodes.{parent_node, subtree_nodes-leaf, subtree_nodes-unwanted}
+use Rattle.bao_text.proofs.Halves.{Far, Near, far_nodes, near_nodes}
+use Rattle.bao_text.proofs.SubtreeNodes.{parent_node, subtree_nodes-parent}
 use Rattle.bao_text.proofs.SubtreeText.{Parts, left_len-Parts}
 use Rattle.bao_check.specs.declared.asked.Asked.{Asked}
 use Rattle.bao_check.specs.Accepted.{IsAccepted, bytes_at, part_value, places_of, slice_nodes}
@@ -26,9 +27,10 @@ use Rattle.bao_check.specs.Pieces.{chunk_in}
 use Rattle.bao_check.specs.Steps.{steps_to}
 use Rattle.bao_check.specs.Walk.{AreGood, Meets}
 use Rattle.bao_check.proofs.Lists.{Contains-cons_cases, Contains-head, Contains-tail, nodes_size}
+use Rattle.bao_check.proofs.Locating.{count_left, count_parts}
 use Rattle.bao_check.proofs.Parts.{AreGood-split, PartsGood, below, placed_nodes-parent}
 use Rattle.bao_check.proofs.Stepping.{is_over-parent, steps_outside, steps_to-append}
-use Rattle.bao_check.proofs.EachNode.{chunk_node}
+use Rattle.bao_check.proofs.EachNode.{by_nodes, chunk_node}
 
 -- the way goes to the right there
 abbrev pub GoesRight : Step → Type 0
@@ -125,12 +127,6 @@ way-one asked mode text at number n sides source k bytes top one good there =
     (subst (Way asked mode text places number n number) same.1
     (way-here asked mode text at number n sides source top one good.0.0 (good.0.1.0 refl)))
 
--- no nodes have no chunk
-no_way : (asked : Asked) (sides : List Side) (mode : Mode) (text : List ℕ) (at number n k : ℕ) (bytes : List ℕ) (nodes : List TreeNode) → nodes ≡ []
-    → chunk_in text (placed_nodes at nodes) k ≡ Some bytes → Way asked mode text (placed_nodes at nodes) number n k bytes
-no_way asked sides mode text at number n k bytes nodes none there =
-    let bad : None ≡ Some bytes = ap (λ (xs : List TreeNode). chunk_in text (placed_nodes at xs) k) (sym none) ∙ there in cc
-
 way-chunk : (asked : Asked) (choice : Choice) (mode : Mode) (text : List ℕ) (at number n : ℕ) (sides : List Side) (source k : ℕ) (bytes : List ℕ)
     → asked.top ≡ is_top sides → n ≤ 1024
     → AreGood asked sides mode text at (chunk_nodes choice number n sides source)
@@ -143,25 +139,7 @@ way-chunk asked choice mode text at number n sides source k bytes top one good t
       | inl with_chunks ↦
           let node : chunk_nodes choice number n sides source ≡ chunk_node number n sides source ∷ [] = rw with_chunks refl in
           subst P (sym node) (way-one asked mode text at number n sides source k bytes top one) good there
-      | inr without ↦
-          let none : chunk_nodes choice number n sides source ≡ [] = rw without refl in
-          no_way asked sides mode text at number n k bytes (chunk_nodes choice number n sides source) none there
-    ]
-
-way-small : (asked : Asked) (choice : Choice) (mode : Mode) (text : List ℕ) (at number n : ℕ) (sides : List Side) (source k : ℕ) (bytes : List ℕ)
-    → asked.top ≡ is_top sides → n ≤ 1024
-    → AreGood asked sides mode text at (subtree_nodes choice number n sides source)
-    → chunk_in text (placed_nodes at (subtree_nodes choice number n sides source)) k ≡ Some bytes
-    → Way asked mode text (placed_nodes at (subtree_nodes choice number n sides source)) number n k bytes
-way-small asked choice mode text at number n sides source k bytes top one good there =
-    let P : List TreeNode → Type 0 = λ nodes. AreGood asked sides mode text at nodes → chunk_in text (placed_nodes at nodes) k ≡ Some bytes
-    → Way asked mode text (placed_nodes at nodes) number n k bytes in
-    elim (cases_Bool (wants choice (1024 * number) n)) [
-      | inr skipped ↦
-          no_way asked sides mode text at number n k bytes (subtree_nodes choice number n sides source) (subtree_nodes-unwanted choice number n sides source skipped) there
-      | inl wanted ↦
-          subst P (sym (subtree_nodes-leaf choice number n sides source wanted one))
-          (way-chunk asked choice mode text at number n sides source k bytes top one) good there
+      | inr without ↦ let none : None ≡ Some bytes = rw without at there in cc
     ]
 
 -- the compressions of a way from a parent on
@@ -190,15 +168,6 @@ pub text_inputs-far : (mode : Mode) (text : List ℕ) (near far : List (ℕ × T
 text_inputs-far mode text near far x h =
     subst (λ (xs : List Input). Contains xs x) (sym (flat_map-append (place_inputs mode text) near far))
     (Contains-append_right (text_inputs mode text near) (text_inputs mode text far) x h)
-
--- the chunks of the parts
-chunk_count-left : (n : ℕ) → 1024 < n → chunk_count (left_len n) ≡ left_len n / 1024
-chunk_count-left n more = let parts : Parts n (left_len n) = left_len-Parts n more in omega (arith, parts.whole, parts.some)
-
-chunk_count-parts : (n : ℕ) → 1024 < n → chunk_count n ≡ left_len n / 1024 + chunk_count (n - left_len n)
-chunk_count-parts n more =
-    let parts : Parts n (left_len n) = left_len-Parts n more in
-    omega (arith, parts.whole, parts.some, parts.below)
 
 -- each chunk of the left part is whole
 near_full : (number l k : ℕ) (bytes : List ℕ) → chunk_count l ≡ l / 1024 → 1024 * (l / 1024) ≡ l
@@ -230,8 +199,8 @@ way-near asked mode text at number n sides source k bytes near far top more ther
     let step : Step = record { parent = bs; side = left } in
     let first : place_inputs mode text q ≡ marked asked.top (step_input mode step) ∷ [] =
     ap (λ (t : Bool). marked t (step_input mode step) ∷ []) (sym top) in
-    let near_count : chunk_count l ≡ l / 1024 = chunk_count-left n more in
-    let count : chunk_count n ≡ l / 1024 + chunk_count (n - l) = chunk_count-parts n more in
+    let near_count : chunk_count l ≡ l / 1024 = count_left n more in
+    let count : chunk_count n ≡ l / 1024 + chunk_count (n - l) = count_parts n more in
     let some : 1 ≤ chunk_count (n - l) = omega arith in
     let inner : k + 1 ≤ number + l / 1024 = omega (arith, way.within) in
     let before : k < number + l / 1024 = omega (arith, inner) in
@@ -267,8 +236,8 @@ way-far asked mode text at number n sides source k bytes near far top more there
     let step : Step = record { parent = bs; side = right } in
     let first : place_inputs mode text q ≡ marked asked.top (step_input mode step) ∷ [] =
     ap (λ (t : Bool). marked t (step_input mode step) ∷ []) (sym top) in
-    let near_count : chunk_count l ≡ l / 1024 = chunk_count-left n more in
-    let count : chunk_count n ≡ l / 1024 + chunk_count (n - l) = chunk_count-parts n more in
+    let near_count : chunk_count l ≡ l / 1024 = count_left n more in
+    let count : chunk_count n ≡ l / 1024 + chunk_count (n - l) = count_parts n more in
     let some : 1 ≤ chunk_count (n - l) = omega arith in
     let over : steps_to text (q ∷ (near ++ far)) k ≡ step ∷ steps_to text (near ++ far) k =
     rw (is_over-parent number n k sides source (omega (arith, way.from)) (omega (arith, way.within)), le-ltb k (number + l / 1024) way.from) refl in
@@ -288,47 +257,44 @@ way-far asked mode text at number n sides source k bytes near far top more there
       ends = λ same. let end : 1024 * k + length bytes ≡ 1024 * (number + l / 1024) + (n - l) = way.ends (omega arith) in omega (arith, parts.whole, parts.below);
     }
 
--- by the number of levels
-way-levels : (levels : ℕ) (asked : Asked) (choice : Choice) (mode : Mode) (text : List ℕ) (at number n : ℕ) (sides : List Side) (source k : ℕ) (bytes : List ℕ)
-    → n ≤ 1024 * levels + 1024 → asked.top ≡ is_top sides
-    → AreGood asked sides mode text at (subtree_nodes choice number n sides source)
-    → chunk_in text (placed_nodes at (subtree_nodes choice number n sides source)) k ≡ Some bytes
-    → Way asked mode text (placed_nodes at (subtree_nodes choice number n sides source)) number n k bytes
-way-levels zero asked choice mode text at number n sides source k bytes hn top good there =
-    way-small asked choice mode text at number n sides source k bytes top (omega arith) good there
-way-levels (suc levels) asked choice mode text at number n sides source k bytes hn top good there = elim (cases_lt 1024 n) [
-  | inr one ↦ way-small asked choice mode text at number n sides source k bytes top one good there
-  | inl more ↦
-      elim (cases_Bool (wants choice (1024 * number) n)) [
-        | inr skipped ↦
-            no_way asked sides mode text at number n k bytes (subtree_nodes choice number n sides source) (subtree_nodes-unwanted choice number n sides source skipped) there
-        | inl wanted ↦
-            let l : ℕ = left_len n in
-            let parts : Parts n l = left_len-Parts n more in
-            let bs : List ℕ = take 64 (drop at text) in
-            let q : ℕ × TreeNode = (at, parent_node number n sides source) in
-            let near_nodes : List TreeNode = subtree_nodes choice number l (sides ++ left ∷ []) (source + 64) in
-            let far_nodes : List TreeNode = subtree_nodes choice (number + l / 1024) (n - l) (sides ++ right ∷ []) (source + 64 + subtree_size l) in
-            let near : List (ℕ × TreeNode) = placed_nodes (at + 64) near_nodes in
-            let far : List (ℕ × TreeNode) = placed_nodes (at + 64 + nodes_size near_nodes) far_nodes in
-            let places_are : placed_nodes at (subtree_nodes choice number n sides source) ≡ q ∷ (near ++ far) = placed_nodes-parent choice number n sides source at wanted more in
-            let both : PartsGood asked sides mode text at near_nodes far_nodes = AreGood-split asked choice mode text at number n sides source wanted more good in
-            let among : chunk_in text (near ++ far) k ≡ Some bytes = ap (λ (ps : List (ℕ × TreeNode)). chunk_in text ps k) (sym places_are) ∙ there in
-            subst (λ (ps : List (ℕ × TreeNode)). Way asked mode text ps number n k bytes) (sym places_are)
-            (elim (chunk_in-append text near far k bytes among) [
-              | inl here ↦
-                  way-near asked mode text at number n sides source k bytes near far top more both.there both.meets
-                  (λ before. steps_outside choice text (number + l / 1024) (n - l) (at + 64 + nodes_size near_nodes) k (source + 64 + subtree_size l) (sides ++ right ∷ []) (λ h. omega (arith, before, h.0)))
-                  (way-levels levels (below left bs) choice mode text (at + 64) number l (sides ++ left ∷ []) (source + 64) k bytes
-                  (omega (arith, parts.whole, parts.below)) (is_top-below sides left) both.near_good here)
-              | inr here ↦
-                  way-far asked mode text at number n sides source k bytes near far top more both.there both.meets
-                  (λ after. steps_outside choice text number l (at + 64) k (source + 64) (sides ++ left ∷ []) (λ h. omega (arith, after, h.1, chunk_count-left n more)))
-                  (way-levels levels (below right bs) choice mode text (at + 64 + nodes_size near_nodes) (number + l / 1024) (n - l) (sides ++ right ∷ []) (source + 64 + subtree_size l) k bytes
-                  (omega (arith, parts.some)) (is_top-below sides right) both.far_good here)
-            ])
-      ]
-]
+-- in each subtree
+module _ (choice : Choice) (mode : Mode) (text : List ℕ) (k : ℕ) (bytes : List ℕ) where
+  abbrev HasWay : ℕ → ℕ → List Side → ℕ → List TreeNode → Type 0
+  HasWay number n sides source nodes = (asked : Asked) (at : ℕ) → asked.top ≡ is_top sides → AreGood asked sides mode text at nodes → chunk_in text (placed_nodes at nodes) k ≡ Some bytes
+      → Way asked mode text (placed_nodes at nodes) number n k bytes
+
+  way-parent : (number n : ℕ) (sides : List Side) (source : ℕ) → wants choice (1024 * number) n ≡ true → 1024 < n → Parts n (left_len n)
+      → Near (λ i m way from. HasWay i m way from (subtree_nodes choice i m way from)) number n sides source → Far (λ i m way from. HasWay i m way from (subtree_nodes choice i m way from)) number n sides source
+      → HasWay number n sides source (parent_node number n sides source ∷ (near_nodes choice number n sides source ++ far_nodes choice number n sides source))
+  way-parent number n sides source wanted more parts in_near in_far asked at top good there =
+      let bs : List ℕ = take 64 (drop at text) in
+      let q : ℕ × TreeNode = (at, parent_node number n sides source) in
+      let nears : List TreeNode = near_nodes choice number n sides source in
+      let fars : List TreeNode = far_nodes choice number n sides source in
+      let near : List (ℕ × TreeNode) = placed_nodes (at + 64) nears in
+      let far : List (ℕ × TreeNode) = placed_nodes (at + 64 + nodes_size nears) fars in
+      let nodes_are : parent_node number n sides source ∷ (nears ++ fars) ≡ subtree_nodes choice number n sides source = sym (subtree_nodes-parent choice number n sides source wanted more) in
+      let places_are : placed_nodes at (parent_node number n sides source ∷ (nears ++ fars)) ≡ q ∷ (near ++ far) =
+      ap (placed_nodes at) nodes_are ∙ placed_nodes-parent choice number n sides source at wanted more in
+      let both : PartsGood asked sides mode text at nears fars = AreGood-split asked choice mode text at number n sides source wanted more (subst (AreGood asked sides mode text at) nodes_are good) in
+      let among : chunk_in text (near ++ far) k ≡ Some bytes = ap (λ (ps : List (ℕ × TreeNode)). chunk_in text ps k) (sym places_are) ∙ there in
+      subst (λ (ps : List (ℕ × TreeNode)). Way asked mode text ps number n k bytes) (sym places_are)
+      (elim (chunk_in-append text near far k bytes among) [
+        | inl here ↦
+            way-near asked mode text at number n sides source k bytes near far top more both.there both.meets
+            (λ before. steps_outside choice text (number + left_len n / 1024) (n - left_len n) (at + 64 + nodes_size nears) k (source + 64 + subtree_size (left_len n)) (sides ++ right ∷ []) (λ h. omega (arith, before, h.0)))
+            (in_near (below left bs) (at + 64) (is_top-below sides left) both.near_good here)
+        | inr here ↦
+            way-far asked mode text at number n sides source k bytes near far top more both.there both.meets
+            (λ after. steps_outside choice text number (left_len n) (at + 64) k (source + 64) (sides ++ left ∷ []) (λ h. omega (arith, after, h.1, count_left n more)))
+            (in_far (below right bs) (at + 64 + nodes_size nears) (is_top-below sides right) both.far_good here)
+      ])
+
+  has_way : (number n : ℕ) (sides : List Side) (source : ℕ) → HasWay number n sides source (subtree_nodes choice number n sides source)
+  has_way = by_nodes choice HasWay
+      (λ number n sides source unwanted asked at top good there. let none : None ≡ Some bytes = there in cc)
+      (λ number n sides source wanted one asked at top good there. way-chunk asked choice mode text at number n sides source k bytes top one good there)
+      way-parent
 
 -- A way down to the chunk that the encoding has there, made of the encoding's own compressions. By the length
 -- `total` of the blob the last chunk ends it, and each other is whole.
@@ -363,7 +329,7 @@ pub chosen_certified : (choice : Choice) (mode : Mode) (root text : List ℕ) (t
 chosen_certified choice mode root text total accepted number bytes there =
     let asked : Asked = record { top = true; value = record { 0 = words_of 8 root } } in
     let way : Way asked mode text (placed_nodes 8 (chosen_nodes choice total)) 0 total number bytes =
-    way-levels total asked choice mode text 8 0 total [] 8 number bytes (omega arith) refl accepted.good there in
+    has_way choice mode text number bytes 0 total [] 8 asked 8 refl accepted.good there in
     record {
       steps = way.steps;
       steps_are = way.steps_are;

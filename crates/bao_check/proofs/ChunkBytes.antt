@@ -4,7 +4,7 @@ use Rattle.std.proofs.Math.Seq.{take-add}
 use Rattle.std.specs.Option.{option_map}
 use Rattle.std.proofs.lemmas.Bool.{cases_lt}
 use Rattle.std.proofs.lemmas.Bool.Decides.{leb_tells}
-use Rattle.std.proofs.lemmas.List.{append-nil, append_assoc, drop-drop, drop_at, length-take-le, take-append-drop, take_all, take_at}
+use Rattle.std.proofs.lemmas.List.{append-nil, append_assoc, drop-append-le, drop-drop, drop_at, length-take-le, take-append-drop, take-append-le, take_all}
 use Rattle.std.proofs.lemmas.List.Sums.{sum_by-append}
 use Rattle.b3tree.specs.declared.mode.Mode.{Mode}
 use Rattle.b3tree.specs.Tree.{left_len}
@@ -19,7 +19,7 @@ use Rattle.bao_check.specs.declared.fault.CheckFault.TheVariants.{Short, Mismatc
 use Rattle.bao_check.specs.declared.part.Part.{Part}
 use Rattle.bao_check.specs.Checking.{IsNodeFault}
 use Rattle.bao_check.specs.Decoded.{Decodes, Kind, chunk_bytes, decoded, kind, kinds_size, subtree_kinds, waiting_kinds}
-use Rattle.bao_check.specs.Waiting.{AllPass, AllStop, CheckTask, HasRefused, HasRefusedIn, HasTaken, IsFaultAs, chunk_waits, is_chunk_first, last_part, next_size, part_size}
+use Rattle.bao_check.specs.Waiting.{AllCome, CheckTask, HasRefused, HasRefusedIn, HasTaken, IsFaultAs, chunk_waits, is_chunk_first, last_part, next_size, part_size}
 use Rattle.bao_check.specs.Whole.{HasWholeAhead}
 use Rattle.bao_check.specs.Walk.{Passes}
 use Rattle.bao_check.proofs.Feeding.{all_taken_from, ends, stands}
@@ -82,26 +82,14 @@ chunk_bytes-append (x ∷ xs) ys s =
     ∙ sym (append_assoc own (chunk_bytes xs (drop x.1 s)) (chunk_bytes ys (drop (kinds_size (x ∷ xs)) s)))
 
 -- those that are wholly there, whatever follows
-drop-within : (n : ℕ) (s more : List ℕ) → n ≤ length s → drop n (s ++ more) ≡ drop n s ++ more
-drop-within n s more within =
-    ap (λ (t : List ℕ). drop n (t ++ more)) (sym (take-append-drop n s))
-    ∙ ap (drop n) (append_assoc (take n s) (drop n s) more)
-    ∙ drop_at (take n s) (drop n s ++ more) n (length-take-le n s within)
-
-take-within : (n : ℕ) (s more : List ℕ) → n ≤ length s → take n (s ++ more) ≡ take n s
-take-within n s more within =
-    ap (λ (t : List ℕ). take n (t ++ more)) (sym (take-append-drop n s))
-    ∙ ap (take n) (append_assoc (take n s) (drop n s) more)
-    ∙ take_at (take n s) (drop n s ++ more) n (length-take-le n s within)
-
 pub chunk_bytes-within : (xs : List Kind) (s more : List ℕ) → kinds_size xs ≤ length s → chunk_bytes xs (s ++ more) ≡ chunk_bytes xs s
 chunk_bytes-within [] s more within = refl
 chunk_bytes-within (x ∷ xs) s more within =
     let fits : x.1 + kinds_size xs ≤ length s = omega (arith, kinds_size-cons x xs, within) in
     let own : (if x.0 then take x.1 (s ++ more) else []) ≡ (if x.0 then take x.1 s else []) =
-    ap (λ (t : List ℕ). if x.0 then t else []) (take-within x.1 s more (omega (arith, fits))) in
+    ap (λ (t : List ℕ). if x.0 then t else []) (take-append-le x.1 s more (omega (arith, fits))) in
     let rest : chunk_bytes xs (drop x.1 (s ++ more)) ≡ chunk_bytes xs (drop x.1 s) =
-    ap (chunk_bytes xs) (drop-within x.1 s more (omega (arith, fits))) ∙ chunk_bytes-within xs (drop x.1 s) more (omega (arith, fits, length-drop x.1 s)) in
+    ap (chunk_bytes xs) (drop-append-le x.1 s more (omega (arith, fits))) ∙ chunk_bytes-within xs (drop x.1 s) more (omega (arith, fits, length-drop x.1 s)) in
     (λ i. own i ++ rest i)
 
 pub chunk_bytes-one : (n : ℕ) (s : List ℕ) → chunk_bytes ((true, n) ∷ []) s ≡ take n s
@@ -166,12 +154,8 @@ waiting_kinds-put choice parts after part is = ap (waiting_kinds choice) is ∙ 
 
 -- nothing taken, and one after another
 pub taken_nothing : (mode : Mode) (choice : Choice) (parts : List Part) → HasTaken mode choice parts parts []
-taken_nothing mode choice parts = record {
-  passes = λ taken more end h.
-      subst (λ (s : List ℕ). AllPass mode choice parts ((taken ++ []) ++ more) (length s) end) (append-nil taken) h;
-  stops = λ taken more fault end h.
-      subst (λ (s : List ℕ). AllStop mode choice parts ((taken ++ []) ++ more) (length s) fault end) (append-nil taken) h;
-}
+taken_nothing mode choice parts =
+    record { comes = λ taken more o end h. subst (λ (s : List ℕ). AllCome mode choice parts ((taken ++ []) ++ more) (length s) o end) (append-nil taken) h }
 
 text_of_both : (taken one other more : List ℕ) → ((taken ++ one) ++ other) ++ more ≡ (taken ++ (one ++ other)) ++ more
 text_of_both taken one other more = ap (λ (s : List ℕ). s ++ more) (append_assoc taken one other)
@@ -182,20 +166,13 @@ text_of_first taken one other more = sym (append_assoc (taken ++ one) other more
 pub taken_both : (mode : Mode) (choice : Choice) (a b c : List Part) (one other : List ℕ) → HasTaken mode choice a b one → HasTaken mode choice b c other
     → HasTaken mode choice a c (one ++ other)
 taken_both mode choice a b c one other first second = record {
-  passes = λ taken more end h.
-      let later : AllPass mode choice c (((taken ++ one) ++ other) ++ more) (length ((taken ++ one) ++ other)) end =
-      subst (λ (T : Type 0). T) (λ i. AllPass mode choice c (sym (text_of_both taken one other more) i) (length (sym (append_assoc taken one other) i)) end) h in
-      let middle : AllPass mode choice b (((taken ++ one) ++ other) ++ more) (length (taken ++ one)) end = second.passes (taken ++ one) more end later in
-      subst (λ (s : List ℕ). AllPass mode choice a s (length taken) end) (text_of_first taken one other more)
-      (first.passes taken (other ++ more) end
-      (subst (λ (s : List ℕ). AllPass mode choice b s (length (taken ++ one)) end) (append_assoc (taken ++ one) other more) middle));
-  stops = λ taken more fault end h.
-      let later : AllStop mode choice c (((taken ++ one) ++ other) ++ more) (length ((taken ++ one) ++ other)) fault end =
-      subst (λ (T : Type 0). T) (λ i. AllStop mode choice c (sym (text_of_both taken one other more) i) (length (sym (append_assoc taken one other) i)) fault end) h in
-      let middle : AllStop mode choice b (((taken ++ one) ++ other) ++ more) (length (taken ++ one)) fault end = second.stops (taken ++ one) more fault end later in
-      subst (λ (s : List ℕ). AllStop mode choice a s (length taken) fault end) (text_of_first taken one other more)
-      (first.stops taken (other ++ more) fault end
-      (subst (λ (s : List ℕ). AllStop mode choice b s (length (taken ++ one)) fault end) (append_assoc (taken ++ one) other more) middle));
+  comes = λ taken more o end h.
+      let later : AllCome mode choice c (((taken ++ one) ++ other) ++ more) (length ((taken ++ one) ++ other)) o end =
+      subst (λ (T : Type 0). T) (λ i. AllCome mode choice c (sym (text_of_both taken one other more) i) (length (sym (append_assoc taken one other) i)) o end) h in
+      let middle : AllCome mode choice b (((taken ++ one) ++ other) ++ more) (length (taken ++ one)) o end = second.comes (taken ++ one) more o end later in
+      subst (λ (s : List ℕ). AllCome mode choice a s (length taken) o end) (text_of_first taken one other more)
+      (first.comes taken (other ++ more) o end
+      (subst (λ (s : List ℕ). AllCome mode choice b s (length (taken ++ one)) o end) (append_assoc (taken ++ one) other more) middle));
 }
 
 -- a node that is refused after others were taken
@@ -209,14 +186,14 @@ refused_later mode choice a b at used place size bytes fault within place_is tak
       let front : List ℕ = take used bytes in
       let end : ℕ = length (had ++ front) + size in
       let front_len : length (had ++ front) ≡ length had + used = omega (arith, length-append had front, length-take-le used bytes within) in
-      let here : AllStop mode choice b (((had ++ front) ++ drop used bytes) ++ more) (length (had ++ front)) fault end =
+      let here : AllCome mode choice b (((had ++ front) ++ drop used bytes) ++ more) (length (had ++ front)) (Some fault) end =
       refused.stops (had ++ front) more (omega (arith, front_len, at_is, place_is)) in
       let all : (had ++ front) ++ (drop used bytes ++ more) ≡ (had ++ bytes) ++ more =
       text_of_first had front (drop used bytes) more ∙ ap (λ (s : List ℕ). (had ++ s) ++ more) (take-append-drop used bytes) in (
         end,
-        subst (λ (s : List ℕ). AllStop mode choice a s (length had) fault end) all
-            (taken.stops had (drop used bytes ++ more) fault end
-            (subst (λ (s : List ℕ). AllStop mode choice b s (length (had ++ front)) fault end) (append_assoc (had ++ front) (drop used bytes) more) here)),
+        subst (λ (s : List ℕ). AllCome mode choice a s (length had) (Some fault) end) all
+            (taken.comes had (drop used bytes ++ more) (Some fault) end
+            (subst (λ (s : List ℕ). AllCome mode choice b s (length (had ++ front)) (Some fault) end) (append_assoc (had ++ front) (drop used bytes) more) here)),
       );
 }
 
@@ -228,7 +205,7 @@ refused_front mode choice parts at n size bytes fault within refused = record {
   stops = λ had more at_is.
       let all : (had ++ take n bytes) ++ (drop n bytes ++ more) ≡ (had ++ bytes) ++ more =
       text_of_first had (take n bytes) (drop n bytes) more ∙ ap (λ (s : List ℕ). (had ++ s) ++ more) (take-append-drop n bytes) in
-      subst (λ (s : List ℕ). AllStop mode choice parts s (length had) fault (length had + size)) all (refused.stops had (drop n bytes ++ more) at_is);
+      subst (λ (s : List ℕ). AllCome mode choice parts s (length had) (Some fault) (length had + size)) all (refused.stops had (drop n bytes ++ more) at_is);
 }
 
 pub decodes_nothing : (choice : Choice) (parts : List Part) → Decodes choice parts parts [] []
@@ -265,7 +242,6 @@ pub parent_decodes : (choice : Choice) (before rest after : List Part) (part : P
     → waiting_kinds choice after ≡ (subtree_kinds choice part.number (left_len part.len) ++ subtree_kinds choice (part.number + left_len part.len / 1024) (part.len - left_len part.len)) ++ waiting_kinds choice rest
     → Decodes choice before after node []
 parent_decodes choice before rest after part node is wanted parent len after_is = λ more.
-    let below : List Kind = subtree_kinds choice part.number (left_len part.len) ++ subtree_kinds choice (part.number + left_len part.len / 1024) (part.len - left_len part.len) in
     let kinds : waiting_kinds choice before ≡ (false, 64) ∷ waiting_kinds choice after =
     waiting_kinds-put choice rest before part is
     ∙ ap (λ (ks : List Kind). ks ++ waiting_kinds choice rest) (kinds-parent choice part.number part.len wanted parent)

@@ -20,7 +20,7 @@ use Rattle.bao_check.proofs.Locating.{and_false, chunk_place-leaf, chunk_place-u
 use Rattle.bao_check.proofs.Parenting.{outside_lacks, parent_place-here, parent_place-none, parent_place-unwanted}
 use Rattle.bao_check.proofs.Presence.{Meets, Meets-from_wants, chunk_far, chunk_near, far, near, parent_far, parent_near, wants-from_Meets}
 use Rattle.bao_check.proofs.Sizes.{nodes_size-whole}
-use Rattle.bao_check.proofs.WholeGood.{left_len-double}
+use Rattle.bao_text.proofs.EightChunks.{left_len-double}
 
 -- what is found alike where something is wanted
 found : {X : Type 0} (wanted : Bool) (x y : X) → (wanted ≡ true → x ≡ y) → then_some wanted x ≡ then_some wanted y

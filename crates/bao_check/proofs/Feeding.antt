@@ -25,7 +25,7 @@ use Rattle.bao_check.specs.declared.part.Part.{Part}
 use Rattle.bao_check.specs.Accepted.{part_value, slice_nodes}
 use Rattle.bao_check.specs.Checking.{IsNodeFault}
 use Rattle.bao_check.specs.Subtree.{PassesIn, StopsIn}
-use Rattle.bao_check.specs.Waiting.{AllPass, AllStop, AreParts, FirstPass, FirstStop, HasRefused, HasRefusedIn, HasTaken, IsBefore, IsAcceptedAs, IsFaultAs, IsStopAs, CheckTask, WaitsIn, last_part, next_size, part_size, shape}
+use Rattle.bao_check.specs.Waiting.{AllCome, AreParts, FirstComes, HasRefused, HasRefusedIn, HasTaken, IsBefore, IsAcceptedAs, IsFaultAs, IsStopAs, CheckTask, PartComes, WaitsIn, last_part, next_size, part_size, shape}
 use Rattle.bao_check.specs.Walk.{Meets, asked_root, chunk_at, parent_at}
 use Rattle.bao_check.specs.Whole.{StandsAt}
 use Rattle.bao_check.proofs.Parts.{below}
@@ -33,55 +33,51 @@ use Rattle.bao_check.proofs.Laws.{first_fault-not_accepted}
 use Rattle.bao_check.proofs.Sizes.{wants_whole}
 use Rattle.bao_check.proofs.Subtrees.{both_pass, claimed-append, far_part_stops, first_fault, near_part_stops, pass_chunk, pass_unwanted, stop_chunk, stop_parent, top_accepted, top_stopped, top_trailing}
 
+not_both : true ≡ false → ⊥
+not_both e = cc
+
+-- what a subtree comes to that nothing follows
+only_first : (asked : Asked) (number n : ℕ) (mode : Mode) (choice : Choice) (text : List ℕ) (at : ℕ) (o : Option CheckFault) (end : ℕ)
+    → FirstComes asked number n mode choice [] text at o end → PartComes asked mode choice number n text at o end
+only_first asked number n mode choice text at o end (inl h) = h.1
+only_first asked number n mode choice text at o end (inr h) =
+    subst (λ (x : Option CheckFault). PartComes asked mode choice number n text at x end) (sym h.2.0) (subst (λ (k : ℕ). PassesIn asked mode choice number n text at k) h.2.1 h.1)
+
 -- a part put last comes first
-pub AllPass-last : (mode : Mode) (choice : Choice) (parts : List Part) (part : Part) (text : List ℕ) (at end : ℕ)
-    → FirstPass part.asked part.number part.len mode choice parts text at end → AllPass mode choice (parts ++ part ∷ []) text at end
-AllPass-last mode choice [] part text at end h =
-    (at, refl, subst (λ (k : ℕ). PassesIn part.asked mode choice part.number part.len text at k) h.2 h.1)
-AllPass-last mode choice (first ∷ later) part text at end h =
-    (h.2.0, AllPass-last mode choice later part text at h.2.0 (h.0, h.1, h.2.1), h.2.2)
+pub AllCome-last : (mode : Mode) (choice : Choice) (parts : List Part) (part : Part) (text : List ℕ) (at : ℕ) (o : Option CheckFault) (end : ℕ)
+    → FirstComes part.asked part.number part.len mode choice parts text at o end → AllCome mode choice (parts ++ part ∷ []) text at o end
+AllCome-last mode choice [] part text at o end (inl h) = inr (at, (refl, refl), h.1)
+AllCome-last mode choice [] part text at o end (inr h) =
+    inr (at, (refl, refl), only_first part.asked part.number part.len mode choice text at o end (inr h))
+AllCome-last mode choice (first ∷ later) part text at o end (inl h) = inl (h.0, AllCome-last mode choice later part text at o end (inl h))
+AllCome-last mode choice (first ∷ later) part text at o end (inr (middle, passes, inl h)) =
+    inl (h.0, AllCome-last mode choice later part text at o end (inr (middle, passes, h.1)))
+AllCome-last mode choice (first ∷ later) part text at o end (inr (middle, passes, inr h)) =
+    inr (h.0, AllCome-last mode choice later part text at None h.0 (inr (middle, passes, h.1)), h.2)
 
-pub AllPass-first : (mode : Mode) (choice : Choice) (parts : List Part) (part : Part) (text : List ℕ) (at end : ℕ)
-    → AllPass mode choice (parts ++ part ∷ []) text at end → FirstPass part.asked part.number part.len mode choice parts text at end
-AllPass-first mode choice [] part text at end h =
-    (end, subst (λ (k : ℕ). PassesIn part.asked mode choice part.number part.len text k end) (sym h.1) h.2, refl)
-AllPass-first mode choice (first ∷ later) part text at end h =
-    let r : FirstPass part.asked part.number part.len mode choice later text at h.0 = AllPass-first mode choice later part text at h.0 h.1 in
-    (r.0, r.1, (h.0, r.2, h.2))
-
-pub AllStop-last : (mode : Mode) (choice : Choice) (parts : List Part) (part : Part) (text : List ℕ) (at : ℕ) (fault : CheckFault) (end : ℕ)
-    → FirstStop part.asked part.number part.len mode choice parts text at fault end → AllStop mode choice (parts ++ part ∷ []) text at fault end
-AllStop-last mode choice [] part text at fault end (inl h) = inr (at, refl, h)
-AllStop-last mode choice [] part text at fault end (inr h) = absurd h.2
-AllStop-last mode choice (first ∷ later) part text at fault end (inl h) = inl (AllStop-last mode choice later part text at fault end (inl h))
-AllStop-last mode choice (first ∷ later) part text at fault end (inr (middle, passes, inl h)) = inl (AllStop-last mode choice later part text at fault end (inr (middle, passes, h)))
-AllStop-last mode choice (first ∷ later) part text at fault end (inr (middle, passes, inr h)) =
-    inr (h.0, AllPass-last mode choice later part text at h.0 (middle, passes, h.1), h.2)
-
-pub AllStop-first : (mode : Mode) (choice : Choice) (parts : List Part) (part : Part) (text : List ℕ) (at : ℕ) (fault : CheckFault) (end : ℕ)
-    → AllStop mode choice (parts ++ part ∷ []) text at fault end → FirstStop part.asked part.number part.len mode choice parts text at fault end
-AllStop-first mode choice [] part text at fault end (inl h) = absurd h
-AllStop-first mode choice [] part text at fault end (inr h) =
-    inl (subst (λ (k : ℕ). StopsIn part.asked mode choice part.number part.len text k fault end) (sym h.1) h.2)
-AllStop-first mode choice (first ∷ later) part text at fault end (inl h) = elim (AllStop-first mode choice later part text at fault end h) [
+pub AllCome-first : (mode : Mode) (choice : Choice) (parts : List Part) (part : Part) (text : List ℕ) (at : ℕ) (o : Option CheckFault) (end : ℕ)
+    → AllCome mode choice (parts ++ part ∷ []) text at o end → FirstComes part.asked part.number part.len mode choice parts text at o end
+AllCome-first mode choice [] part text at o end (inl h) = absurd (not_both (sym h.0 ∙ ap (λ (x : Option CheckFault). is_some x) h.1.0))
+AllCome-first mode choice [] part text at None end (inr h) =
+    inr (end, subst (λ (k : ℕ). PassesIn part.asked mode choice part.number part.len text k end) (sym h.1.1) h.2, (refl, refl))
+AllCome-first mode choice [] part text at (Some fault) end (inr h) =
+    inl (refl, subst (λ (k : ℕ). StopsIn part.asked mode choice part.number part.len text k fault end) (sym h.1.1) h.2)
+AllCome-first mode choice (first ∷ later) part text at o end (inl h) = elim (AllCome-first mode choice later part text at o end h.1) [
   | inl own ↦ inl own
-  | inr rest ↦ inr (rest.0, rest.1, inl rest.2)
+  | inr rest ↦ inr (rest.0, rest.1, inl (h.0, rest.2))
 ]
-AllStop-first mode choice (first ∷ later) part text at fault end (inr h) =
-    let r : FirstPass part.asked part.number part.len mode choice later text at h.0 = AllPass-first mode choice later part text at h.0 h.1 in
-    inr (r.0, r.1, inr (h.0, r.2, h.2))
+AllCome-first mode choice (first ∷ later) part text at o end (inr h) = elim (AllCome-first mode choice later part text at None h.0 h.1) [
+  | inl never ↦ absurd (not_both (sym never.0))
+  | inr rest ↦ inr (rest.0, rest.1, inr (h.0, rest.2, h.2))
+]
 
 pub before_unwanted : (choice : Choice) (asked : Asked) (number n : ℕ) (parts : List Part) → wants choice (1024 * number) n ≡ false → IsBefore choice asked number n parts parts
-before_unwanted choice asked number n parts skipped = record {
-  passes = λ mode text at end inside h. (at, pass_unwanted asked mode choice number n text at inside skipped, h);
-  stops = λ mode text at fault end inside h. inr (at, pass_unwanted asked mode choice number n text at inside skipped, h);
-}
+before_unwanted choice asked number n parts skipped =
+    record { comes = λ mode text at o end inside h. inr (at, pass_unwanted asked mode choice number n text at inside skipped, h) }
 
 pub before_last : (choice : Choice) (parts after : List Part) (part : Part) → after ≡ parts ++ part ∷ [] → IsBefore choice part.asked part.number part.len parts after
-before_last choice parts after part is = record {
-  passes = λ mode text at end inside h. AllPass-first mode choice parts part text at end (subst (λ (ps : List Part). AllPass mode choice ps text at end) is h);
-  stops = λ mode text at fault end inside h. AllStop-first mode choice parts part text at fault end (subst (λ (ps : List Part). AllStop mode choice ps text at fault end) is h);
-}
+before_last choice parts after part is =
+    record { comes = λ mode text at o end inside h. AllCome-first mode choice parts part text at o end (subst (λ (ps : List Part). AllCome mode choice ps text at o end) is h) }
 
 -- the shapes of parts with one more
 pub shapes_last : (parts after : List Part) (part : Part) → after ≡ parts ++ part ∷ [] → map shape after ≡ map shape parts ++ shape part ∷ []
@@ -160,15 +156,18 @@ module _ (asked : Asked) (mode : Mode) (choice : Choice) (number n : ℕ) (taken
           both_pass asked mode choice number n text here wanted parent near far (left_len n) refl fits met near_asks far_asks middle end
           (subst (λ (k : ℕ). PassesIn near mode choice number (left_len n) text k middle) (ends taken node 64 len) first) second
 
-      pub second_stops : (middle : ℕ) (fault : CheckFault) (end : ℕ) → PassesIn near mode choice number (left_len n) text (length (taken ++ node)) middle
-          → StopsIn far mode choice (number + left_len n / 1024) (n - left_len n) text middle fault end → StopsIn asked mode choice number n text here fault end
-      second_stops middle fault end first second =
+      -- or a part of it stops
+      pub second_stops : (middle : ℕ) (o : Option CheckFault) (end : ℕ) → is_some o ≡ true → PassesIn near mode choice number (left_len n) text (length (taken ++ node)) middle
+          → PartComes far mode choice (number + left_len n / 1024) (n - left_len n) text middle o end → PartComes asked mode choice number n text here o end
+      second_stops middle None end some first second = absurd (not_both (sym some))
+      second_stops middle (Some fault) end some first second =
           far_part_stops asked mode choice number n text here wanted parent near far (left_len n) refl fits met near_asks far_asks middle fault end
           (subst (λ (k : ℕ). PassesIn near mode choice number (left_len n) text k middle) (ends taken node 64 len) first) second
 
-      pub first_stops : (fault : CheckFault) (end : ℕ) → StopsIn near mode choice number (left_len n) text (length (taken ++ node)) fault end
-          → StopsIn asked mode choice number n text here fault end
-      first_stops fault end first =
+      pub first_stops : (o : Option CheckFault) (end : ℕ) → is_some o ≡ true → PartComes near mode choice number (left_len n) text (length (taken ++ node)) o end
+          → PartComes asked mode choice number n text here o end
+      first_stops None end some first = absurd (not_both (sym some))
+      first_stops (Some fault) end some first =
           near_part_stops asked mode choice number n text here wanted parent near far (left_len n) refl fits met near_asks far_asks fault end
           (subst (λ (k : ℕ). StopsIn near mode choice number (left_len n) text k fault end) (ends taken node 64 len) first)
 
@@ -177,12 +176,9 @@ pub all_taken_from : (mode : Mode) (choice : Choice) (before after : List Part) 
     → ((taken more : List ℕ) → PassesIn part.asked mode choice part.number part.len ((taken ++ node) ++ more) (length taken) (length (taken ++ node)))
     → HasTaken mode choice before after node
 all_taken_from mode choice before after part node is here = record {
-  passes = λ taken more end h.
-      subst (λ (ps : List Part). AllPass mode choice ps ((taken ++ node) ++ more) (length taken) end) (sym is)
-      (AllPass-last mode choice after part ((taken ++ node) ++ more) (length taken) end (length (taken ++ node), here taken more, h));
-  stops = λ taken more fault end h.
-      subst (λ (ps : List Part). AllStop mode choice ps ((taken ++ node) ++ more) (length taken) fault end) (sym is)
-      (AllStop-last mode choice after part ((taken ++ node) ++ more) (length taken) fault end (inr (length (taken ++ node), here taken more, h)));
+  comes = λ taken more o end h.
+      subst (λ (ps : List Part). AllCome mode choice ps ((taken ++ node) ++ more) (length taken) o end) (sym is)
+      (AllCome-last mode choice after part ((taken ++ node) ++ more) (length taken) o end (inr (length (taken ++ node), here taken more, h)));
 }
 
 -- one node taken: a chunk
@@ -205,23 +201,15 @@ parent_taken_from mode choice before rest middle after part node near far is wan
     let stopped_first = λ (taken more : List ℕ). first_stops part.asked mode choice part.number part.len taken node more wanted parent near far len meets near_is far_is in
     let inside : (taken more : List ℕ) → length (taken ++ node) ≤ length ((taken ++ node) ++ more) = λ taken more. omega (arith, length-append (taken ++ node) more) in
     record {
-      passes = λ taken more end h.
+      comes = λ taken more o end h.
           let text : List ℕ = (taken ++ node) ++ more in
-          let a : FirstPass near part.number (left_len part.len) mode choice middle text (length (taken ++ node)) end =
-          first.passes mode text (length (taken ++ node)) end (inside taken more) h in
-          let b : FirstPass far (part.number + left_len part.len / 1024) (part.len - left_len part.len) mode choice rest text a.0 end =
-          second.passes mode text a.0 end a.1.within a.2 in
-          subst (λ (ps : List Part). AllPass mode choice ps text (length taken) end) (sym is)
-          (AllPass-last mode choice rest part text (length taken) end (b.0, passed taken more a.0 b.0 a.1 b.1, b.2));
-      stops = λ taken more fault end h.
-          let text : List ℕ = (taken ++ node) ++ more in
-          subst (λ (ps : List Part). AllStop mode choice ps text (length taken) fault end) (sym is)
-          (AllStop-last mode choice rest part text (length taken) fault end
-          (elim (first.stops mode text (length (taken ++ node)) fault end (inside taken more) h) [
-            | inl one ↦ inl (stopped_first taken more fault end one)
+          subst (λ (ps : List Part). AllCome mode choice ps text (length taken) o end) (sym is)
+          (AllCome-last mode choice rest part text (length taken) o end
+          (elim (first.comes mode text (length (taken ++ node)) o end (inside taken more) h) [
+            | inl one ↦ inl (one.0, stopped_first taken more o end one.0 one.1)
             | inr a ↦
-                elim (second.stops mode text a.0 fault end a.1.within a.2) [
-                  | inl one ↦ inl (stopped_second taken more a.0 fault end a.1 one)
+                elim (second.comes mode text a.0 o end a.1.within a.2) [
+                  | inl one ↦ inl (one.0, stopped_second taken more a.0 o end one.0 a.1 one.1)
                   | inr b ↦ inr (b.0, passed taken more a.0 b.0 a.1 b.1, b.2)
                 ]
           ]));
@@ -236,9 +224,9 @@ WaitsIn-taken task choice before after taken node step waits more =
     let old : WaitsIn task choice before text (length taken) =
     subst (λ (s : List ℕ). WaitsIn task choice before s (length taken)) (sym (append_assoc taken node more)) (waits (node ++ more)) in
     record {
-      accepted = λ end h all. old.accepted end (step.passes taken more end h) all;
-      trailing = λ end h less. old.trailing end (step.passes taken more end h) less;
-      stopped = λ fault end h. old.stopped fault end (step.stops taken more fault end h);
+      accepted = λ end h all. old.accepted end (step.comes taken more None end h) all;
+      trailing = λ end h less. old.trailing end (step.comes taken more None end h) less;
+      stopped = λ fault end h. old.stopped fault end (step.comes taken more (Some fault) end h);
     }
 
 -- one that hasn't the value asked for is the first fault
@@ -249,9 +237,9 @@ part_refused mode choice before after part node at is wrong = record {
   is = refl;
   stops = λ taken more at_is.
       let end : ℕ = length taken + length node in
-      subst (λ (ps : List Part). AllStop mode choice ps ((taken ++ node) ++ more) (length taken) (Mismatch at) end) (sym is)
-      (AllStop-last mode choice after part ((taken ++ node) ++ more) (length taken) (Mismatch at) end
-      (inl (subst (λ (k : ℕ). StopsIn part.asked mode choice part.number part.len ((taken ++ node) ++ more) (length taken) (Mismatch k) end) (sym at_is) (wrong taken more))));
+      subst (λ (ps : List Part). AllCome mode choice ps ((taken ++ node) ++ more) (length taken) (Some (Mismatch at)) end) (sym is)
+      (AllCome-last mode choice after part ((taken ++ node) ++ more) (length taken) (Some (Mismatch at)) end
+      (inl (refl, subst (λ (k : ℕ). StopsIn part.asked mode choice part.number part.len ((taken ++ node) ++ more) (length taken) (Mismatch k) end) (sym at_is) (wrong taken more))));
 }
 
 pub chunk_refused : (mode : Mode) (choice : Choice) (before after : List Part) (part : Part) (node : List ℕ) (at : ℕ) → before ≡ after ++ part ∷ []
@@ -321,9 +309,6 @@ first_part choice parts part n all last next =
     let size : n ≡ part_size part = cc in
     first_of choice parts part n all last size
 
-not_both : true ≡ false → ⊥
-not_both e = cc
-
 pub wrong_from : (b : Bool) (P : Type 0) → (P → b ≡ true) → b ≡ false → ¬ P
 wrong_from b P tells off p = not_both (sym (tells p) ∙ off)
 
@@ -337,12 +322,12 @@ none_waits (x ∷ xs) none =
 
 pub waits_accepted : (task : CheckTask) (choice : Choice) (parts : List Part) (text : List ℕ) (at : ℕ) → IsNone (next_size parts) → WaitsIn task choice parts text at → length text ≤ at → IsAcceptedAs task text
 waits_accepted task choice parts text at none w all =
-    w.accepted at (subst (λ (ps : List Part). AllPass task.mode choice ps text at at) (sym (none_waits parts none)) refl) all
+    w.accepted at (subst (λ (ps : List Part). AllCome task.mode choice ps text at None at) (sym (none_waits parts none)) (refl, refl)) all
 
 pub waits_trailing : (task : CheckTask) (choice : Choice) (parts : List Part) (text : List ℕ) (at : ℕ) → IsNone (next_size parts) → WaitsIn task choice parts text at → at < length text
     → IsFaultAs task text (Trailing at)
 waits_trailing task choice parts text at none w less =
-    w.trailing at (subst (λ (ps : List Part). AllPass task.mode choice ps text at at) (sym (none_waits parts none)) refl) less
+    w.trailing at (subst (λ (ps : List Part). AllCome task.mode choice ps text at None at) (sym (none_waits parts none)) (refl, refl)) less
 
 -- an encoding that ends within the node that comes next is short there
 part_short : (mode : Mode) (choice : Choice) (parts : List Part) (part : Part) (n : ℕ) (taken more : List ℕ) → First choice parts part n → choice.chunks ≡ true → length more < n
@@ -361,9 +346,9 @@ waits_stop task choice parts taken more n all there next less w =
     let first : First choice parts found.0 n = first_of choice parts found.0 n all found.1 found.2 in
     let fault : CheckFault = Short (length taken) in
     w.stopped fault (length taken + n)
-    (subst (λ (ps : List Part). AllStop task.mode choice ps (taken ++ more) (length taken) fault (length taken + n)) (sym first.is)
-    (AllStop-last task.mode choice (take (length parts - 1) parts) found.0 (taken ++ more) (length taken) fault (length taken + n)
-    (inl (subst (λ (s : List ℕ). StopsIn found.0.asked task.mode choice found.0.number found.0.len s (length taken) fault (length taken + n)) (append-nil (taken ++ more))
+    (subst (λ (ps : List Part). AllCome task.mode choice ps (taken ++ more) (length taken) (Some fault) (length taken + n)) (sym first.is)
+    (AllCome-last task.mode choice (take (length parts - 1) parts) found.0 (taken ++ more) (length taken) (Some fault) (length taken + n)
+    (inl (refl, subst (λ (s : List ℕ). StopsIn found.0.asked task.mode choice found.0.number found.0.len s (length taken) fault (length taken + n)) (append-nil (taken ++ more))
     (part_short task.mode choice parts found.0 n taken more first there less)))))
 
 pub fault_as : (task : CheckTask) (text : List ℕ) (fault : CheckFault) (end : ℕ) → IsStopAs task text fault end → IsFaultAs task text fault
@@ -408,21 +393,16 @@ module _ (mode : Mode) (root : List ℕ) (start len total : ℕ) (choice : Choic
   claims : total ≡ claimed (header ++ more)
   claims = is ∙ sym (claimed-append header more (omega (arith, size)))
 
-  waits_for : ((end : ℕ) → AllPass mode choice parts (header ++ more) 8 end → PassesIn asked mode choice 0 total (header ++ more) 8 end)
-      → ((fault : CheckFault) (end : ℕ) → AllStop mode choice parts (header ++ more) 8 fault end → StopsIn asked mode choice 0 total (header ++ more) 8 fault end)
+  waits_for : ((o : Option CheckFault) (end : ℕ) → AllCome mode choice parts (header ++ more) 8 o end → PartComes asked mode choice 0 total (header ++ more) 8 o end)
       → WaitsIn own_task choice parts (header ++ more) 8
-  waits_for passes stops = record {
-    accepted = λ end h all. top_accepted mode root (header ++ more) (Slice start len) total choice asked long claims chosen asks end (passes end h) all;
-    trailing = λ end h less. top_trailing mode root (header ++ more) (Slice start len) total choice asked long claims chosen asks end (passes end h) less;
-    stopped = λ fault end h. top_stopped mode root (header ++ more) (Slice start len) total choice asked long claims chosen asks fault end (stops fault end h);
+  waits_for comes = record {
+    accepted = λ end h all. top_accepted mode root (header ++ more) (Slice start len) total choice asked long claims chosen asks end (comes None end h) all;
+    trailing = λ end h less. top_trailing mode root (header ++ more) (Slice start len) total choice asked long claims chosen asks end (comes None end h) less;
+    stopped = λ fault end h. top_stopped mode root (header ++ more) (Slice start len) total choice asked long claims chosen asks fault end (comes (Some fault) end h);
   }
 
   pub begun_waits : IsBefore choice asked 0 total [] parts → WaitsIn own_task choice parts (header ++ more) 8
-  begun_waits before =
-      waits_for
-      (λ end h. let f : FirstPass asked 0 total mode choice [] (header ++ more) 8 end = before.passes mode (header ++ more) 8 end long h in
-      subst (λ (k : ℕ). PassesIn asked mode choice 0 total (header ++ more) 8 k) f.2 f.1)
-      (λ fault end h. elim (before.stops mode (header ++ more) 8 fault end long h) [ inl own_stop ↦ own_stop | inr other ↦ absurd other.2 ])
+  begun_waits before = waits_for (λ o end h. only_first asked 0 total mode choice (header ++ more) 8 o end (before.comes mode (header ++ more) 8 o end long h))
 
   module _ (empty : total ≡ 0) where
     wanted_empty : wants choice (1024 * 0) total ≡ true
@@ -446,9 +426,8 @@ module _ (mode : Mode) (root : List ℕ) (start len total : ℕ) (choice : Choic
         let here : PassesIn asked mode choice 0 total (header ++ more) 8 8 =
         subst (PassesIn asked mode choice 0 total (header ++ more) 8) ends_there
         (pass_chunk asked mode choice 0 total (header ++ more) 8 wanted_empty small chunks_there (omega (arith, empty, long)) (subst (Meets asked) no_bytes meets)) in
-        waits_for
-        (λ end h. subst (λ (k : ℕ). PassesIn asked mode choice 0 total (header ++ more) 8 k) (subst (λ (ps : List Part). AllPass mode choice ps (header ++ more) 8 end) none h) here)
-        (λ fault end h. absurd (subst (λ (ps : List Part). AllStop mode choice ps (header ++ more) 8 fault end) none h))
+        waits_for (λ o end h.
+        only_first asked 0 total mode choice (header ++ more) 8 o end (inr (8, here, subst (λ (ps : List Part). AllCome mode choice ps (header ++ more) 8 o end) none h)))
 
     pub empty_refused : ¬ Meets asked (last_chunk_input mode 0 []) → IsStopAs own_task (header ++ more) (Mismatch 8) 8
     empty_refused wrong =

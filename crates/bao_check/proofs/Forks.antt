@@ -1,10 +1,10 @@
 -- What an encoding has of a subtree, at its top: a chunk, a parent and its two parts, or nothing.
-use Rattle.std.proofs.Common.{◌≡◌, ℕ, ◌+◌, ◌-◌, ◌*◌, ◌/◌, ◌<◌, ◌≤◌, max, None, Some, Bool, List, [], ◌∷◌, ◌++◌, length, take, drop, true, false, refl, sym, ap, subst, ◌∙◌, arith, inl, inr, length-drop}
-use Rattle.std.specs.Prelude.{nat_lt}
+use Rattle.std.proofs.Common.{◌≡◌, ℕ, ◌+◌, ◌-◌, ◌*◌, ◌/◌, ◌<◌, ◌≤◌, None, Some, Bool, List, [], ◌∷◌, ◌++◌, length, take, drop, true, false, refl, sym, ap, subst, ◌∙◌, arith, inl, inr, length-drop}
 use Rattle.std.specs.List.{Contains}
 use Rattle.std.specs.Option.{option_map}
-use Rattle.std.proofs.lemmas.Bool.{and_from, and_parts, cases_Bool, lt-ltb, ltb-true}
+use Rattle.std.proofs.lemmas.Bool.{cases_Bool}
 use Rattle.std.proofs.lemmas.List.{length-take-le}
+use Rattle.std.proofs.lemmas.List.Elements.{Contains-append_left}
 use Rattle.b3word.specs.declared.input.Input.{Input}
 use Rattle.b3word.specs.Compression.{cv}
 use Rattle.b3tree.specs.declared.mode.Mode.{Mode}
@@ -20,18 +20,19 @@ use Rattle.bao_text.specs.Nodes.{TreeNode, left, placed_nodes, right, subtree_no
 use Rattle.bao_text.proofs.SubtreeNodes.{parent_node, subtree_nodes-parent, subtree_nodes-unwanted}
 use Rattle.bao_text.proofs.SubtreeText.{Parts, left_len-Parts}
 use Rattle.bao_check.specs.Accepted.{IsAccepted, part_value, places_of, slice_nodes}
-use Rattle.bao_check.specs.HasPart.{HasPart, part_nodes}
-use Rattle.bao_check.specs.Inputs.{is_top, marked, text_inputs}
-use Rattle.bao_check.specs.Parents.{parent_in}
+use Rattle.bao_check.specs.HasPart.{HasPart, asked_of, part_nodes}
+use Rattle.bao_check.specs.Inputs.{is_top, marked, text_inputs, whole_chunk}
+use Rattle.bao_check.specs.Parents.{parent_in, parent_place}
 use Rattle.bao_check.specs.Pieces.{chunk_in}
+use Rattle.bao_check.specs.Spans.{chunk_place}
 use Rattle.bao_check.specs.Walk.{AreGood}
-use Rattle.bao_check.specs.Ways.{asked_of}
 use Rattle.bao_check.proofs.Certified.{is_top-below, same_chunk, text_inputs-far, text_inputs-near}
 use Rattle.bao_check.proofs.Lists.{Contains-head, Contains-tail, nodes_size}
-use Rattle.bao_check.proofs.Locating.{chunk_in-place, chunk_place-far, chunk_place-near, count_parts}
-use Rattle.bao_check.proofs.Parenting.{parent_in-place, parent_place-far, parent_place-here, parent_place-near}
+use Rattle.bao_check.proofs.Locating.{chunk_in-place, count_parts}
+use Rattle.bao_check.proofs.Parenting.{parent_in-place, parent_place-here}
 use Rattle.bao_check.proofs.Parts.{AreGood-split, PartsGood, placed_nodes-parent}
-use Rattle.bao_check.proofs.EachNode.{chunk_node, leaf_nodes}
+use Rattle.bao_check.proofs.EachNode.{chunk_node, leaf_nodes, leaf_without}
+use Rattle.bao_check.proofs.Presence.{chunk_far, chunk_near, far_unwanted, near_unwanted, parent_far, parent_near}
 
 -- the input that a parent's bytes make
 abbrev pub input_of : Mode → List ℕ → Input
@@ -50,29 +51,6 @@ part_whole mode root text start len accepted = record {
   parents_are = λ m low high. refl;
   inputs_are = λ x h. h;
 }
-
--- a wanted part is of a wanted subtree
-wants_near : (choice : Choice) (at l n : ℕ) → l ≤ n → wants choice at n ≡ false → wants choice at l ≡ false
-wants_near choice at l n le skipped = elim (cases_Bool (wants choice at l)) [
-  | inr other ↦ other
-  | inl wanted ↦
-      let w = and_parts (nat_lt at choice.end) (nat_lt choice.start (at + max l 1)) wanted in
-      let from : choice.start < at + max l 1 = ltb-true choice.start (at + max l 1) w.1 in
-      let bad : true ≡ false = sym (and_from (nat_lt at choice.end) (nat_lt choice.start (at + max n 1)) w.0 (lt-ltb choice.start (at + max n 1) (omega (arith, from)))) ∙ skipped in
-      cc
-]
-
-wants_far : (choice : Choice) (at l n : ℕ) → l < n → wants choice at n ≡ false → wants choice (at + l) (n - l) ≡ false
-wants_far choice at l n less skipped = elim (cases_Bool (wants choice (at + l) (n - l))) [
-  | inr other ↦ other
-  | inl wanted ↦
-      let w = and_parts (nat_lt (at + l) choice.end) (nat_lt choice.start (at + l + max (n - l) 1)) wanted in
-      let before : at + l < choice.end = ltb-true (at + l) choice.end w.0 in
-      let from : choice.start < at + l + max (n - l) 1 = ltb-true choice.start (at + l + max (n - l) 1) w.1 in
-      let bad : true ≡ false = sym (and_from (nat_lt at choice.end) (nat_lt choice.start (at + max n 1)) (lt-ltb at choice.end (omega (arith, before)))
-      (lt-ltb choice.start (at + max n 1) (omega (arith, from)))) ∙ skipped in
-      cc
-]
 
 no_inputs : (x : Input) → Contains [] x → ⊥
 no_inputs x h = omega (arith, h.1)
@@ -105,24 +83,34 @@ module _ (mode : Mode) (choice : Choice) (text : List ℕ) (places : List (ℕ �
   abbrev all_nodes : List TreeNode
   all_nodes = subtree_nodes choice first n part.sides part.source
 
+  chunk_same : (k : ℕ) → first ≤ k → k < first + chunk_count n → chunk_in text places k ≡ chunk_in text (placed_nodes part.at all_nodes) k
+  chunk_same k low high =
+      chunk_in-place text places k ∙ ap (option_map (λ span. take span.len (drop span.at text))) (part.chunks_are k low high)
+      ∙ sym (chunk_in-place text (placed_nodes part.at all_nodes) k)
+
+  parent_same : (m : ℕ) → first < m → m < first + chunk_count n → parent_in text places m ≡ parent_in text (placed_nodes part.at all_nodes) m
+  parent_same m low high =
+      parent_in-place text places m ∙ ap (option_map (λ at. take 64 (drop at text))) (part.parents_are m low high) ∙ sym (parent_in-place text (placed_nodes part.at all_nodes) m)
+
   -- at a chunk
-  module _ (with_chunks : choice.chunks ≡ true) (one : n ≤ 1024) (bytes : List ℕ) (there : chunk_in text places first ≡ Some bytes) where
+  module _ (one : n ≤ 1024) (bytes : List ℕ) (there : chunk_in text places first ≡ Some bytes) where
     some : first < first + chunk_count n
     some = omega arith
 
     local : chunk_in text (placed_nodes part.at all_nodes) first ≡ Some bytes
-    local = sym (part.chunks_are first (omega arith) some) ∙ there
-
-    wanted_leaf : wants choice (1024 * first) n ≡ true
-    wanted_leaf = elim (cases_Bool (wants choice (1024 * first) n)) [
-      | inl wanted ↦ wanted
-      | inr skipped ↦
-          let bad : None ≡ Some bytes =
-          ap (λ (xs : List TreeNode). chunk_in text (placed_nodes part.at xs) first) (sym (subtree_nodes-unwanted choice first n part.sides part.source skipped)) ∙ local in cc
-    ]
+    local = sym (chunk_same first (omega arith) some) ∙ there
 
     node : all_nodes ≡ chunk_node first n part.sides part.source ∷ []
-    node = leaf_nodes choice first n part.sides part.source wanted_leaf one with_chunks
+    node =
+        let none : all_nodes ≡ [] → ⊥ = λ gone. let bad : None ≡ Some bytes = ap (λ (xs : List TreeNode). chunk_in text (placed_nodes part.at xs) first) (sym gone) ∙ local in cc in
+        elim (cases_Bool (wants choice (1024 * first) n)) [
+          | inr skipped ↦ absurd (none (subtree_nodes-unwanted choice first n part.sides part.source skipped))
+          | inl wanted ↦
+              elim (cases_Bool choice.chunks) [
+                | inr without ↦ absurd (none (leaf_without choice first n part.sides part.source wanted one without))
+                | inl with_chunks ↦ leaf_nodes choice first n part.sides part.source wanted one with_chunks
+              ]
+        ]
 
     own_good : AreGood (asked_of top value) part.sides mode text part.at (chunk_node first n part.sides part.source ∷ [])
     own_good = subst (λ (xs : List TreeNode). AreGood (asked_of top value) part.sides mode text part.at xs) node part.good
@@ -138,6 +126,13 @@ module _ (mode : Mode) (choice : Choice) (text : List ℕ) (places : List (ℕ �
       size = sym (ap length bytes_are) ∙ length-take-le n (drop part.at text) (omega (arith, own_good.0.0, length-drop part.at text));
     }
 
+    -- its inputs are the encoding's
+    pub leaf_inputs : (x : Input) → Contains (whole_chunk top mode first bytes) x → Contains (text_inputs mode text places) x
+    leaf_inputs x h =
+        let own : List Input = whole_chunk (is_top part.sides) mode first (take n (drop part.at text)) in
+        part.inputs_are x (subst (λ (xs : List TreeNode). Contains (text_inputs mode text (placed_nodes part.at xs)) x) (sym node)
+        (Contains-append_left own [] x (subst (λ (xs : List Input). Contains xs x) (λ i. whole_chunk (part.top_is i) mode first (sym bytes_are i)) h)))
+
   -- at more than a chunk
   module _ (more : 1024 < n) where
     abbrev middle : ℕ
@@ -149,11 +144,14 @@ module _ (mode : Mode) (choice : Choice) (text : List ℕ) (places : List (ℕ �
     abbrev far_nodes : List TreeNode
     far_nodes = subtree_nodes choice middle (n - left_len n) (part.sides ++ right ∷ []) (part.source + 64 + subtree_size (left_len n))
 
+    abbrev far_at : ℕ
+    far_at = part.at + 64 + nodes_size near_nodes
+
     abbrev near : List (ℕ × TreeNode)
     near = placed_nodes (part.at + 64) near_nodes
 
     abbrev far : List (ℕ × TreeNode)
-    far = placed_nodes (part.at + 64 + nodes_size near_nodes) far_nodes
+    far = placed_nodes far_at far_nodes
 
     abbrev own : ℕ × TreeNode
     own = (part.at, parent_node first n part.sides part.source)
@@ -170,14 +168,38 @@ module _ (mode : Mode) (choice : Choice) (text : List ℕ) (places : List (ℕ �
     some_near : 0 < left_len n / 1024
     some_near = omega (arith, parts.whole, parts.some)
 
+    -- where it has the chunks and parents of the two parts
+    near_chunks : (k : ℕ) → first ≤ k → k < first + chunk_count (left_len n) → chunk_place places k ≡ chunk_place near k
+    near_chunks k low high = part.chunks_are k low (omega (arith, high, counts, near_counts)) ∙ chunk_near choice first n part.sides part.source part.at more k (omega (arith, high, near_counts))
+
+    near_parents : (m : ℕ) → first < m → m < first + chunk_count (left_len n) → parent_place places m ≡ parent_place near m
+    near_parents m low high = part.parents_are m low (omega (arith, high, counts, near_counts)) ∙ parent_near choice first n part.sides part.source part.at more m (omega (arith, high, near_counts))
+
+    far_chunks : (k : ℕ) → middle ≤ k → k < middle + chunk_count (n - left_len n) → chunk_place places k ≡ chunk_place far k
+    far_chunks k low high = part.chunks_are k (omega (arith, low)) (omega (arith, high, counts)) ∙ chunk_far choice first n part.sides part.source part.at more k low
+
+    far_parents : (m : ℕ) → middle < m → m < middle + chunk_count (n - left_len n) → parent_place places m ≡ parent_place far m
+    far_parents m low high = part.parents_are m (omega (arith, low)) (omega (arith, high, counts)) ∙ parent_far choice first n part.sides part.source part.at more m low
+
     here : parent_in text places middle ≡ parent_in text (placed_nodes part.at all_nodes) middle
-    here = part.parents_are middle (omega (arith, some_near)) (omega (arith, counts))
+    here = parent_same middle (omega (arith, some_near)) (omega (arith, counts))
 
     known_here : wants choice (1024 * first) n ≡ true → parent_in text places middle ≡ Some (take 64 (drop part.at text))
     known_here wanted =
         here
         ∙ parent_in-place text (placed_nodes part.at all_nodes) middle
         ∙ ap (option_map (λ at. take 64 (drop at text))) (parent_place-here choice first n part.sides part.source part.at middle wanted more refl)
+
+    -- it has this parent where it has a chunk
+    pub fork_there : (number : ℕ) (bytes : List ℕ) → first ≤ number → number < first + chunk_count n → chunk_in text places number ≡ Some bytes
+        → parent_in text places middle ≡ Some (take 64 (drop part.at text))
+    fork_there number bytes low high there = elim (cases_Bool (wants choice (1024 * first) n)) [
+      | inl wanted ↦ known_here wanted
+      | inr skipped ↦
+          let bad : None ≡ Some bytes =
+          ap (λ (xs : List TreeNode). chunk_in text (placed_nodes part.at xs) number) (sym (subtree_nodes-unwanted choice first n part.sides part.source skipped))
+          ∙ sym (chunk_same number low high) ∙ there in cc
+    ]
 
     -- where it has no parent
     module _ (none : parent_in text places middle ≡ None) where
@@ -190,22 +212,12 @@ module _ (mode : Mode) (choice : Choice) (text : List ℕ) (places : List (ℕ �
       none_here : all_nodes ≡ []
       none_here = subtree_nodes-unwanted choice first n part.sides part.source skipped
 
-      no_chunks : (k : ℕ) → first ≤ k → k < first + chunk_count n → chunk_in text places k ≡ None
-      no_chunks k low high = part.chunks_are k low high ∙ ap (λ (xs : List TreeNode). chunk_in text (placed_nodes part.at xs) k) none_here
-
-      no_parents : (m : ℕ) → first < m → m < first + chunk_count n → parent_in text places m ≡ None
-      no_parents m low high = part.parents_are m low high ∙ ap (λ (xs : List TreeNode). parent_in text (placed_nodes part.at xs) m) none_here
-
       none_near : near_nodes ≡ []
-      none_near = subtree_nodes-unwanted choice first (left_len n) (part.sides ++ left ∷ []) (part.source + 64)
-          (wants_near choice (1024 * first) (left_len n) n (omega (arith, parts.below)) skipped)
-
-      place : 1024 * first + left_len n ≡ 1024 * middle
-      place = omega (arith, parts.whole)
+      none_near = subtree_nodes-unwanted choice first (left_len n) (part.sides ++ left ∷ []) (part.source + 64) (near_unwanted choice first n part.sides part.source part.at more skipped)
 
       none_far : far_nodes ≡ []
       none_far = subtree_nodes-unwanted choice middle (n - left_len n) (part.sides ++ right ∷ []) (part.source + 64 + subtree_size (left_len n))
-          (subst (λ (at : ℕ). wants choice at (n - left_len n) ≡ false) place (wants_far choice (1024 * first) (left_len n) n parts.below skipped))
+          (far_unwanted choice first n part.sides part.source part.at more skipped)
 
       pub no_fork : NoFork part
       no_fork = record {
@@ -216,23 +228,19 @@ module _ (mode : Mode) (choice : Choice) (text : List ℕ) (places : List (ℕ �
           at = part.at + 64;
           top_is = is_top-below part.sides left;
           good = subst (λ (xs : List TreeNode). AreGood (asked_of false other) (part.sides ++ left ∷ []) mode text (part.at + 64) xs) (sym none_near) tt;
-          chunks_are = λ k low high. no_chunks k low (omega (arith, high, counts, near_counts))
-              ∙ ap (λ (xs : List TreeNode). chunk_in text (placed_nodes (part.at + 64) xs) k) (sym none_near);
-          parents_are = λ m low high. no_parents m low (omega (arith, high, counts, near_counts))
-              ∙ ap (λ (xs : List TreeNode). parent_in text (placed_nodes (part.at + 64) xs) m) (sym none_near);
+          chunks_are = near_chunks;
+          parents_are = near_parents;
           inputs_are = λ x h. absurd (no_inputs x (subst (λ (xs : List TreeNode). Contains (text_inputs mode text (placed_nodes (part.at + 64) xs)) x) none_near h));
         };
         far = λ other. record {
           sides = part.sides ++ right ∷ [];
           source = part.source + 64 + subtree_size (left_len n);
-          at = part.at + 64;
+          at = far_at;
           top_is = is_top-below part.sides right;
-          good = subst (λ (xs : List TreeNode). AreGood (asked_of false other) (part.sides ++ right ∷ []) mode text (part.at + 64) xs) (sym none_far) tt;
-          chunks_are = λ k low high. no_chunks k (omega (arith, low)) (omega (arith, high, counts))
-              ∙ ap (λ (xs : List TreeNode). chunk_in text (placed_nodes (part.at + 64) xs) k) (sym none_far);
-          parents_are = λ m low high. no_parents m (omega (arith, low)) (omega (arith, high, counts))
-              ∙ ap (λ (xs : List TreeNode). parent_in text (placed_nodes (part.at + 64) xs) m) (sym none_far);
-          inputs_are = λ x h. absurd (no_inputs x (subst (λ (xs : List TreeNode). Contains (text_inputs mode text (placed_nodes (part.at + 64) xs)) x) none_far h));
+          good = subst (λ (xs : List TreeNode). AreGood (asked_of false other) (part.sides ++ right ∷ []) mode text far_at xs) (sym none_far) tt;
+          chunks_are = far_chunks;
+          parents_are = far_parents;
+          inputs_are = λ x h. absurd (no_inputs x (subst (λ (xs : List TreeNode). Contains (text_inputs mode text (placed_nodes far_at xs)) x) none_far h));
         };
       }
 
@@ -271,16 +279,8 @@ module _ (mode : Mode) (choice : Choice) (text : List ℕ) (places : List (ℕ �
         at = part.at + 64;
         top_is = is_top-below part.sides left;
         good = subst (λ (p : List ℕ). AreGood (asked_of false (part_value left p)) (part.sides ++ left ∷ []) mode text (part.at + 64) near_nodes) parent_is split.near_good;
-        chunks_are = λ k low high.
-            part.chunks_are k low (omega (arith, high, counts, near_counts))
-            ∙ chunk_in-place text (placed_nodes part.at all_nodes) k
-            ∙ ap (option_map (λ span. take span.len (drop span.at text))) (chunk_place-near choice first n part.sides part.source part.at k wanted more (omega (arith, high, near_counts)))
-            ∙ sym (chunk_in-place text near k);
-        parents_are = λ m low high.
-            part.parents_are m low (omega (arith, high, counts, near_counts))
-            ∙ parent_in-place text (placed_nodes part.at all_nodes) m
-            ∙ ap (option_map (λ at. take 64 (drop at text))) (parent_place-near choice first n part.sides part.source part.at m wanted more (omega (arith, high, near_counts)))
-            ∙ sym (parent_in-place text near m);
+        chunks_are = near_chunks;
+        parents_are = near_parents;
         inputs_are = λ x h. further x (text_inputs-near mode text near far x h);
       }
 
@@ -288,19 +288,11 @@ module _ (mode : Mode) (choice : Choice) (text : List ℕ) (places : List (ℕ �
       far_part = record {
         sides = part.sides ++ right ∷ [];
         source = part.source + 64 + subtree_size (left_len n);
-        at = part.at + 64 + nodes_size near_nodes;
+        at = far_at;
         top_is = is_top-below part.sides right;
-        good = subst (λ (p : List ℕ). AreGood (asked_of false (part_value right p)) (part.sides ++ right ∷ []) mode text (part.at + 64 + nodes_size near_nodes) far_nodes) parent_is split.far_good;
-        chunks_are = λ k low high.
-            part.chunks_are k (omega (arith, low)) (omega (arith, high, counts))
-            ∙ chunk_in-place text (placed_nodes part.at all_nodes) k
-            ∙ ap (option_map (λ span. take span.len (drop span.at text))) (chunk_place-far choice first n part.sides part.source part.at k wanted more low)
-            ∙ sym (chunk_in-place text far k);
-        parents_are = λ m low high.
-            part.parents_are m (omega (arith, low)) (omega (arith, high, counts))
-            ∙ parent_in-place text (placed_nodes part.at all_nodes) m
-            ∙ ap (option_map (λ at. take 64 (drop at text))) (parent_place-far choice first n part.sides part.source part.at m wanted more low)
-            ∙ sym (parent_in-place text far m);
+        good = subst (λ (p : List ℕ). AreGood (asked_of false (part_value right p)) (part.sides ++ right ∷ []) mode text far_at far_nodes) parent_is split.far_good;
+        chunks_are = far_chunks;
+        parents_are = far_parents;
         inputs_are = λ x h. further x (text_inputs-far mode text near far x h);
       }
 

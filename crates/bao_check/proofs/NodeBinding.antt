@@ -26,11 +26,11 @@ use Rattle.bao_text.proofs.SubtreeNodes.{parent_node, subtree_nodes-unwanted}
 use Rattle.bao_text.proofs.SubtreeText.{Parts}
 use Rattle.bao_text.proofs.TextNodes.{length-span, span, span-left, span-right}
 use Rattle.bao_check.specs.Accepted.{IsAccepted, bytes_at, part_value, places_of, slice_nodes}
+use Rattle.bao_check.specs.HasPart.{asked_of}
 use Rattle.bao_check.specs.Inputs.{NamesCollision, is_top, marked, text_inputs, whole_chunk}
 use Rattle.bao_check.specs.Laws.{ParentBinds}
 use Rattle.bao_check.specs.Parents.{is_parent_at, parent_in}
 use Rattle.bao_check.specs.Walk.{AreGood}
-use Rattle.bao_check.specs.Ways.{asked_of}
 use Rattle.bao_check.proofs.Binding.{left_there, length-part_value, parent_there, right_there, top_parent}
 use Rattle.bao_check.proofs.BlobNodes.{parent_of-node}
 use Rattle.bao_check.proofs.Certified.{is_top-below, text_inputs-far, text_inputs-near}

@@ -10,22 +10,16 @@ use Rattle.bao_text.specs.declared.choice.Choice.{Choice}
 use Rattle.bao_text.specs.Choice.{chunk_count, of_outboard, wants}
 use Rattle.bao_text.specs.Cut.{claimed}
 use Rattle.bao_text.specs.Nodes.{TreeNode, Side, left, placed_nodes, right, subtree_nodes, subtree_size}
-use Rattle.bao_text.proofs.SubtreeNodes.{parent_node, subtree_nodes-leaf, subtree_nodes-unwanted}
+use Rattle.bao_text.proofs.Halves.{far_nodes, near_nodes}
+use Rattle.bao_text.proofs.SubtreeNodes.{parent_node, subtree_nodes-unwanted}
 use Rattle.bao_text.proofs.SubtreeText.{Parts, left_len-Parts}
 use Rattle.bao_check.specs.Accepted.{IsAccepted, bytes_at, outboard_nodes, part_value, places_of}
 use Rattle.bao_check.specs.Leaves.{WantsParents}
 use Rattle.bao_check.specs.Pieces.{HasLeaf, IsLeafValue}
+use Rattle.bao_check.proofs.EachNode.{leaf_without}
 use Rattle.bao_check.proofs.Lists.{Contains-cons_cases, Contains-head, Contains-tail, nodes_size}
 use Rattle.bao_check.proofs.Parts.{placed_nodes-parent}
 use Rattle.bao_check.proofs.Sizes.{nodes_size-without_chunks, wants_whole}
-
--- the nodes of the two parts of a subtree
-abbrev near_nodes : Choice → ℕ → ℕ → List Side → ℕ → List TreeNode
-near_nodes choice number n sides source = subtree_nodes choice number (left_len n) (sides ++ left ∷ []) (source + 64)
-
-abbrev far_nodes : Choice → ℕ → ℕ → List Side → ℕ → List TreeNode
-far_nodes choice number n sides source =
-    subtree_nodes choice (number + left_len n / 1024) (n - left_len n) (sides ++ right ∷ []) (source + 64 + subtree_size (left_len n))
 
 -- the choice has all parents of both parts
 pub near-WantsParents : (choice : Choice) (number n : ℕ) → 1024 < n → WantsParents choice number n → WantsParents choice number (left_len n)
@@ -72,37 +66,28 @@ leaf-top text i choice number n sides source at side more all over =
     (record { parent = top; side = side; there = Contains-head (near ++ far) top; over = over; value_is = refl })
 
 -- or a parent of one of the parts has it
+leaf-among : (text : List ℕ) (i : ℕ) (value : List ℕ) (own all : List (ℕ × TreeNode)) → ((p : ℕ × TreeNode) → Contains own p → Contains all p) → IsLeafValue text own i value → IsLeafValue text all i value
+leaf-among text i value own all more h = record { parent = h.parent; side = h.side; there = more h.parent h.there; over = h.over; value_is = h.value_is }
+
 pub leaf-near : (text : List ℕ) (i : ℕ) (value : List ℕ) (choice : Choice) (number n : ℕ) (sides : List Side) (source at : ℕ) → 1024 < n → WantsParents choice number n
     → IsLeafValue text (placed_nodes (at + 64) (near_nodes choice number n sides source)) i value
     → IsLeafValue text (placed_nodes at (subtree_nodes choice number n sides source)) i value
-leaf-near text i value choice number n sides source at more all h =
-    let top : ℕ × TreeNode = (at, parent_node number n sides source) in
+leaf-near text i value choice number n sides source at more all =
     let near : List (ℕ × TreeNode) = placed_nodes (at + 64) (near_nodes choice number n sides source) in
     let far : List (ℕ × TreeNode) = placed_nodes (at + 64 * (left_len n / 1024)) (far_nodes choice number n sides source) in
-    subst (λ (ps : List (ℕ × TreeNode)). IsLeafValue text ps i value) (sym (parent-places choice number n sides source at more all))
-    (record {
-      parent = h.parent;
-      side = h.side;
-      there = Contains-tail (near ++ far) top h.parent (Contains-append_left near far h.parent h.there);
-      over = h.over;
-      value_is = h.value_is;
-    })
+    leaf-among text i value near (placed_nodes at (subtree_nodes choice number n sides source)) (λ p h.
+    subst (λ (ps : List (ℕ × TreeNode)). Contains ps p) (sym (parent-places choice number n sides source at more all))
+    (Contains-tail (near ++ far) (at, parent_node number n sides source) p (Contains-append_left near far p h)))
 
 pub leaf-far : (text : List ℕ) (i : ℕ) (value : List ℕ) (choice : Choice) (number n : ℕ) (sides : List Side) (source at : ℕ) → 1024 < n → WantsParents choice number n
     → IsLeafValue text (placed_nodes (at + 64 * (left_len n / 1024)) (far_nodes choice number n sides source)) i value
     → IsLeafValue text (placed_nodes at (subtree_nodes choice number n sides source)) i value
-leaf-far text i value choice number n sides source at more all h =
-    let top : ℕ × TreeNode = (at, parent_node number n sides source) in
+leaf-far text i value choice number n sides source at more all =
     let near : List (ℕ × TreeNode) = placed_nodes (at + 64) (near_nodes choice number n sides source) in
     let far : List (ℕ × TreeNode) = placed_nodes (at + 64 * (left_len n / 1024)) (far_nodes choice number n sides source) in
-    subst (λ (ps : List (ℕ × TreeNode)). IsLeafValue text ps i value) (sym (parent-places choice number n sides source at more all))
-    (record {
-      parent = h.parent;
-      side = h.side;
-      there = Contains-tail (near ++ far) top h.parent (Contains-append_right near far h.parent h.there);
-      over = h.over;
-      value_is = h.value_is;
-    })
+    leaf-among text i value far (placed_nodes at (subtree_nodes choice number n sides source)) (λ p h.
+    subst (λ (ps : List (ℕ × TreeNode)). Contains ps p) (sym (parent-places choice number n sides source at more all))
+    (Contains-tail (near ++ far) (at, parent_node number n sides source) p (Contains-append_right near far p h)))
 
 -- the value of chunk i in a subtree of at most so many levels of parents
 leaf_within : ℕ → List ℕ → ℕ → ℕ → ℕ → ℕ → List ℕ
@@ -176,7 +161,7 @@ within-far levels text i number n at value more h =
 no_parents : (choice : Choice) (number n : ℕ) (sides : List Side) (source : ℕ) → n ≤ 1024 → choice.chunks ≡ false → subtree_nodes choice number n sides source ≡ []
 no_parents choice number n sides source one without = elim (cases_Bool (wants choice (1024 * number) n)) [
   | inr skipped ↦ subtree_nodes-unwanted choice number n sides source skipped
-  | inl wanted ↦ subtree_nodes-leaf choice number n sides source wanted one ∙ rw without refl
+  | inl wanted ↦ leaf_without choice number n sides source wanted one without
 ]
 
 -- so no place is among them

@@ -47,11 +47,12 @@ placed_nodes-All P at [] all = tt
 placed_nodes-All P at (node ∷ nodes) all = (all.0, placed_nodes-All P (at + size node) nodes all.1)
 
 -- the places `own` are those of the part on side d of the parent q, among the places ps
-record IsPart (sides : List Side) (d : Side) (ps : List (ℕ × TreeNode)) (q : ℕ × TreeNode) (own : List (ℕ × TreeNode)) : Type 0 where
-  parent_there : Contains ps q
-  parent_sides : q.1.sides ≡ sides
-  own_there : (a : ℕ × TreeNode) → Contains own a → Contains ps a
-  others : (a : ℕ × TreeNode) → Contains ps a → (a ≡ q) ⊎ (Contains own a ⊎ ((e : Side) × (e ≢ d) × Extends (sides ++ e ∷ []) a.1.sides))
+pub record IsPart (sides : List Side) (d : Side) (ps : List (ℕ × TreeNode)) (q : ℕ × TreeNode) (own : List (ℕ × TreeNode)) : Type 0 where
+  pub parent_there : Contains ps q
+  pub parent_sides : q.1.sides ≡ sides
+  pub own_there : (a : ℕ × TreeNode) → Contains own a → Contains ps a
+  pub on : AllByRecursion (λ place. Extends (sides ++ d ∷ []) place.1.sides) own
+  pub others : (a : ℕ × TreeNode) → Contains ps a → (a ≡ q) ⊎ (Contains own a ⊎ ((e : Side) × (e ≢ d) × Extends (sides ++ e ∷ []) a.1.sides))
 
 -- what a place of the part asks for, seen from the whole and seen from the part
 down : (asked : Asked) (sides : List Side) (d : Side) (mode : Mode) (text : List ℕ) (ps own : List (ℕ × TreeNode)) (q p : ℕ × TreeNode) → IsPart sides d ps q own
@@ -116,11 +117,12 @@ pub record Tree (sides : List Side) (q : ℕ × TreeNode) (near far : List (ℕ 
 pub left_right : left ≢ right
 left_right e = cc
 
-near_part : (sides : List Side) (q : ℕ × TreeNode) (near far : List (ℕ × TreeNode)) → Tree sides q near far → IsPart sides left (q ∷ (near ++ far)) q near
+pub near_part : (sides : List Side) (q : ℕ × TreeNode) (near far : List (ℕ × TreeNode)) → Tree sides q near far → IsPart sides left (q ∷ (near ++ far)) q near
 near_part sides q near far tree = record {
   parent_there = Contains-head (near ++ far) q;
   parent_sides = tree.top;
   own_there = λ a h. Contains-tail (near ++ far) q a (Contains-append_left near far a h);
+  on = tree.near_on;
   others = λ a h. elim (Contains-cons_cases (near ++ far) q a h) [
     | inl same ↦ inl same
     | inr rest ↦
@@ -131,11 +133,12 @@ near_part sides q near far tree = record {
   ];
 }
 
-far_part : (sides : List Side) (q : ℕ × TreeNode) (near far : List (ℕ × TreeNode)) → Tree sides q near far → IsPart sides right (q ∷ (near ++ far)) q far
+pub far_part : (sides : List Side) (q : ℕ × TreeNode) (near far : List (ℕ × TreeNode)) → Tree sides q near far → IsPart sides right (q ∷ (near ++ far)) q far
 far_part sides q near far tree = record {
   parent_there = Contains-head (near ++ far) q;
   parent_sides = tree.top;
   own_there = λ a h. Contains-tail (near ++ far) q a (Contains-append_right near far a h);
+  on = tree.far_on;
   others = λ a h. elim (Contains-cons_cases (near ++ far) q a h) [
     | inl same ↦ inl same
     | inr rest ↦
@@ -156,31 +159,23 @@ all_on sides q near far tree a h = elim (Contains-cons_cases (near ++ far) q a h
       ]
 ]
 
--- a good place of a part is one of the whole
-pub near_good : (asked : Asked) (sides : List Side) (mode : Mode) (text : List ℕ) (q : ℕ × TreeNode) (near far : List (ℕ × TreeNode)) → Tree sides q near far
-    → (p : ℕ × TreeNode) → Contains near p → IsGoodIn (below left (bytes_at text q)) (sides ++ left ∷ []) mode text near p → IsGoodIn asked sides mode text (q ∷ (near ++ far)) p
-near_good asked sides mode text q near far tree p there h = (
-  h.0,
-  up asked sides left mode text (q ∷ (near ++ far)) near q p (near_part sides q near far tree)
-      (All-member (λ place. Extends (sides ++ left ∷ []) place.1.sides) near tree.near_on p there) h.1,
-)
+module _ (asked : Asked) (sides : List Side) (d : Side) (mode : Mode) (text : List ℕ) (ps own : List (ℕ × TreeNode)) (q : ℕ × TreeNode) (part : IsPart sides d ps q own) where
+  abbrev IsOwnGood : ℕ × TreeNode → Type 0
+  IsOwnGood p = IsGoodIn (below d (bytes_at text q)) (sides ++ d ∷ []) mode text own p
 
-pub far_good : (asked : Asked) (sides : List Side) (mode : Mode) (text : List ℕ) (q : ℕ × TreeNode) (near far : List (ℕ × TreeNode)) → Tree sides q near far
-    → (p : ℕ × TreeNode) → Contains far p → IsGoodIn (below right (bytes_at text q)) (sides ++ right ∷ []) mode text far p → IsGoodIn asked sides mode text (q ∷ (near ++ far)) p
-far_good asked sides mode text q near far tree p there h = (
-  h.0,
-  up asked sides right mode text (q ∷ (near ++ far)) far q p (far_part sides q near far tree)
-      (All-member (λ place. Extends (sides ++ right ∷ []) place.1.sides) far tree.far_on p there) h.1,
-)
+  -- a good place of a part is one of the whole
+  pub part_good : (p : ℕ × TreeNode) → Contains own p → IsOwnGood p → IsGoodIn asked sides mode text ps p
+  part_good p there h = (h.0, up asked sides d mode text ps own q p part (All-member (λ place. Extends (sides ++ d ∷ []) place.1.sides) own part.on p there) h.1)
 
--- and one that isn't, isn't
-pub near_bad : (asked : Asked) (sides : List Side) (mode : Mode) (text : List ℕ) (q : ℕ × TreeNode) (near far : List (ℕ × TreeNode)) → Tree sides q near far
-    → (p : ℕ × TreeNode) → ¬ IsAskedIn (below left (bytes_at text q)) (sides ++ left ∷ []) mode text near p → ¬ IsAskedIn asked sides mode text (q ∷ (near ++ far)) p
-near_bad asked sides mode text q near far tree p bad h = bad (down asked sides left mode text (q ∷ (near ++ far)) near q p (near_part sides q near far tree) h)
+  -- and one that isn't, isn't
+  pub part_bad : (p : ℕ × TreeNode) → ¬ IsAskedIn (below d (bytes_at text q)) (sides ++ d ∷ []) mode text own p → ¬ IsAskedIn asked sides mode text ps p
+  part_bad p bad h = bad (down asked sides d mode text ps own q p part h)
 
-pub far_bad : (asked : Asked) (sides : List Side) (mode : Mode) (text : List ℕ) (q : ℕ × TreeNode) (near far : List (ℕ × TreeNode)) → Tree sides q near far
-    → (p : ℕ × TreeNode) → ¬ IsAskedIn (below right (bytes_at text q)) (sides ++ right ∷ []) mode text far p → ¬ IsAskedIn asked sides mode text (q ∷ (near ++ far)) p
-far_bad asked sides mode text q near far tree p bad h = bad (down asked sides right mode text (q ∷ (near ++ far)) far q p (far_part sides q near far tree) h)
+  -- all places of the part are good where those of the whole are
+  part_from_whole : AllByRecursion (IsGoodIn asked sides mode text ps) ps → AllByRecursion IsOwnGood own
+  part_from_whole all = All-from_members IsOwnGood own (λ p h.
+      let whole = All-member (IsGoodIn asked sides mode text ps) ps all p (part.own_there p h) in
+      (whole.0, down asked sides d mode text ps own q p part whole.1))
 
 -- the top is good where it is there and has the value asked for, and isn't where it hasn't
 pub top_good : (asked : Asked) (sides : List Side) (mode : Mode) (text : List ℕ) (q : ℕ × TreeNode) (near far : List (ℕ × TreeNode)) → Tree sides q near far
@@ -202,29 +197,12 @@ whole_good asked sides mode text q near far tree there meets near_all far_all = 
   top_good asked sides mode text q near far tree there meets,
   All-append (IsGoodIn asked sides mode text (q ∷ (near ++ far))) near far
       (All-from_members (IsGoodIn asked sides mode text (q ∷ (near ++ far))) near
-      (λ p h. near_good asked sides mode text q near far tree p h (All-member (IsGoodIn (below left (bytes_at text q)) (sides ++ left ∷ []) mode text near) near near_all p h)))
+      (λ p h. part_good asked sides left mode text (q ∷ (near ++ far)) near q (near_part sides q near far tree) p h
+      (All-member (IsGoodIn (below left (bytes_at text q)) (sides ++ left ∷ []) mode text near) near near_all p h)))
       (All-from_members (IsGoodIn asked sides mode text (q ∷ (near ++ far))) far
-      (λ p h. far_good asked sides mode text q near far tree p h (All-member (IsGoodIn (below right (bytes_at text q)) (sides ++ right ∷ []) mode text far) far far_all p h))),
+      (λ p h. part_good asked sides right mode text (q ∷ (near ++ far)) far q (far_part sides q near far tree) p h
+      (All-member (IsGoodIn (below right (bytes_at text q)) (sides ++ right ∷ []) mode text far) far far_all p h))),
 )
-
--- and those of the parts where those of the whole are
-near_from_whole : (asked : Asked) (sides : List Side) (mode : Mode) (text : List ℕ) (q : ℕ × TreeNode) (near far : List (ℕ × TreeNode)) → Tree sides q near far
-    → AllByRecursion (IsGoodIn asked sides mode text (q ∷ (near ++ far))) (q ∷ (near ++ far))
-    → AllByRecursion (IsGoodIn (below left (bytes_at text q)) (sides ++ left ∷ []) mode text near) near
-near_from_whole asked sides mode text q near far tree all =
-    All-from_members (IsGoodIn (below left (bytes_at text q)) (sides ++ left ∷ []) mode text near) near
-    (λ p h.
-    let whole = All-member (IsGoodIn asked sides mode text (q ∷ (near ++ far))) (q ∷ (near ++ far)) all p (Contains-tail (near ++ far) q p (Contains-append_left near far p h)) in
-    (whole.0, down asked sides left mode text (q ∷ (near ++ far)) near q p (near_part sides q near far tree) whole.1))
-
-far_from_whole : (asked : Asked) (sides : List Side) (mode : Mode) (text : List ℕ) (q : ℕ × TreeNode) (near far : List (ℕ × TreeNode)) → Tree sides q near far
-    → AllByRecursion (IsGoodIn asked sides mode text (q ∷ (near ++ far))) (q ∷ (near ++ far))
-    → AllByRecursion (IsGoodIn (below right (bytes_at text q)) (sides ++ right ∷ []) mode text far) far
-far_from_whole asked sides mode text q near far tree all =
-    All-from_members (IsGoodIn (below right (bytes_at text q)) (sides ++ right ∷ []) mode text far) far
-    (λ p h.
-    let whole = All-member (IsGoodIn asked sides mode text (q ∷ (near ++ far))) (q ∷ (near ++ far)) all p (Contains-tail (near ++ far) q p (Contains-append_right near far p h)) in
-    (whole.0, down asked sides right mode text (q ∷ (near ++ far)) far q p (far_part sides q near far tree) whole.1))
 
 -- the places of a wanted subtree of more than one chunk
 pub placed_nodes-parent : (choice : Choice) (number n : ℕ) (sides : List Side) (source at : ℕ) → wants choice (1024 * number) n ≡ true → 1024 < n
@@ -276,8 +254,8 @@ AreGood-split asked choice mode text at number n sides source wanted more good =
     record {
       there = all.0.0;
       meets = all.0.1.0 refl;
-      near_good = near_from_whole asked sides mode text q near far tree all;
-      far_good = far_from_whole asked sides mode text q near far tree all;
+      near_good = part_from_whole asked sides left mode text (q ∷ (near ++ far)) near q (near_part sides q near far tree) all;
+      far_good = part_from_whole asked sides right mode text (q ∷ (near ++ far)) far q (far_part sides q near far tree) all;
     }
 
 pub AreGood-join : (asked : Asked) (choice : Choice) (mode : Mode) (text : List ℕ) (at number n : ℕ) (sides : List Side) (source : ℕ)

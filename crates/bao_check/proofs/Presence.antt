@@ -56,11 +56,11 @@ module _ (choice : Choice) (number n : ℕ) (sides : List Side) (source at : ℕ
   abbrev pub far : List TreeNode
   far = subtree_nodes choice (number + left_len n / 1024) (n - left_len n) (sides ++ right ∷ []) (source + 64 + subtree_size (left_len n))
 
-  near_unwanted : wants choice (1024 * number) n ≡ false → wants choice (1024 * number) (left_len n) ≡ false
+  pub near_unwanted : wants choice (1024 * number) n ≡ false → wants choice (1024 * number) (left_len n) ≡ false
   near_unwanted skipped = let parts : Parts n (left_len n) = left_len-Parts n more in
       unwanted_part choice number n number (left_len n) skipped (omega arith) (omega (arith, parts.some, parts.below))
 
-  far_unwanted : wants choice (1024 * number) n ≡ false → wants choice (1024 * (number + left_len n / 1024)) (n - left_len n) ≡ false
+  pub far_unwanted : wants choice (1024 * number) n ≡ false → wants choice (1024 * (number + left_len n / 1024)) (n - left_len n) ≡ false
   far_unwanted skipped = let parts : Parts n (left_len n) = left_len-Parts n more in
       unwanted_part choice number n (number + left_len n / 1024) (n - left_len n) skipped (omega arith) (omega (arith, parts.whole, parts.below))
 

@@ -1,6 +1,6 @@
--- How many bytes of an encoding the nodes of a subtree are.
-use Rattle.std.proofs.Common.{◌≡◌, ℕ, ◌+◌, ◌-◌, ◌*◌, ◌<◌, ◌≤◌, max, List, ◌∷◌, ◌++◌, true, false, refl, ap, ◌∙◌, arith, inl, inr, zero-add}
-use Rattle.std.proofs.lemmas.Bool.{and_from, cases_Bool, lt-ltb}
+-- How many bytes of an encoding the nodes of a subtree are, and how many of a blob its chunks.
+use Rattle.std.proofs.Common.{◌≡◌, ℕ, ◌+◌, ◌-◌, ◌*◌, ◌/◌, ◌<◌, ◌≤◌, max, min, List, ◌∷◌, ◌++◌, true, false, refl, ap, ◌∙◌, arith, inl, inr, zero-add}
+use Rattle.std.proofs.lemmas.Bool.{and_from, cases_Bool, cases_lt, lt-ltb}
 use Rattle.std.proofs.lemmas.List.Sums.{sum_by-append}
 use Rattle.b3tree.specs.Tree.{left_len}
 use Rattle.bao_text.specs.declared.choice.Choice.{Choice}
@@ -10,6 +10,7 @@ use Rattle.bao_text.proofs.Everything.{chunk_part}
 use Rattle.bao_text.proofs.SubtreeNodes.{parent_node, subtree_nodes-leaf, subtree_nodes-parent}
 use Rattle.bao_text.proofs.SubtreeText.{Parts, left_len-Parts}
 use Rattle.bao_text.proofs.Halves.{by_halves, far_nodes, near_nodes}
+use Rattle.bao_check.specs.HasPart.{Inside}
 use Rattle.bao_check.proofs.Lists.{nodes_size, nodes_size-cons}
 
 -- a parent and its two parts
@@ -70,3 +71,28 @@ pub nodes_size-without_chunks : (choice : Choice) (number n : ℕ) (sides : List
 nodes_size-without_chunks choice number n sides source start end gone =
     let none : chunk_part choice n ≡ 0 = rw gone refl in
     nodes_size-whole choice number n sides source start end ∙ ap (λ (k : ℕ). k + 64 * (chunk_count n - 1)) none ∙ zero-add (64 * (chunk_count n - 1))
+
+-- the whole tree, and the two parts of a subtree, are of the tree
+pub Inside-whole : (total : ℕ) → Inside total 0 total
+Inside-whole total = record { within = omega arith; full = λ less. absurd (omega arith); some = omega arith }
+
+pub Inside-near : (total number n : ℕ) → 1024 < n → Inside total number n → Inside total number (left_len n)
+Inside-near total number n more inside =
+    let parts : Parts n (left_len n) = left_len-Parts n more in
+    record { within = omega (arith, parts.below, inside.within); full = λ _. parts.whole; some = omega (arith, parts.some) }
+
+pub Inside-far : (total number n : ℕ) → 1024 < n → Inside total number n → Inside total (number + left_len n / 1024) (n - left_len n)
+Inside-far total number n more inside =
+    let parts : Parts n (left_len n) = left_len-Parts n more in
+    record {
+      within = omega (arith, parts.below, parts.whole, inside.within);
+      full = λ less. let e : 1024 * (n / 1024) ≡ n = inside.full (omega (arith, parts.below, parts.whole)) in omega (arith, parts.whole, parts.below);
+      some = omega (arith, parts.below);
+    }
+
+-- a single chunk has as many bytes as its number says
+pub chunk_size : (total number n : ℕ) → Inside total number n → n ≤ 1024 → min 1024 (total - 1024 * number) ≡ n
+chunk_size total number n inside one = elim (cases_lt (1024 * number + n) total) [
+  | inl less ↦ let full : 1024 * (n / 1024) ≡ n = inside.full less in omega (arith, inside.some)
+  | inr last ↦ omega (arith, inside.within)
+]

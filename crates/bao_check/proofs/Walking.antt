@@ -13,11 +13,11 @@ use Rattle.bao_text.proofs.SubtreeNodes.{parent_node, subtree_nodes-parent}
 use Rattle.bao_check.specs.declared.asked.Asked.{Asked}
 use Rattle.bao_check.specs.declared.fault.CheckFault.{CheckFault}
 use Rattle.bao_check.specs.declared.fault.CheckFault.TheVariants.{Short, Mismatch, Trailing, Memory, Reader}
-use Rattle.bao_check.specs.Accepted.{end_of, input_at}
+use Rattle.bao_check.specs.Accepted.{bytes_at, end_of, input_at}
 use Rattle.bao_check.specs.Walk.{AreGood, IsGoodIn, IsStop, IsTopStop, Meets, Passes, Stops, chunk_at, parent_at}
 use Rattle.bao_check.proofs.EachNode.{chunk_node, leaf_nodes}
 use Rattle.bao_check.proofs.Lists.{All-append, All-from_members, All-member, nodes_size, nodes_size-cons}
-use Rattle.bao_check.proofs.Parts.{AreGood-join, Tree, below, far_bad, far_good, near_bad, near_good, placed_nodes-parent, subtree_Tree, top_bad, top_good}
+use Rattle.bao_check.proofs.Parts.{AreGood-join, IsPart, Tree, below, far_part, near_part, part_bad, part_good, placed_nodes-parent, subtree_Tree, top_bad, top_good}
 
 -- a walk that ends at the first place
 top_stop : (asked : Asked) (sides : List Side) (mode : Mode) (text : List ℕ) (q : ℕ × TreeNode) (others : List (ℕ × TreeNode)) → q.1.sides ≡ sides
@@ -36,6 +36,15 @@ top_stops asked sides mode text q others top fault h = record {
   ends = refl;
   is = top_stop asked sides mode text q others top fault h;
 }
+
+-- one that ends in a part
+part_stop : (asked : Asked) (sides : List Side) (d : Side) (mode : Mode) (text : List ℕ) (ps own : List (ℕ × TreeNode)) (q : ℕ × TreeNode) → IsPart sides d ps q own
+    → (place : ℕ × TreeNode) (fault : CheckFault) → IsStop (below d (bytes_at text q)) (sides ++ d ∷ []) mode text own place fault → IsStop asked sides mode text ps place fault
+part_stop asked sides d mode text ps own q part place (Short k) h = h
+part_stop asked sides d mode text ps own q part place (Mismatch k) h = (h.0, h.1, part_bad asked sides d mode text ps own q part place h.2)
+part_stop asked sides d mode text ps own q part place (Trailing k) h = h
+part_stop asked sides d mode text ps own q part place Memory h = h
+part_stop asked sides d mode text ps own q part place Reader h = h
 
 module _ (asked : Asked) (choice : Choice) (mode : Mode) (text : List ℕ) (at number n : ℕ) (sides : List Side) (source : ℕ) (wanted : wants choice (1024 * number) n ≡ true) where
   module _ (one : n ≤ 1024) (kept : choice.chunks ≡ true) where
@@ -74,8 +83,17 @@ module _ (asked : Asked) (choice : Choice) (mode : Mode) (text : List ℕ) (at n
     abbrev far : List (ℕ × TreeNode)
     far = placed_nodes (at + 64 + nodes_size near_nodes) far_nodes
 
+    abbrev whole : List (ℕ × TreeNode)
+    whole = parent ∷ (near ++ far)
+
     tree : Tree sides parent near far
     tree = subtree_Tree choice number n sides source at (at + 64 + nodes_size near_nodes)
+
+    as_near : IsPart sides left whole parent near
+    as_near = near_part sides parent near far tree
+
+    as_far : IsPart sides right whole parent far
+    as_far = far_part sides parent near far tree
 
     whole_stops : (fault : CheckFault) (end : ℕ) → Stops asked sides mode text (parent ∷ (near ++ far)) fault end
         → Stops asked sides mode text (placed_nodes at (subtree_nodes choice number n sides source)) fault end
@@ -90,22 +108,6 @@ module _ (asked : Asked) (choice : Choice) (mode : Mode) (text : List ℕ) (at n
     module _ (there : at + 64 ≤ length text) (meets : Meets asked (parent_at mode text at)) where
       top_is_good : IsGoodIn asked sides mode text (parent ∷ (near ++ far)) parent
       top_is_good = top_good asked sides mode text parent near far tree there meets
-
-      near_is : (place : ℕ × TreeNode) (fault : CheckFault) → IsStop (below left bytes) (sides ++ left ∷ []) mode text near place fault
-          → IsStop asked sides mode text (parent ∷ (near ++ far)) place fault
-      near_is place (Short k) h = h
-      near_is place (Mismatch k) h = (h.0, h.1, near_bad asked sides mode text parent near far tree place h.2)
-      near_is place (Trailing k) h = h
-      near_is place Memory h = h
-      near_is place Reader h = h
-
-      far_is : (place : ℕ × TreeNode) (fault : CheckFault) → IsStop (below right bytes) (sides ++ right ∷ []) mode text far place fault
-          → IsStop asked sides mode text (parent ∷ (near ++ far)) place fault
-      far_is place (Short k) h = h
-      far_is place (Mismatch k) h = (h.0, h.1, far_bad asked sides mode text parent near far tree place h.2)
-      far_is place (Trailing k) h = h
-      far_is place Memory h = h
-      far_is place Reader h = h
 
       -- a fault of the left part is one of the whole
       pub near_stops : (fault : CheckFault) (end : ℕ) → Stops (below left bytes) (sides ++ left ∷ []) mode text near fault end
@@ -125,11 +127,11 @@ module _ (asked : Asked) (choice : Choice) (mode : Mode) (text : List ℕ) (at n
               good = (
                 top_is_good,
                 All-from_members P h.good.earlier
-                    (λ x member. near_good asked sides mode text parent near far tree x (there_near x member) (All-member own h.good.earlier h.good.good x member)),
+                    (λ x member. part_good asked sides left mode text whole near parent as_near x (there_near x member) (All-member own h.good.earlier h.good.good x member)),
               );
             };
             ends = h.ends;
-            is = near_is h.place fault h.is;
+            is = part_stop asked sides left mode text whole near parent as_near h.place fault h.is;
           })
 
       -- and so is one of the right part, where the left one is good
@@ -152,13 +154,13 @@ module _ (asked : Asked) (choice : Choice) (mode : Mode) (text : List ℕ) (at n
               good = (
                 top_is_good,
                 All-append P near h.good.earlier
-                    (All-from_members P near (λ x member. near_good asked sides mode text parent near far tree x member (All-member in_near near near_all x member)))
+                    (All-from_members P near (λ x member. part_good asked sides left mode text whole near parent as_near x member (All-member in_near near near_all x member)))
                     (All-from_members P h.good.earlier
-                    (λ x member. far_good asked sides mode text parent near far tree x (there_far x member) (All-member in_far h.good.earlier h.good.good x member))),
+                    (λ x member. part_good asked sides right mode text whole far parent as_far x (there_far x member) (All-member in_far h.good.earlier h.good.good x member))),
               );
             };
             ends = h.ends;
-            is = far_is h.place fault h.is;
+            is = part_stop asked sides right mode text whole far parent as_far h.place fault h.is;
           })
 
       pub both_passes : (middle end : ℕ) → Passes (below left bytes) (sides ++ left ∷ []) mode text (at + 64) middle near_nodes

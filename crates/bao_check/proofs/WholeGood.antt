@@ -1,5 +1,5 @@
 -- The encoding of a whole subtree that was verified by lanes has all its nodes good.
-use Rattle.std.proofs.Common.{◌≡◌, ℕ, ◌+◌, ◌-◌, ◌*◌, ◌/◌, ◌^◌, ◌<◌, ◌≤◌, max, List, [], ◌∷◌, ◌++◌, length, take, drop, Bool, true, false, refl, sym, ap, subst, ◌∙◌, arith, length-append, length-drop, pow_pos}
+use Rattle.std.proofs.Common.{◌≡◌, ℕ, ◌+◌, ◌-◌, ◌*◌, ◌/◌, ◌<◌, ◌≤◌, max, List, [], ◌∷◌, ◌++◌, length, take, drop, Bool, true, false, refl, sym, ap, subst, ◌∙◌, arith, length-append, length-drop, pow_pos}
 use Rattle.std.specs.Int.{IsPowerOfTwo}
 use Rattle.std.proofs.lemmas.Bool.{and_from, lt-ltb}
 use Rattle.std.proofs.lemmas.List.{append_assoc, drop-drop, drop-take, drop_at, length-take-le, take-take, take_all, take_at}
@@ -10,9 +10,9 @@ use Rattle.b3tree.specs.Bytes.{words_of}
 use Rattle.b3tree.specs.Chunk.{last_chunk_input}
 use Rattle.b3tree.specs.Parents.{lane_parents, paired_values}
 use Rattle.b3tree.specs.Pieces.{lane_place, piece}
-use Rattle.b3tree.specs.Tree.{IsLeftLen, left_len, parent_input}
-use Rattle.b3tree.proofs.LeftLen.{IsLeftLen_double, IsLeftLen_unique, left_len-IsLeftLen}
+use Rattle.b3tree.specs.Tree.{left_len, parent_input}
 use Rattle.b3tree.proofs.Pieces.{IsPowerOfTwo_double, length-piece, piece-append}
+use Rattle.bao_text.proofs.EightChunks.{left_len-double}
 use Rattle.bao_text.specs.declared.choice.Choice.{Choice}
 use Rattle.bao_text.specs.Choice.{wants}
 use Rattle.bao_text.specs.Nodes.{TreeNode, left, right, subtree_nodes, subtree_size}
@@ -32,15 +32,6 @@ wants_whole kept choice number chunks some has =
 pub whole_len-double : (kept : Bool) (n : ℕ) → 0 < n → whole_len kept (n + n) ≡ 64 + (whole_len kept n + whole_len kept n)
 whole_len-double true n some = omega arith
 whole_len-double false n some = omega arith
-
--- where two parts of n chunks each meet
-pub left_len-double : (n : ℕ) → IsPowerOfTwo n → left_len (1024 * (n + n)) ≡ 1024 * n
-left_len-double n (k, e) =
-    let some : 0 < 2 ^ k = pow_pos k in
-    let sum : 1024 * 2 ^ k + 1024 * 2 ^ k ≡ 1024 * (n + n) = omega arith in
-    let is : IsLeftLen (1024 * (n + n)) (1024 * 2 ^ k) = subst (λ (m : ℕ). IsLeftLen m (1024 * 2 ^ k)) sum (IsLeftLen_double k) in
-    IsLeftLen_unique (1024 * (n + n)) (left_len (1024 * (n + n))) (1024 * 2 ^ k) (left_len-IsLeftLen (1024 * (n + n)) (omega arith)) is
-    ∙ ap (λ (m : ℕ). 1024 * m) (sym e)
 
 -- as a part of a larger one
 pub of_text : (kept : Bool) (mode : Mode) (number chunks : ℕ) (top : Input) (value text : List ℕ) → value ≡ cv top → IsWholeText kept mode number chunks top text

@@ -1,26 +1,36 @@
 -- What an encoding has of one subtree.
-use Rattle.std.specs.Prelude.{◌≡◌, ℕ, ◌+◌, ◌<◌, ◌≤◌, List, Bool, Contains}
+use Rattle.std.specs.Prelude.{◌≡◌, ℕ, ◌+◌, ◌*◌, ◌/◌, ◌<◌, ◌≤◌, min, List, Bool, Contains}
 use Rattle.b3word.specs.declared.input.Input.{Input}
 use Rattle.b3tree.specs.declared.mode.Mode.{Mode}
 use Rattle.bao_text.specs.declared.choice.Choice.{Choice}
 use Rattle.bao_text.specs.Choice.{chunk_count}
 use Rattle.bao_text.specs.Nodes.{Side, TreeNode, placed_nodes, subtree_nodes}
+use Rattle.bao_check.specs.declared.asked.Asked.{Asked}
 use Rattle.bao_check.specs.Inputs.{is_top, text_inputs}
-use Rattle.bao_check.specs.Parents.{parent_in}
-use Rattle.bao_check.specs.Pieces.{chunk_in}
+use Rattle.bao_check.specs.Parents.{parent_place}
+use Rattle.bao_check.specs.Spans.{chunk_place}
 use Rattle.bao_check.specs.Walk.{AreGood}
-use Rattle.bao_check.specs.Ways.{asked_of}
+
+-- a subtree of the blob's tree: only the last of the blob's chunks may be short
+pub record Inside (total number n : ℕ) : Type 0 where
+  pub within : 1024 * number + n ≤ total
+  pub full : 1024 * number + n < total → 1024 * (n / 1024) ≡ n
+  pub some : min 1 total ≤ n
+
+-- what asks for a value, at the top that of the root
+abbrev pub asked_of : Bool → List ℕ → Asked
+asked_of top value = record { top = top; value = record { 0 = value } }
 
 -- The nodes that an encoding with these places has of the subtree over n bytes from chunk `first` on are good, where
--- `value` is asked for at its top. They are all chunks and parents that it has there, and their inputs are among its own.
+-- `value` is asked for at its top. They are where it has its chunks and parents there, and their inputs are among its own.
 pub record HasPart (mode : Mode) (choice : Choice) (text : List ℕ) (places : List (ℕ × TreeNode)) (top : Bool) (value : List ℕ) (first n : ℕ) : Type 0 where
   pub sides : List Side
   pub source : ℕ
   pub at : ℕ
   pub top_is : top ≡ is_top sides
   pub good : AreGood (asked_of top value) sides mode text at (subtree_nodes choice first n sides source)
-  pub chunks_are : (k : ℕ) → first ≤ k → k < first + chunk_count n → chunk_in text places k ≡ chunk_in text (placed_nodes at (subtree_nodes choice first n sides source)) k
-  pub parents_are : (m : ℕ) → first < m → m < first + chunk_count n → parent_in text places m ≡ parent_in text (placed_nodes at (subtree_nodes choice first n sides source)) m
+  pub chunks_are : (k : ℕ) → first ≤ k → k < first + chunk_count n → chunk_place places k ≡ chunk_place (placed_nodes at (subtree_nodes choice first n sides source)) k
+  pub parents_are : (m : ℕ) → first < m → m < first + chunk_count n → parent_place places m ≡ parent_place (placed_nodes at (subtree_nodes choice first n sides source)) m
   pub inputs_are : (x : Input) → Contains (text_inputs mode text (placed_nodes at (subtree_nodes choice first n sides source))) x → Contains (text_inputs mode text places) x
 
 -- these nodes

@@ -9,8 +9,8 @@ pub mod Parents
 pub mod Steps
 pub mod Beside
 pub mod Walk
-pub mod Ways
 pub mod HasPart
+pub mod Ways
 pub mod Forms
 pub mod Spans
 pub mod Bodies

@@ -1,5 +1,5 @@
 -- What is still to come of an encoding that is checked in pieces: the wanted nodes of subtrees.
-use Rattle.std.specs.Prelude.{◌≡◌, ◌⊎◌, ℕ, ◌+◌, ◌-◌, ◌<◌, ◌≤◌, Bool, false, List, [], ◌∷◌, ◌++◌, length, take, map, slice_get, nat_le, Option, None, Some, if◌then◌else◌}
+use Rattle.std.specs.Prelude.{◌≡◌, ◌⊎◌, ℕ, ◌+◌, ◌-◌, ◌<◌, ◌≤◌, Bool, false, true, is_some, List, [], ◌∷◌, ◌++◌, length, take, map, slice_get, nat_le, Option, None, Some, if◌then◌else◌}
 use Rattle.std.specs.Option.{option_map}
 use Rattle.b3tree.specs.declared.mode.Mode.{Mode}
 use Rattle.b3tree.specs.declared.values.Cv.{Cv}
@@ -50,48 +50,40 @@ chunk_waits parts = is_chunk_first (last_part parts)
 abbrev pub below_parent : Cv → Asked
 below_parent value = record { top = false; value = value }
 
--- All nodes of the parts, which begin at the encoding's place `at`, are good, and the last of them ends at `end`.
-abbrev pub AllPass : Mode → Choice → List Part → List ℕ → ℕ → ℕ → Type 0
-AllPass mode choice [] text at end = at ≡ end
-AllPass mode choice (part ∷ later) text at end =
-    (middle : ℕ) × AllPass mode choice later text at middle × PassesIn part.asked mode choice part.number part.len text middle end
+-- What the wanted nodes of a subtree come to: all are good, and the last of them ends at `end`, or this is their first fault, at a
+-- node that ends there.
+abbrev pub PartComes : Asked → Mode → Choice → ℕ → ℕ → List ℕ → ℕ → Option CheckFault → ℕ → Type 0
+PartComes asked mode choice number n text at None end = PassesIn asked mode choice number n text at end
+PartComes asked mode choice number n text at (Some fault) end = StopsIn asked mode choice number n text at fault end
 
--- this is the first fault of the parts, at a node that ends at `end`
-abbrev pub AllStop : Mode → Choice → List Part → List ℕ → ℕ → CheckFault → ℕ → Type 0
-AllStop mode choice [] text at fault end = ⊥
-AllStop mode choice (part ∷ later) text at fault end =
-    AllStop mode choice later text at fault end
-    ⊎ ((middle : ℕ) × AllPass mode choice later text at middle × StopsIn part.asked mode choice part.number part.len text middle fault end)
+-- what the nodes of the parts come to, which begin at the encoding's place `at`
+abbrev pub AllCome : Mode → Choice → List Part → List ℕ → ℕ → Option CheckFault → ℕ → Type 0
+AllCome mode choice [] text at o end = (o ≡ None) × (at ≡ end)
+AllCome mode choice (part ∷ later) text at o end =
+    ((is_some o ≡ true) × AllCome mode choice later text at o end)
+    ⊎ ((middle : ℕ) × AllCome mode choice later text at None middle × PartComes part.asked mode choice part.number part.len text middle o end)
 
--- what has to pass: a subtree, and then the parts
-abbrev pub FirstPass : Asked → ℕ → ℕ → Mode → Choice → List Part → List ℕ → ℕ → ℕ → Type 0
-FirstPass asked number n mode choice parts text at end =
-    (middle : ℕ) × PassesIn asked mode choice number n text at middle × AllPass mode choice parts text middle end
-
--- or what stops
-abbrev pub FirstStop : Asked → ℕ → ℕ → Mode → Choice → List Part → List ℕ → ℕ → CheckFault → ℕ → Type 0
-FirstStop asked number n mode choice parts text at fault end =
-    StopsIn asked mode choice number n text at fault end
-    ⊎ ((middle : ℕ) × PassesIn asked mode choice number n text at middle × AllStop mode choice parts text middle fault end)
+-- what a subtree comes to, and then the parts
+abbrev pub FirstComes : Asked → ℕ → ℕ → Mode → Choice → List Part → List ℕ → ℕ → Option CheckFault → ℕ → Type 0
+FirstComes asked number n mode choice parts text at o end =
+    ((is_some o ≡ true) × PartComes asked mode choice number n text at o end)
+    ⊎ ((middle : ℕ) × PassesIn asked mode choice number n text at middle × AllCome mode choice parts text middle o end)
 
 -- The parts are those before with a subtree that comes first: one that isn't wanted has no nodes.
 pub record IsBefore (choice : Choice) (asked : Asked) (number n : ℕ) (before after : List Part) : Type 0 where
-  pub passes : (mode : Mode) (text : List ℕ) (at end : ℕ) → at ≤ length text → AllPass mode choice after text at end → FirstPass asked number n mode choice before text at end
-  pub stops : (mode : Mode) (text : List ℕ) (at : ℕ) (fault : CheckFault) (end : ℕ) → at ≤ length text → AllStop mode choice after text at fault end
-      → FirstStop asked number n mode choice before text at fault end
+  pub comes : (mode : Mode) (text : List ℕ) (at : ℕ) (o : Option CheckFault) (end : ℕ) → at ≤ length text → AllCome mode choice after text at o end
+      → FirstComes asked number n mode choice before text at o end
 
 -- A node was taken: what the parts come to after it, in an encoding that has it there, those before it come to.
 pub record HasTaken (mode : Mode) (choice : Choice) (before after : List Part) (node : List ℕ) : Type 0 where
-  pub passes : (taken more : List ℕ) (end : ℕ) → AllPass mode choice after ((taken ++ node) ++ more) (length (taken ++ node)) end
-      → AllPass mode choice before ((taken ++ node) ++ more) (length taken) end
-  pub stops : (taken more : List ℕ) (fault : CheckFault) (end : ℕ) → AllStop mode choice after ((taken ++ node) ++ more) (length (taken ++ node)) fault end
-      → AllStop mode choice before ((taken ++ node) ++ more) (length taken) fault end
+  pub comes : (taken more : List ℕ) (o : Option CheckFault) (end : ℕ) → AllCome mode choice after ((taken ++ node) ++ more) (length (taken ++ node)) o end
+      → AllCome mode choice before ((taken ++ node) ++ more) (length taken) o end
 
 -- A node at the front of these bytes hasn't the value that its place asks for: that is the first fault in every encoding that has them
 -- there. The node has `size` bytes.
 pub record HasRefused (mode : Mode) (choice : Choice) (parts : List Part) (at size : ℕ) (bytes : List ℕ) (fault : CheckFault) : Type 0 where
   pub is : fault ≡ Mismatch at
-  pub stops : (taken more : List ℕ) → at ≡ length taken → AllStop mode choice parts ((taken ++ bytes) ++ more) (length taken) fault (length taken + size)
+  pub stops : (taken more : List ℕ) → at ≡ length taken → AllCome mode choice parts ((taken ++ bytes) ++ more) (length taken) (Some fault) (length taken + size)
 
 -- Nodes were taken, the first `used` of these bytes, and the one after them is refused: that is the first fault in every encoding
 -- that has the bytes there.
@@ -99,7 +91,7 @@ pub record HasRefusedIn (mode : Mode) (choice : Choice) (before after : List Par
   pub within : used ≤ length bytes
   pub taken : HasTaken mode choice before after (take used bytes)
   pub is : fault ≡ Mismatch (at + used)
-  pub stops : (had more : List ℕ) → at ≡ length had → (end : ℕ) × AllStop mode choice before ((had ++ bytes) ++ more) (length had) fault end
+  pub stops : (had more : List ℕ) → at ≡ length had → (end : ℕ) × AllCome mode choice before ((had ++ bytes) ++ more) (length had) (Some fault) end
 
 -- what an encoding is checked as: the slice (start, len) of the blob with the hash `root`
 pub record CheckTask : Type 0 where
@@ -122,6 +114,6 @@ IsFaultAs task text fault = IsFirstFault task.mode task.root text (slice_nodes t
 
 -- What the parts, from the encoding's place `at` on, come to, tells whether the encoding is accepted, and else its first fault.
 pub record WaitsIn (task : CheckTask) (choice : Choice) (parts : List Part) (text : List ℕ) (at : ℕ) : Type 0 where
-  pub accepted : (end : ℕ) → AllPass task.mode choice parts text at end → length text ≤ end → IsAcceptedAs task text
-  pub trailing : (end : ℕ) → AllPass task.mode choice parts text at end → end < length text → IsFaultAs task text (Trailing end)
-  pub stopped : (fault : CheckFault) (end : ℕ) → AllStop task.mode choice parts text at fault end → IsStopAs task text fault end
+  pub accepted : (end : ℕ) → AllCome task.mode choice parts text at None end → length text ≤ end → IsAcceptedAs task text
+  pub trailing : (end : ℕ) → AllCome task.mode choice parts text at None end → end < length text → IsFaultAs task text (Trailing end)
+  pub stopped : (fault : CheckFault) (end : ℕ) → AllCome task.mode choice parts text at (Some fault) end → IsStopAs task text fault end

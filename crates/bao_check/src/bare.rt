@@ -1,8 +1,9 @@
 // Chunks beside an outline: each is verified by the value that the outline has for it.
 
-ghost use Rattle.std.specs.Prelude.{◌≡◌, ◌↔◌, ℕ, ◌+◌, ◌-◌, ◌*◌, ◌^◌, ◌<◌, ◌≤◌, length, take, drop, IfErr, IfSome, IsTrue, OnOk};
+ghost use Rattle.std.specs.Prelude.{◌≡◌, ◌↔◌, ℕ, ◌+◌, ◌-◌, ◌*◌, ◌^◌, ◌<◌, ◌≤◌, List, length, take, drop, IfErr, IfSome, IsTrue, OnOk};
 ghost use Rattle.b3tree.specs.Chunk.{last_chunk_input};
 ghost use Rattle.bao_text.specs.Choice.{chunk_count};
+ghost use Rattle.bao_text.specs.Nodes.{Side};
 ghost use Rattle.bao_check.specs.Bare.{bare_at};
 ghost use Rattle.bao_check.specs.Walk.{Meets};
 
@@ -40,7 +41,7 @@ pub(crate) struct Bare<'a> {
 }
 
 impl Bare<'_> {
-    ghost use Rattle.bao_check.specs.BareWalk.{AreEight, ChunkStops, IsChunkGood, PartPasses, PartStops};
+    ghost use Rattle.bao_check.specs.BareWalk.{AreEight, ChunkStops, IsChunkGood, PartPasses, PartStops, Reaches};
 
     // The values of the eight chunks from chunk `number` on, where all of them are there.
     fn eight(&self, number: u64) -> Option<Eight>
@@ -121,8 +122,10 @@ impl Bare<'_> {
         requires range { 1024 * number + n ≤ 2 ^ 64 - 1 }
         requires fits { at + 64 * (chunk_count n - 1) ≤ length self.now.outline.now }
         requires known { IfSome known (λ eight. AreEight self.now eight.now) }
-        ensures ok { OnOk result (PartPasses self.now asked.now number n at) }
-        ensures err { IfErr result (λ fault. PartStops self.now asked.now number n at fault) }
+        ensures ok { (root : List ℕ) (sides : List Side) (source : ℕ) → Reaches root self.now.outline.now asked.now number n sides source at
+            → OnOk result (PartPasses self.now root number n) }
+        ensures err { (root : List ℕ) (sides : List Side) (source : ℕ) → Reaches root self.now.outline.now asked.now number n sides source at
+            → IfErr result (λ fault. PartStops self.now root number n fault) }
     {
         let chunk_len = CHUNK_LEN as u64;
         if number >= self.after || number + n.div_ceil(chunk_len).max(1) <= self.first {

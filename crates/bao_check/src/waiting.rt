@@ -64,10 +64,8 @@ pub(crate) fn push_wanted(
     number: u64,
     len: u64,
 )
-    requires room { length waiting.old.items < 55 }
+    requires fits { (length waiting.old.items < 55) × (1024 * number + len ≤ 2 ^ 64 - 1) × (len ≤ 1024 * 2 ^ (54 - length waiting.old.items)) }
     requires some { 0 < len }
-    requires within { 1024 * number + len ≤ 2 ^ 64 - 1 }
-    requires levels { len ≤ 1024 * 2 ^ (54 - length waiting.old.items) }
     requires parts { AreParts choice.now waiting.old.items }
     ensures parts { AreParts choice.now waiting.new.items }
     ensures before { IsBefore choice.now asked.now number len waiting.old.items waiting.new.items }

@@ -1,7 +1,6 @@
 -- What is asked of a parent of a subtree is asked of it in the part that has it.
 use Rattle.std.proofs.Common.{◌≡◌, ℕ, ◌+◌, ◌-◌, ◌*◌, ◌/◌, ◌<◌, ◌≤◌, List, [], ◌∷◌, ◌++◌, length, take, drop, true, false, Bool, ◌==◌, ◌&&◌, inl, inr, refl, sym, ap, subst, ◌∙◌, arith, length-drop}
 use Rattle.std.proofs.lemmas.Bool.{cases_Bool, eq-eqb, eqb-true}
-use Rattle.std.proofs.lemmas.List.Elements.{Contains-append_left, Contains-append_right}
 use Rattle.std.proofs.lemmas.List.{drop-append-le, drop-take, length-take-le, take-append-le, take-take}
 use Rattle.b3tree.specs.declared.mode.Mode.{Mode}
 use Rattle.b3tree.specs.declared.values.Cv.{Cv}
@@ -13,9 +12,9 @@ use Rattle.bao_check.specs.declared.asked.Asked.{Asked}
 use Rattle.bao_check.specs.Leaves.{WantsParents}
 use Rattle.bao_check.specs.Accepted.{input_at}
 use Rattle.bao_check.specs.Walk.{IsAskedIn, IsGoodIn, Meets}
-use Rattle.bao_check.proofs.Lists.{Contains-head, Contains-tail, nodes_size}
+use Rattle.bao_check.proofs.Lists.{Contains-head, nodes_size}
 use Rattle.bao_check.proofs.Outlines.{near-size}
-use Rattle.bao_check.proofs.Parts.{Tree, below, far_bad, far_good, near_bad, near_good, placed_nodes-parent, subtree_Tree, top_bad, top_good}
+use Rattle.bao_check.proofs.Parts.{IsPart, Tree, below, far_part, near_part, part_bad, part_good, placed_nodes-parent, subtree_Tree, top_bad, top_good}
 use Rattle.bao_check.proofs.Sizes.{wants_whole}
 use Rattle.bao_feed.specs.Asking.{AsksAt, asked_of, asked_with}
 
@@ -74,36 +73,31 @@ module _ (asked own : Asked) (mode : Mode) (text : List ℕ) (choice : Choice) (
     bad = λ wrong. top_bad asked sides mode text q (q ∷ (near ++ far)) tree.top (λ meets. wrong (subst (λ (a : Asked). Meets a (input_at mode text q)) (sym same) meets));
   })
 
-  pub asks-near : (half : Asked) → half ≡ below left (take 64 (drop at text)) → AsksAt half (sides ++ left ∷ []) mode text near k_at own
-      → AsksAt asked sides mode text (placed_nodes at (subtree_nodes choice number n sides source)) k_at own
-  asks-near half half_is h = whole (record {
+  -- in a part
+  asks-part : (d : Side) (places : List (ℕ × TreeNode)) → IsPart sides d (q ∷ (near ++ far)) q places → (half : Asked) → half ≡ below d (take 64 (drop at text))
+      → AsksAt half (sides ++ d ∷ []) mode text places k_at own → AsksAt asked sides mode text (placed_nodes at (subtree_nodes choice number n sides source)) k_at own
+  asks-part d places part half half_is h = whole (record {
     place = h.place;
-    there = Contains-tail (near ++ far) q h.place (Contains-append_left near far h.place h.there);
+    there = part.own_there h.place h.there;
     at_is = h.at_is;
     is_parent = h.is_parent;
-    good = λ fits meets. near_good asked sides mode text q near far tree h.place h.there
-        (subst (λ (a : Asked). IsGoodIn a (sides ++ left ∷ []) mode text near h.place) half_is (h.good fits meets));
-    bad = λ wrong. near_bad asked sides mode text q near far tree h.place
-        (λ is. h.bad wrong (subst (λ (a : Asked). IsAskedIn a (sides ++ left ∷ []) mode text near h.place) (sym half_is) is));
+    good = λ fits meets. part_good asked sides d mode text (q ∷ (near ++ far)) places q part h.place h.there
+        (subst (λ (a : Asked). IsGoodIn a (sides ++ d ∷ []) mode text places h.place) half_is (h.good fits meets));
+    bad = λ wrong. part_bad asked sides d mode text (q ∷ (near ++ far)) places q part h.place
+        (λ is. h.bad wrong (subst (λ (a : Asked). IsAskedIn a (sides ++ d ∷ []) mode text places h.place) (sym half_is) is));
   })
+
+  pub asks-near : (half : Asked) → half ≡ below left (take 64 (drop at text)) → AsksAt half (sides ++ left ∷ []) mode text near k_at own
+      → AsksAt asked sides mode text (placed_nodes at (subtree_nodes choice number n sides source)) k_at own
+  asks-near = asks-part left near (near_part sides q near far tree)
 
   pub asks-far : (half : Asked) → half ≡ below right (take 64 (drop at text))
       → AsksAt half (sides ++ right ∷ []) mode text (placed_nodes (at + 64 * (left_len n / 1024)) far_nodes) k_at own
       → AsksAt asked sides mode text (placed_nodes at (subtree_nodes choice number n sides source)) k_at own
   asks-far half half_is given =
       let e : at + 64 * (left_len n / 1024) ≡ far_at = omega (arith, near-size choice number n sides source more has) in
-      let h : AsksAt half (sides ++ right ∷ []) mode text far k_at own =
-      subst (λ (k : ℕ). AsksAt half (sides ++ right ∷ []) mode text (placed_nodes k far_nodes) k_at own) e given in
-      whole (record {
-        place = h.place;
-        there = Contains-tail (near ++ far) q h.place (Contains-append_right near far h.place h.there);
-        at_is = h.at_is;
-        is_parent = h.is_parent;
-        good = λ fits meets. far_good asked sides mode text q near far tree h.place h.there
-            (subst (λ (a : Asked). IsGoodIn a (sides ++ right ∷ []) mode text far h.place) half_is (h.good fits meets));
-        bad = λ wrong. far_bad asked sides mode text q near far tree h.place
-            (λ is. h.bad wrong (subst (λ (a : Asked). IsAskedIn a (sides ++ right ∷ []) mode text far h.place) (sym half_is) is));
-      })
+      asks-part right far (far_part sides q near far tree) half half_is
+      (subst (λ (k : ℕ). AsksAt half (sides ++ right ∷ []) mode text (placed_nodes k far_nodes) k_at own) e given)
 
 -- a parent's bytes are the same in an encoding that goes on otherwise after them
 pub kept : (text more : List ℕ) (at end : ℕ) → at + 64 ≤ end → end ≤ length text → take 64 (drop at (take end text ++ more)) ≡ take 64 (drop at text)

@@ -25,7 +25,7 @@ wants_covered : (choice : Choice) (at n : ℕ) → 0 < n → Covers choice at n 
 wants_covered choice at n some all = and_from _ _ (lt-ltb at choice.end (omega (arith, all.1))) (lt-ltb choice.start (at + max n 1) (omega (arith, all.0)))
 
 -- where two parts of n chunks each meet
-left_len-double : (n : ℕ) → IsPowerOfTwo n → left_len (1024 * (n + n)) ≡ 1024 * n
+pub left_len-double : (n : ℕ) → IsPowerOfTwo n → left_len (1024 * (n + n)) ≡ 1024 * n
 left_len-double n (k, e) =
     let some : 0 < 2 ^ k = pow_pos k in
     let sum : 1024 * 2 ^ k + 1024 * 2 ^ k ≡ 1024 * (n + n) = omega arith in

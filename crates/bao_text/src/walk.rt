@@ -38,9 +38,7 @@ pub struct Nodes {
 
 // Puts a subtree last, if it is wanted.
 fn push_wanted(choice: &Choice, waiting: &mut Waiting, number: u64, len: u64)
-    requires room { length waiting.old.items < 55 }
-    requires within { 1024 * number + len ≤ 2 ^ 64 - 1 }
-    requires levels { len ≤ 1024 * 2 ^ (54 - length waiting.old.items) }
+    requires fits { (length waiting.old.items < 55) × (1024 * number + len ≤ 2 ^ 64 - 1) × (len ≤ 1024 * 2 ^ (54 - length waiting.old.items)) }
     requires subtrees { AreWaiting choice.now 54 waiting.old.items }
     ensures subtrees { AreWaiting choice.now 54 waiting.new.items }
     ensures names { waiting_names choice.now waiting.new.items ≡ node_names choice.now number len ++ waiting_names choice.now waiting.old.items }

@@ -15,9 +15,9 @@ use Rattle.bao_check.proofs.Naming.{Named}
 use Rattle.bao_check.proofs.NodeBinding.{Bound, binds}
 use Rattle.bao_check.proofs.SubtreeInputs.{blob_inputs-subtree, subtree_inputs}
 use Rattle.bao_check.specs.Accepted.{IsAccepted, bytes_at, places_of}
+use Rattle.bao_check.specs.HasPart.{asked_of}
 use Rattle.bao_check.specs.Inputs.{NamesCollision, text_inputs}
 use Rattle.bao_check.specs.Walk.{AreGood}
-use Rattle.bao_check.specs.Ways.{asked_of}
 use Rattle.bao_text.proofs.Laws.{chosen_text-nodes}
 use Rattle.bao_text.proofs.TextNodes.{span}
 use Rattle.bao_text.specs.declared.choice.Choice.{Choice}

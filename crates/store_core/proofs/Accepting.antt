@@ -1,19 +1,15 @@
 -- An encoding that a store serves is accepted under its root, or two pieces that it is made of clash.
-use Rattle.std.proofs.Common.{◌≡◌, ◌⊎◌, ℕ, zero, suc, ◌+◌, ◌-◌, ◌*◌, ◌/◌, ◌^◌, ◌<◌, ◌≤◌, Bool, true, false, List, [], ◌∷◌, ◌++◌, length, map, take, drop, Option, None, Some, refl, sym, ap, subst, ◌∙◌, arith, inl, inr, length-append}
+use Rattle.std.proofs.Common.{◌≡◌, ◌⊎◌, ℕ, ◌+◌, ◌-◌, ◌*◌, ◌/◌, ◌^◌, ◌<◌, ◌≤◌, Bool, true, false, List, [], ◌∷◌, ◌++◌, length, map, take, drop, Option, None, Some, refl, sym, ap, subst, ◌∙◌, arith, inl, inr}
 use Rattle.std.specs.Prelude.{Contains}
 use Rattle.std.specs.Int.{w64, from_le_bytes}
 use Rattle.std.specs.List.{flat_map}
-use Rattle.std.proofs.lemmas.Bool.{cases_Bool, cases_lt}
 use Rattle.std.proofs.lemmas.Bool.Decides.{eqb_tells}
-use Rattle.std.proofs.lemmas.List.{append-nil, drop_at, take_at}
-use Rattle.std.proofs.lemmas.List.Concat.{flat_map-append}
+use Rattle.std.proofs.lemmas.List.{drop_at, take_at}
 use Rattle.std.proofs.lemmas.List.Elements.{Contains-append_left, Contains-append_right}
 use Rattle.std.proofs.lemmas.Nat.{from_le_bytes-to_le_bytes_8}
-use Rattle.b3word.specs.Compression.{cv}
 use Rattle.b3word.proofs.SameInput.{same_input}
 use Rattle.b3tree.specs.declared.mode.Mode.{Mode}
 use Rattle.b3tree.specs.Bytes.{words_of}
-use Rattle.b3tree.specs.Chunk.{last_chunk_input}
 use Rattle.b3tree.specs.Tree.{left_len}
 use Rattle.bao_text.specs.declared.choice.Choice.{Choice}
 use Rattle.bao_text.specs.declared.walk.Node.{Node}
@@ -21,27 +17,24 @@ use Rattle.bao_text.specs.declared.walk.Node.TheVariants.{Parent}
 use Rattle.bao_text.specs.Choice.{of_slice, wants}
 use Rattle.bao_text.specs.Cut.{claimed}
 use Rattle.bao_text.specs.NodeNames.{name, slice_names}
-use Rattle.bao_text.specs.Nodes.{TreeNode, Side, left, nodes, right, subtree_nodes, subtree_size}
+use Rattle.bao_text.specs.Nodes.{TreeNode, Side, left, nodes, right, subtree_nodes}
 use Rattle.bao_text.specs.Texts.{length_text}
-use Rattle.bao_text.proofs.Everything.{At, At_first, At_rest}
-use Rattle.bao_text.proofs.SubtreeNodes.{parent_node, subtree_nodes-parent, subtree_nodes-unwanted}
-use Rattle.bao_text.proofs.SubtreeText.{Parts, left_len-Parts}
+use Rattle.bao_text.proofs.Halves.{Far, Near, far_nodes, near_nodes}
+use Rattle.bao_text.proofs.SubtreeNodes.{parent_node, subtree_nodes-parent}
+use Rattle.bao_text.proofs.SubtreeText.{Parts}
 use Rattle.bao_check.specs.Accepted.{IsAccepted, part_value, slice_nodes}
+use Rattle.bao_check.specs.declared.asked.Asked.{Asked}
 use Rattle.bao_check.specs.HasPart.{HasPart}
 use Rattle.bao_check.specs.Inputs.{marked}
 use Rattle.bao_check.specs.Parents.{parent_in}
 use Rattle.bao_check.specs.Pieces.{chunk_in}
-use Rattle.bao_check.specs.Walk.{AreGood}
-use Rattle.bao_check.specs.Ways.{asked_of}
 use Rattle.bao_check.proofs.BareFound.{claimed-small}
 use Rattle.bao_check.proofs.Binding.{length-part_value}
 use Rattle.bao_check.proofs.Forks.{Fork, Leaf, NoFork, fork_of, input_of, leaf_of, no_fork, part_whole}
-use Rattle.bao_check.proofs.Lists.{Contains-cons_cases, Contains-head, Contains-tail, nodes_size, nodes_size-cons}
+use Rattle.bao_check.proofs.Lists.{Contains-cons_cases, Contains-head, Contains-tail}
 use Rattle.bao_check.proofs.Marked.{SameParts, same_parts}
-use Rattle.bao_check.proofs.Parts.{AreGood-join}
-use Rattle.bao_check.proofs.Sizes.{nodes_size-parent}
 use Rattle.bao_check.proofs.EachNode.{chunk_node, leaf_nodes}
-use Rattle.bao_check.proofs.Written.{At_bytes, At_fits, one_good}
+use Rattle.bao_check.proofs.Made.{IsChunkMade, IsParentMade, made_accepted}
 use Rattle.store_core.specs.declared.fixed.Fixed.{Fixed}
 use Rattle.store_core.specs.declared.history.Event.{Event}
 use Rattle.store_core.specs.declared.history.Piece.{Piece}
@@ -200,128 +193,73 @@ module _ (fixed : Fixed) (history : List Event) (legal : IsLegal fixed history) 
           elim (compared other other_used own (parent_in other.text (places_in other) (first + left_len n / 1024)) refl) [ inl both ↦ inl both.far | inr clash ↦ inr clash ]
     ]
 
-  -- the nodes are good at a place of an encoding, and as long as what is held of them
-  record IsGood (text : List ℕ) (top : Bool) (value : List ℕ) (sides : List Side) (at : ℕ) (some : List TreeNode) : Type 0 where
-    good : AreGood (asked_of top value) sides fixed.mode text at some
-    size : length (flat_map (bytes s) some) ≡ nodes_size some
+  -- what is known of a subtree: each used piece has it, and its nodes are held and served
+  record IsServedPart (asked : Asked) (first n : ℕ) (sides : List Side) (source : ℕ) : Type 0 where
+    have : AllHave asked.top asked.value.0 first n
+    held : AreHeld s (subtree_nodes choice first n sides source)
+    among : (node : TreeNode) → Contains (subtree_nodes choice first n sides source) node → Among (name node)
 
-  abbrev AllServed : List TreeNode → Type 0
-  AllServed some = (node : TreeNode) → Contains some node → Among (name node)
-
-  good_none : (text : List ℕ) (top : Bool) (value : List ℕ) (sides : List Side) (at : ℕ) (some : List TreeNode) → some ≡ [] → IsGood text top value sides at some
-  good_none text top value sides at some none = subst (IsGood text top value sides at) (sym none) (record { good = tt; size = refl })
-
-  -- a chunk that is held
-  good_chunk : (text : List ℕ) (top : Bool) (value : List ℕ) (at first n : ℕ) (sides : List Side) (source : ℕ) → n ≤ 1024 → AllHave top value first n
-      → AreHeld s (chunk_node first n sides source ∷ []) → AllServed (chunk_node first n sides source ∷ []) → At text at (flat_map (bytes s) (chunk_node first n sides source ∷ []))
-      → IsGood text top value sides at (chunk_node first n sides source ∷ []) ⊎ Clash
-  good_chunk text top value at first n sides source one have held among here =
+  chunk_held : (asked : Asked) (first n : ℕ) (sides : List Side) (source : ℕ) → IsServedPart asked first n sides source → wants choice (1024 * first) n ≡ true → n ≤ 1024 → choice.chunks ≡ true
+      → IsChunkMade (bytes s (chunk_node first n sides source)) asked fixed.mode first n ⊎ Clash
+  chunk_held asked first n sides source is wanted one kept =
       let node : TreeNode = chunk_node first n sides source in
       let own : List ℕ = bytes s node in
-      let from : IsCommitted fixed history first own = held_is_committed fixed history first own legal (held node (Contains-head [] node)) in
+      let there_node : Contains (subtree_nodes choice first n sides source) node =
+      subst (λ (xs : List TreeNode). Contains xs node) (sym (leaf_nodes choice first n sides source wanted one kept)) (Contains-head [] node) in
+      let from : IsCommitted fixed history first own = held_is_committed fixed history first own legal (is.held node there_node) in
       let piece : Piece = from.piece in
-      let used : Used piece = of_chunk first own from (among node (Contains-head [] node)) refl in
       let place : piece.base + first ≡ first = omega (arith, from.accepted.base, base_recorded fixed history l legal recorded) in
       let there : chunk_in piece.text (places_in piece) first ≡ Some own = subst (λ (k : ℕ). chunk_in piece.text (places_in piece) k ≡ Some own) place from.has in
       elim (eqb_tells (length_of piece) l) [
-        | inr other ↦ inr (of_lengths first l own from settled (among node (Contains-head [] node)) recorded (λ same. other.1 (same ∙ settled.is)))
+        | inr other ↦ inr (of_lengths first l own from settled (is.among node there_node) recorded (λ same. other.1 (same ∙ settled.is)))
         | inl claims ↦
-            elim (have piece used claims.1) [
+            elim (is.have piece (of_chunk first own from (is.among node there_node) refl) claims.1) [
               | inr clash ↦ inr clash
               | inl part ↦
-                  let leaf : Leaf fixed.mode top value first n own =
-                  leaf_of fixed.mode (of_slice (length_of piece) piece.start piece.len) piece.text (places_in piece) top value first n part refl one own there in
-                  let at_own : At text at own = At_first text at own [] here in
-                  inl (record {
-                    good = one_good (asked_of top value) fixed.mode text at first n sides source (At_fits text at n own leaf.size at_own)
-                        (subst (λ (b : List ℕ). cv (marked top (last_chunk_input fixed.mode first b)) ≡ value) (sym (At_bytes text at n own leaf.size at_own)) leaf.meets);
-                    size = omega (arith, nodes_size-cons node [], ap length (append-nil own), leaf.size);
-                  })
+                  let leaf : Leaf fixed.mode asked.top asked.value.0 first n own =
+                  leaf_of fixed.mode (of_slice (length_of piece) piece.start piece.len) piece.text (places_in piece) asked.top asked.value.0 first n part one own there in
+                  inl (record { size = leaf.size; meets = leaf.meets })
             ]
       ]
 
-  good_small : (text : List ℕ) (top : Bool) (value : List ℕ) (at first n : ℕ) (sides : List Side) (source : ℕ) → n ≤ 1024 → AllHave top value first n
-      → AreHeld s (subtree_nodes choice first n sides source) → AllServed (subtree_nodes choice first n sides source) → At text at (flat_map (bytes s) (subtree_nodes choice first n sides source))
-      → IsGood text top value sides at (subtree_nodes choice first n sides source) ⊎ Clash
-  good_small text top value at first n sides source one have held among here = elim (cases_Bool (wants choice (1024 * first) n)) [
-    | inr skipped ↦
-        inl (good_none text top value sides at (subtree_nodes choice first n sides source) (subtree_nodes-unwanted choice first n sides source skipped))
-    | inl wanted ↦
-        subst (λ (some : List TreeNode). AreHeld s some → AllServed some → At text at (flat_map (bytes s) some) → IsGood text top value sides at some ⊎ Clash)
-        (sym (leaf_nodes choice first n sides source wanted one refl)) (good_chunk text top value at first n sides source one have) held among here
-  ]
-
-  -- by the number of levels
-  good_levels : (levels : ℕ) (text : List ℕ) (top : Bool) (value : List ℕ) (at first n : ℕ) (sides : List Side) (source : ℕ) → n ≤ 1024 * levels + 1024 → AllHave top value first n
-      → AreHeld s (subtree_nodes choice first n sides source) → AllServed (subtree_nodes choice first n sides source) → At text at (flat_map (bytes s) (subtree_nodes choice first n sides source))
-      → IsGood text top value sides at (subtree_nodes choice first n sides source) ⊎ Clash
-  good_levels zero text top value at first n sides source hn have held among here =
-      good_small text top value at first n sides source (omega arith) have held among here
-  good_levels (suc levels) text top value at first n sides source hn have held among here = elim (cases_lt 1024 n) [
-    | inr one ↦ good_small text top value at first n sides source one have held among here
-    | inl more ↦
-        elim (cases_Bool (wants choice (1024 * first) n)) [
-          | inr skipped ↦
-              inl (good_none text top value sides at (subtree_nodes choice first n sides source) (subtree_nodes-unwanted choice first n sides source skipped))
-          | inl wanted ↦
-              let parts : Parts n (left_len n) = left_len-Parts n more in
-              let middle : ℕ = first + left_len n / 1024 in
-              let near : List TreeNode = subtree_nodes choice first (left_len n) (sides ++ left ∷ []) (source + 64) in
-              let far : List TreeNode = subtree_nodes choice middle (n - left_len n) (sides ++ right ∷ []) (source + 64 + subtree_size (left_len n)) in
-              let own : TreeNode = parent_node first n sides source in
-              let nodes_are : subtree_nodes choice first n sides source ≡ own ∷ (near ++ far) = subtree_nodes-parent choice first n sides source wanted more in
-              let within : (node : TreeNode) → Contains (own ∷ (near ++ far)) node → Contains (subtree_nodes choice first n sides source) node =
-              (λ node there. subst (λ (xs : List TreeNode). Contains xs node) (sym nodes_are) there) in
-              let own_there : Contains (subtree_nodes choice first n sides source) own = within own (Contains-head (near ++ far) own) in
-              let near_within : (node : TreeNode) → Contains near node → Contains (subtree_nodes choice first n sides source) node =
-              (λ node there. within node (Contains-tail (near ++ far) own node (Contains-append_left near far node there))) in
-              let far_within : (node : TreeNode) → Contains far node → Contains (subtree_nodes choice first n sides source) node =
-              (λ node there. within node (Contains-tail (near ++ far) own node (Contains-append_right near far node there))) in
-              let parent : List ℕ = bytes s own in
-              let from : IsStored fixed history middle parent = parent_is_stored fixed history middle parent legal (held own own_there) in
-              let piece : Piece = from.piece in
-              let own_among : Among (Parent middle) = among own own_there in
-              let used : Used piece = of_parent middle parent from own_among refl in
-              let same_record : Some (length_of piece) ≡ Some l = sym from.length_is ∙ recorded in
-              let claims : length_of piece ≡ l = cc in
-              elim (have piece used claims) [
-                | inr clash ↦ inr clash
-                | inl part ↦
-                    let at_parent : Fork part parent = fork top value first n more have parent from own_among part in
-                    let a : List ℕ = flat_map (bytes s) near in
-                    let b : List ℕ = flat_map (bytes s) far in
-                    let whole : flat_map (bytes s) (subtree_nodes choice first n sides source) ≡ parent ++ (a ++ b) =
-                    ap (flat_map (bytes s)) nodes_are ∙ ap (λ (xs : List ℕ). parent ++ xs) (flat_map-append (bytes s) near far) in
-                    let all_here : At text at (parent ++ (a ++ b)) = subst (At text at) whole here in
-                    let parent_here : At text at parent = At_first text at parent (a ++ b) all_here in
-                    let parent_is : take 64 (drop at text) ≡ parent = At_bytes text at 64 parent at_parent.size parent_here in
-                    let kids : At text (at + 64) (a ++ b) = At_rest text at 64 parent (a ++ b) at_parent.size all_here in
-                    elim (good_levels levels text false (part_value left parent) (at + 64) first (left_len n) (sides ++ left ∷ []) (source + 64)
-                    (omega (arith, parts.whole, parts.below)) (all_have_near top value first n more have parent from own_among part)
-                    (λ node there. held node (near_within node there)) (λ node there. among node (near_within node there)) (At_first text (at + 64) a b kids)) [
-                      | inr clash ↦ inr clash
-                      | inl near_good ↦
-                          elim (good_levels levels text false (part_value right parent) (at + 64 + nodes_size near) middle (n - left_len n) (sides ++ right ∷ []) (source + 64 + subtree_size (left_len n))
-                          (omega (arith, parts.some)) (all_have_far top value first n more have parent from own_among part)
-                          (λ node there. held node (far_within node there)) (λ node there. among node (far_within node there)) (At_rest text (at + 64) (nodes_size near) a b near_good.size kids)) [
-                            | inr clash ↦ inr clash
-                            | inl far_good ↦
-                                inl (record {
-                                  good = AreGood-join (asked_of top value) choice fixed.mode text at first n sides source wanted more
-                                      (record {
-                                        there = At_fits text at 64 parent at_parent.size parent_here;
-                                        meets = subst (λ (p : List ℕ). cv (marked top (input_of fixed.mode p)) ≡ value) (sym parent_is) at_parent.meets;
-                                        near_good = subst (λ (p : List ℕ). AreGood (asked_of false (part_value left p)) (sides ++ left ∷ []) fixed.mode text (at + 64) near) (sym parent_is) near_good.good;
-                                        far_good = subst (λ (p : List ℕ). AreGood (asked_of false (part_value right p)) (sides ++ right ∷ []) fixed.mode text (at + 64 + nodes_size near) far) (sym parent_is) far_good.good;
-                                      });
-                                  size = ap length whole ∙ length-append parent (a ++ b) ∙ (λ i. at_parent.size i + length-append a b i) ∙ (λ i. 64 + (near_good.size i + far_good.size i))
-                                      ∙ sym (nodes_size-parent first n sides source near far) ∙ ap nodes_size (sym nodes_are);
-                                })
-                          ]
-                    ]
-              ]
-        ]
-  ]
+  parent_held : (asked : Asked) (first n : ℕ) (sides : List Side) (source : ℕ) → IsServedPart asked first n sides source → wants choice (1024 * first) n ≡ true → 1024 < n → Parts n (left_len n)
+      → IsParentMade (bytes s (parent_node first n sides source)) asked fixed.mode (λ a. Near (IsServedPart a) first n sides source) (λ a. Far (IsServedPart a) first n sides source) ⊎ Clash
+  parent_held asked first n sides source is wanted more parts =
+      let middle : ℕ = first + left_len n / 1024 in
+      let near : List TreeNode = near_nodes choice first n sides source in
+      let far : List TreeNode = far_nodes choice first n sides source in
+      let own : TreeNode = parent_node first n sides source in
+      let within : (node : TreeNode) → Contains (own ∷ (near ++ far)) node → Contains (subtree_nodes choice first n sides source) node =
+      (λ node there. subst (λ (xs : List TreeNode). Contains xs node) (sym (subtree_nodes-parent choice first n sides source wanted more)) there) in
+      let own_there : Contains (subtree_nodes choice first n sides source) own = within own (Contains-head (near ++ far) own) in
+      let near_within : (node : TreeNode) → Contains near node → Contains (subtree_nodes choice first n sides source) node =
+      (λ node there. within node (Contains-tail (near ++ far) own node (Contains-append_left near far node there))) in
+      let far_within : (node : TreeNode) → Contains far node → Contains (subtree_nodes choice first n sides source) node =
+      (λ node there. within node (Contains-tail (near ++ far) own node (Contains-append_right near far node there))) in
+      let parent : List ℕ = bytes s own in
+      let from : IsStored fixed history middle parent = parent_is_stored fixed history middle parent legal (is.held own own_there) in
+      let own_among : Among (Parent middle) = is.among own own_there in
+      let same_record : Some (length_of from.piece) ≡ Some l = sym from.length_is ∙ recorded in
+      let claims : length_of from.piece ≡ l = cc in
+      elim (is.have from.piece (of_parent middle parent from own_among refl) claims) [
+        | inr clash ↦ inr clash
+        | inl part ↦
+            let at_parent : Fork part parent = fork asked.top asked.value.0 first n more is.have parent from own_among part in
+            inl (record {
+              size = at_parent.size;
+              meets = at_parent.meets;
+              in_near = record {
+                have = all_have_near asked.top asked.value.0 first n more is.have parent from own_among part;
+                held = λ node there. is.held node (near_within node there);
+                among = λ node there. is.among node (near_within node there);
+              };
+              in_far = record {
+                have = all_have_far asked.top asked.value.0 first n more is.have parent from own_among part;
+                held = λ node there. is.held node (far_within node there);
+                among = λ node there. is.among node (far_within node there);
+              };
+            })
+      ]
 
   bound : l < 2 ^ 64
   bound = omega (arith, claimed-small settled.piece.text settled.accepted.bytes, settled.is)
@@ -333,24 +271,12 @@ module _ (fixed : Fixed) (history : List Event) (legal : IsLegal fixed history) 
       let holds : Holds s own more = all_held s own more got in
       let rest : List ℕ = flat_map (bytes s) own in
       let whole : text ≡ length_text l ++ rest = text_is ∙ ap (λ (xs : List ℕ). length_text l ++ xs) holds.text_is in
-      let here : At text 8 rest = record {
-        before = length_text l;
-        after = [];
-        whole = whole ∙ ap (λ (xs : List ℕ). length_text l ++ xs) (sym (append-nil rest));
-        place = refl;
-      } in
       let claims : claimed text ≡ l =
       ap claimed whole ∙ ap (from_le_bytes w64) (take_at (length_text l) rest 8 refl) ∙ from_le_bytes-to_le_bytes_8 l bound in
-      elim (good_levels l text true (words_of 8 fixed.root.0) 8 0 l [] 8 (omega arith) all_have_top holds.held (λ node there. (l, (recorded, name_there own node there))) here) [
+      elim (made_accepted (bytes s) choice fixed.mode text Clash IsServedPart chunk_held parent_held fixed.root.0 (length_text l) l refl whole
+      (record { have = all_have_top; held = holds.held; among = λ node there. (l, (recorded, name_there own node there)) })) [
         | inr clash ↦ inr clash
-        | inl is_good ↦
-            let all : length text ≡ 8 + length rest = ap length whole ∙ length-append (length_text l) rest in
-            inl (subst (λ (total : ℕ). IsAccepted fixed.mode fixed.root.0 text (nodes total start len)) (sym claims)
-            (record {
-              long = omega (arith, all);
-              good = is_good.good;
-              ends = all ∙ ap (λ (k : ℕ). 8 + k) is_good.size;
-            }))
+        | inl is ↦ inl (subst (λ (total : ℕ). IsAccepted fixed.mode fixed.root.0 text (nodes total start len)) (sym claims) is)
       ]
 
 -- where a length is recorded

@@ -209,7 +209,6 @@ pub stepped : (fixed : Fixed) (pieces : List Checked) (steps : List MicroStep) (
     → HasRun fixed pieces steps replies history m old → fixed_of new.store ≡ fixed_of old.store → TakesBytes pieces step
     → IsNext (fixed_of old.store) pieces (state_of new.store) new.players.items new.written.items m step reply → IsStepped fixed pieces steps replies history m step reply new
 stepped fixed pieces steps replies history m step reply old new has same bytes next =
-    let was : Fixed = fixed_of old.store in
     let legal : IsLegalStep fixed pieces m step = subst (λ (f : Fixed). IsLegalStep f pieces m step) has.fixed_is next.legal in
     let right : IsReply fixed m step reply = subst (λ (f : Fixed). IsReply f m step reply) has.fixed_is next.right in
     let served : IsSoundMachine fixed m = subst (λ (f : Fixed). IsSoundMachine f m) has.fixed_is has.served in

@@ -61,7 +61,6 @@ returns-in-Some-whole_at_hand-clause-nodes c =
     let last : last_part c.args.waiting.now.items ≡ Some c.in-Some.part = sym c.next_part.ensures ∙ c.in-Some.is in
     let first = first_of c.args.choice.now c.args.waiting.now.items c.in-Some.part (part_size c.in-Some.part) c.requires.parts last refl in
     let whole = c.in-Some-whole_at_hand.ensures in
-    let size = whole_size c.in-Some.part c.args.choice.now c.args.mode.now c.in-Some-whole_at_hand.len c.args.bytes.now whole in
     whole_taken_from c.args.mode.now c.args.choice.now c.args.waiting.now.items c.pop-taken.new.self.items c.in-Some.part c.in-Some-whole_at_hand.len c.args.bytes.now
     (first.is ∙ ap (λ (s : List Part). s ++ c.in-Some.part ∷ []) (sym c.pop-taken.ensures.rest)) first.wanted whole
 
@@ -69,8 +68,7 @@ pub returns-in-Some-whole_at_hand-clause-chunks : goal.returns-in-Some-whole_at_
 returns-in-Some-whole_at_hand-clause-chunks c =
     let last : last_part c.args.waiting.now.items ≡ Some c.in-Some.part = sym c.next_part.ensures ∙ c.in-Some.is in
     let first = first_of c.args.choice.now c.args.waiting.now.items c.in-Some.part (part_size c.in-Some.part) c.requires.parts last refl in
-    let whole = c.in-Some-whole_at_hand.ensures in
-    let size = whole_size c.in-Some.part c.args.choice.now c.args.mode.now c.in-Some-whole_at_hand.len c.args.bytes.now whole in (
+    let whole = c.in-Some-whole_at_hand.ensures in (
       chunk_bytes (subtree_kinds c.args.choice.now c.in-Some.part.number c.in-Some.part.len) c.args.bytes.now,
       c.copy_chunks-free.ensures.bytes,
       whole_decodes c.args.mode.now c.args.choice.now c.args.waiting.now.items c.pop-taken.new.self.items c.in-Some.part c.in-Some-whole_at_hand.len c.args.bytes.now

@@ -10,45 +10,21 @@ overflow_add-parent c =
     c.left_len-left_len.ensures.largest in
     omega (arith, p.middle)
 
-pub push_wanted-requires-clause-room : goal.push_wanted-requires-clause-room
-push_wanted-requires-clause-room c =
+pub push_wanted-requires-clause-fits : goal.push_wanted-requires-clause-fits
+push_wanted-requires-clause-fits c =
     let p = part_parted c.args.choice.now c.args.waiting.now.items c.args.parent.now c.left_len-left_len.result c.requires.parts c.requires.parent c.left_len-left_len.ensures.value
     c.left_len-left_len.ensures.largest in
-    omega (arith, p.room)
-
-pub push_wanted-requires-clause-within : goal.push_wanted-requires-clause-within
-push_wanted-requires-clause-within c =
-    let p = part_parted c.args.choice.now c.args.waiting.now.items c.args.parent.now c.left_len-left_len.result c.requires.parts c.requires.parent c.left_len-left_len.ensures.value
-    c.left_len-left_len.ensures.largest in
-    p.middle
-
-pub push_wanted-requires-clause-levels : goal.push_wanted-requires-clause-levels
-push_wanted-requires-clause-levels c =
-    let p = part_parted c.args.choice.now c.args.waiting.now.items c.args.parent.now c.left_len-left_len.result c.requires.parts c.requires.parent c.left_len-left_len.ensures.value
-    c.left_len-left_len.ensures.largest in
-    p.far_levels
+    (omega (arith, p.room), p.middle, p.far_levels)
 
 pub push_wanted-requires-clause-parts : goal.push_wanted-requires-clause-parts
 push_wanted-requires-clause-parts c =
     (part_taken c.args.choice.now (c.args.waiting.now.items ++ c.args.parent.now ∷ []) c.args.waiting.now.items c.args.parent.now c.requires.parts refl).waiting
 
-pub push_wanted-requires-2-clause-room : goal.push_wanted-requires-2-clause-room
-push_wanted-requires-2-clause-room c =
+pub push_wanted-requires-2-clause-fits : goal.push_wanted-requires-2-clause-fits
+push_wanted-requires-2-clause-fits c =
     let p = part_parted c.args.choice.now c.args.waiting.now.items c.args.parent.now c.left_len-left_len.result c.requires.parts c.requires.parent c.left_len-left_len.ensures.value
     c.left_len-left_len.ensures.largest in
-    omega (arith, p.room, c.push_wanted.ensures.room)
-
-pub push_wanted-requires-2-clause-within : goal.push_wanted-requires-2-clause-within
-push_wanted-requires-2-clause-within c =
-    let p = part_parted c.args.choice.now c.args.waiting.now.items c.args.parent.now c.left_len-left_len.result c.requires.parts c.requires.parent c.left_len-left_len.ensures.value
-    c.left_len-left_len.ensures.largest in
-    p.near
-
-pub push_wanted-requires-2-clause-levels : goal.push_wanted-requires-2-clause-levels
-push_wanted-requires-2-clause-levels c =
-    let p = part_parted c.args.choice.now c.args.waiting.now.items c.args.parent.now c.left_len-left_len.result c.requires.parts c.requires.parent c.left_len-left_len.ensures.value
-    c.left_len-left_len.ensures.largest in
-    p.near_levels (length c.push_wanted.new.waiting.items) c.push_wanted.ensures.room
+    (omega (arith, p.room, c.push_wanted.ensures.room), p.near, p.near_levels (length c.push_wanted.new.waiting.items) c.push_wanted.ensures.room)
 
 pub returns-clause-kinds : goal.returns-clause-kinds
 returns-clause-kinds c =

@@ -7,7 +7,7 @@ use Rattle.bao_check.proofs.waiting.push_wanted.Goals as goal
 pub returns-then-wants-clause-parts : goal.returns-then-wants-clause-parts
 returns-then-wants-clause-parts c =
     AreParts-last c.args.choice.now c.args.waiting.now.items c.push.new.self.items _ c.push.ensures.items c.requires.parts (sym c.wants.ensures ∙ c.if-wants.true)
-    c.requires.within c.requires.levels
+    c.requires.fits.1 c.requires.fits.2
 
 pub returns-then-wants-clause-before : goal.returns-then-wants-clause-before
 returns-then-wants-clause-before c = before_last c.args.choice.now c.args.waiting.now.items c.push.new.self.items _ c.push.ensures.items

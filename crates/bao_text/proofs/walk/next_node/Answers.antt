@@ -29,29 +29,13 @@ overflow_add-middle c =
     let p = parted c.args.choice.now c.args.waiting.now.items c.pop.new.self.items x c.left_len-left_len.result taken c.if-len.false c.left_len-left_len.ensures.value c.left_len-left_len.ensures.largest in
     omega (arith, p.middle)
 
-pub push_wanted-requires-clause-room : goal.push_wanted-requires-clause-room
-push_wanted-requires-clause-room c =
+pub push_wanted-requires-clause-fits : goal.push_wanted-requires-clause-fits
+push_wanted-requires-clause-fits c =
     let x = c.in_ok-number.field-0 in
     let taken = taken_last c.args.choice.now c.args.waiting.now.items c.pop.new.self.items x c.requires.subtrees
     (c.pop.ensures.items ∙ ap (λ (o : Option Subtree). c.pop.new.self.items ++ option_to_list o) c.in_ok-number.was) in
     let p = parted c.args.choice.now c.args.waiting.now.items c.pop.new.self.items x c.left_len-left_len.result taken c.if-len.false c.left_len-left_len.ensures.value c.left_len-left_len.ensures.largest in
-    omega (arith, p.room)
-
-pub push_wanted-requires-clause-within : goal.push_wanted-requires-clause-within
-push_wanted-requires-clause-within c =
-    let x = c.in_ok-number.field-0 in
-    let taken = taken_last c.args.choice.now c.args.waiting.now.items c.pop.new.self.items x c.requires.subtrees
-    (c.pop.ensures.items ∙ ap (λ (o : Option Subtree). c.pop.new.self.items ++ option_to_list o) c.in_ok-number.was) in
-    let p = parted c.args.choice.now c.args.waiting.now.items c.pop.new.self.items x c.left_len-left_len.result taken c.if-len.false c.left_len-left_len.ensures.value c.left_len-left_len.ensures.largest in
-    p.middle
-
-pub push_wanted-requires-clause-levels : goal.push_wanted-requires-clause-levels
-push_wanted-requires-clause-levels c =
-    let x = c.in_ok-number.field-0 in
-    let taken = taken_last c.args.choice.now c.args.waiting.now.items c.pop.new.self.items x c.requires.subtrees
-    (c.pop.ensures.items ∙ ap (λ (o : Option Subtree). c.pop.new.self.items ++ option_to_list o) c.in_ok-number.was) in
-    let p = parted c.args.choice.now c.args.waiting.now.items c.pop.new.self.items x c.left_len-left_len.result taken c.if-len.false c.left_len-left_len.ensures.value c.left_len-left_len.ensures.largest in
-    p.far_levels
+    (omega (arith, p.room), p.middle, p.far_levels)
 
 pub push_wanted-requires-clause-subtrees : goal.push_wanted-requires-clause-subtrees
 push_wanted-requires-clause-subtrees c =
@@ -60,29 +44,13 @@ push_wanted-requires-clause-subtrees c =
     (c.pop.ensures.items ∙ ap (λ (o : Option Subtree). c.pop.new.self.items ++ option_to_list o) c.in_ok-number.was) in
     taken.waiting
 
-pub push_wanted-requires-2-clause-room : goal.push_wanted-requires-2-clause-room
-push_wanted-requires-2-clause-room c =
+pub push_wanted-requires-2-clause-fits : goal.push_wanted-requires-2-clause-fits
+push_wanted-requires-2-clause-fits c =
     let x = c.in_ok-number.field-0 in
     let taken = taken_last c.args.choice.now c.args.waiting.now.items c.pop.new.self.items x c.requires.subtrees
     (c.pop.ensures.items ∙ ap (λ (o : Option Subtree). c.pop.new.self.items ++ option_to_list o) c.in_ok-number.was) in
     let p = parted c.args.choice.now c.args.waiting.now.items c.pop.new.self.items x c.left_len-left_len.result taken c.if-len.false c.left_len-left_len.ensures.value c.left_len-left_len.ensures.largest in
-    omega (arith, p.room, c.push_wanted.ensures.room)
-
-pub push_wanted-requires-2-clause-within : goal.push_wanted-requires-2-clause-within
-push_wanted-requires-2-clause-within c =
-    let x = c.in_ok-number.field-0 in
-    let taken = taken_last c.args.choice.now c.args.waiting.now.items c.pop.new.self.items x c.requires.subtrees
-    (c.pop.ensures.items ∙ ap (λ (o : Option Subtree). c.pop.new.self.items ++ option_to_list o) c.in_ok-number.was) in
-    let p = parted c.args.choice.now c.args.waiting.now.items c.pop.new.self.items x c.left_len-left_len.result taken c.if-len.false c.left_len-left_len.ensures.value c.left_len-left_len.ensures.largest in
-    p.near
-
-pub push_wanted-requires-2-clause-levels : goal.push_wanted-requires-2-clause-levels
-push_wanted-requires-2-clause-levels c =
-    let x = c.in_ok-number.field-0 in
-    let taken = taken_last c.args.choice.now c.args.waiting.now.items c.pop.new.self.items x c.requires.subtrees
-    (c.pop.ensures.items ∙ ap (λ (o : Option Subtree). c.pop.new.self.items ++ option_to_list o) c.in_ok-number.was) in
-    let p = parted c.args.choice.now c.args.waiting.now.items c.pop.new.self.items x c.left_len-left_len.result taken c.if-len.false c.left_len-left_len.ensures.value c.left_len-left_len.ensures.largest in
-    p.near_levels (length c.push_wanted.new.waiting.items) c.push_wanted.ensures.room
+    (omega (arith, p.room, c.push_wanted.ensures.room), p.near, p.near_levels (length c.push_wanted.new.waiting.items) c.push_wanted.ensures.room)
 
 pub returns-clause-first : goal.returns-clause-first
 returns-clause-first c =

@@ -6,7 +6,7 @@ use Rattle.bao_text.proofs.walk.push_wanted.Goals as goal
 pub returns-then-wants-clause-subtrees : goal.returns-then-wants-clause-subtrees
 returns-then-wants-clause-subtrees c =
     subst (AreWaiting c.args.choice.now 54) (sym c.push.ensures.items)
-    (AreWaiting-last c.args.choice.now 54 c.args.waiting.now.items _ c.requires.subtrees (sym c.wants.ensures ∙ c.if-wants.true, (c.requires.within, c.requires.levels)))
+    (AreWaiting-last c.args.choice.now 54 c.args.waiting.now.items _ c.requires.subtrees (sym c.wants.ensures ∙ c.if-wants.true, (c.requires.fits.1, c.requires.fits.2)))
 
 pub returns-then-wants-clause-names : goal.returns-then-wants-clause-names
 returns-then-wants-clause-names c = ap (waiting_names c.args.choice.now) c.push.ensures.items ∙ waiting_names-last c.args.choice.now c.args.waiting.now.items _

@@ -13,6 +13,11 @@ use Rattle.store_steps.proofs.Meeting.{at_two, meet_turns}
 use Rattle.store_steps.proofs.Regrouping.{enter_asks, join_asks, leave_asks}
 use Rattle.store_steps.proofs.words.Words.meet.Goals as goal
 
+-- the views of two seats that were joined
+joined : (ours other theirs both : List SeatView) → both ≡ ours ++ other → other ≡ theirs → ours ≡ first_of ours ∷ [] → theirs ≡ first_of theirs ∷ []
+    → both ≡ first_of ours ∷ first_of theirs ∷ []
+joined ours other theirs both is same one two = is ∙ ap (λ (vs : List SeatView). ours ++ vs) same ∙ two_of ours theirs one two
+
 pub load_new_seat-spare-requires : goal.load_new_seat-spare-requires
 load_new_seat-spare-requires c =
     let words = c.args.self.now in (
@@ -41,11 +46,9 @@ load-requires c =
     let one : SeatView = first_of c.first.inside.seat.me.0 in
     let two : SeatView = first_of c.second.inside.seat.me.0 in
     let both = c.join_seat.new.seat in
-    let me : c.replace-other.result.me ≡ c.second.inside.seat.me = ap (λ x. x.me) c.replace-other.ensures.value in
-    let is : both.me.0 ≡ one ∷ two ∷ [] =
-    ap (λ (m : Me Unit (List SeatView)). m.0) c.join_seat.ensures.2
-    ∙ ap (λ (m : Me Unit (List SeatView)). c.first.inside.seat.me.0 ++ m.0) me
-    ∙ two_of c.first.inside.seat.me.0 c.second.inside.seat.me.0 c.first.invariant.0 c.second.invariant.0 in (
+    let is : c.join_seat.new.seat.me.0 ≡ one ∷ two ∷ [] =
+    joined c.first.inside.seat.me.0 c.replace-other.result.me.0 c.second.inside.seat.me.0 c.join_seat.new.seat.me.0 (ap (λ (m : Me Unit (List SeatView)). m.0) c.join_seat.ensures.2)
+    (ap (λ x. x.me.0) c.replace-other.ensures.value) c.first.invariant.0 c.second.invariant.0 in (
       c.join_seat.ensures.0 ∙ ap (λ (x : Gripped). x.table_id) c.first.view_is ∙ c.requires.first.table_is,
       omega (arith, words.count),
       at_two words.fixed words.table.shared.key words.key_is words.table.shared.table_id.slots both.id both.me one two is MeetsSeat
@@ -57,12 +60,9 @@ split_seat-requires c =
     let words = c.args.self.now in
     let one : SeatView = first_of c.first.inside.seat.me.0 in
     let two : SeatView = first_of c.second.inside.seat.me.0 in
-    let both = c.join_seat.new.seat in
-    let me : c.replace-other.result.me ≡ c.second.inside.seat.me = ap (λ x. x.me) c.replace-other.ensures.value in
-    let is : both.me.0 ≡ one ∷ two ∷ [] =
-    ap (λ (m : Me Unit (List SeatView)). m.0) c.join_seat.ensures.2
-    ∙ ap (λ (m : Me Unit (List SeatView)). c.first.inside.seat.me.0 ++ m.0) me
-    ∙ two_of c.first.inside.seat.me.0 c.second.inside.seat.me.0 c.first.invariant.0 c.second.invariant.0 in
+    let is : c.join_seat.new.seat.me.0 ≡ one ∷ two ∷ [] =
+    joined c.first.inside.seat.me.0 c.replace-other.result.me.0 c.second.inside.seat.me.0 c.join_seat.new.seat.me.0 (ap (λ (m : Me Unit (List SeatView)). m.0) c.join_seat.ensures.2)
+    (ap (λ x. x.me.0) c.replace-other.ensures.value) c.first.invariant.0 c.second.invariant.0 in
     let later = c.load.new.seat in
     let t = c.load.ensures.2 one two is in (
       c.load.ensures.0 ∙ c.join_seat.ensures.0 ∙ ap (λ (x : Gripped). x.table_id) c.first.view_is ∙ c.requires.first.table_is,
@@ -72,15 +72,11 @@ split_seat-requires c =
 
 pub invariant_of-first : goal.invariant_of-first
 invariant_of-first c =
-    let words = c.args.self.now in
     let one : SeatView = first_of c.first.inside.seat.me.0 in
     let two : SeatView = first_of c.second.inside.seat.me.0 in
-    let both = c.join_seat.new.seat in
-    let me : c.replace-other.result.me ≡ c.second.inside.seat.me = ap (λ x. x.me) c.replace-other.ensures.value in
-    let is : both.me.0 ≡ one ∷ two ∷ [] =
-    ap (λ (m : Me Unit (List SeatView)). m.0) c.join_seat.ensures.2
-    ∙ ap (λ (m : Me Unit (List SeatView)). c.first.inside.seat.me.0 ++ m.0) me
-    ∙ two_of c.first.inside.seat.me.0 c.second.inside.seat.me.0 c.first.invariant.0 c.second.invariant.0 in
+    let is : c.join_seat.new.seat.me.0 ≡ one ∷ two ∷ [] =
+    joined c.first.inside.seat.me.0 c.replace-other.result.me.0 c.second.inside.seat.me.0 c.join_seat.new.seat.me.0 (ap (λ (m : Me Unit (List SeatView)). m.0) c.join_seat.ensures.2)
+    (ap (λ x. x.me.0) c.replace-other.ensures.value) c.first.invariant.0 c.second.invariant.0 in
     let later = c.load.new.seat in
     let t = c.load.ensures.2 one two is in (
       only c.split_seat.new.seat.me.0 (first_of later.me.0) (ap (λ (m : Me Unit (List SeatView)). m.0) c.split_seat.ensures.2),
@@ -90,16 +86,11 @@ invariant_of-first c =
 
 pub invariant_of-second : goal.invariant_of-second
 invariant_of-second c =
-    let words = c.args.self.now in
     let one : SeatView = first_of c.first.inside.seat.me.0 in
     let two : SeatView = first_of c.second.inside.seat.me.0 in
-    let both = c.join_seat.new.seat in
-    let me : c.replace-other.result.me ≡ c.second.inside.seat.me = ap (λ x. x.me) c.replace-other.ensures.value in
-    let is : both.me.0 ≡ one ∷ two ∷ [] =
-    ap (λ (m : Me Unit (List SeatView)). m.0) c.join_seat.ensures.2
-    ∙ ap (λ (m : Me Unit (List SeatView)). c.first.inside.seat.me.0 ++ m.0) me
-    ∙ two_of c.first.inside.seat.me.0 c.second.inside.seat.me.0 c.first.invariant.0 c.second.invariant.0 in
-    let later = c.load.new.seat in
+    let is : c.join_seat.new.seat.me.0 ≡ one ∷ two ∷ [] =
+    joined c.first.inside.seat.me.0 c.replace-other.result.me.0 c.second.inside.seat.me.0 c.join_seat.new.seat.me.0 (ap (λ (m : Me Unit (List SeatView)). m.0) c.join_seat.ensures.2)
+    (ap (λ x. x.me.0) c.replace-other.ensures.value) c.first.invariant.0 c.second.invariant.0 in
     let t = c.load.ensures.2 one two is in (
       only c.split_seat.result.me.0 t.0.new_second
           (ap (λ (m : Me Unit (List SeatView)). m.0) c.split_seat.ensures.4 ∙ ap (λ (vs : List SeatView). later_views vs) t.0.is),
@@ -108,16 +99,11 @@ invariant_of-second c =
 
 pub returns-clause-met : goal.returns-clause-met
 returns-clause-met c =
-    let words = c.args.self.now in
     let one : SeatView = first_of c.first.inside.seat.me.0 in
     let two : SeatView = first_of c.second.inside.seat.me.0 in
-    let both = c.join_seat.new.seat in
-    let me : c.replace-other.result.me ≡ c.second.inside.seat.me = ap (λ x. x.me) c.replace-other.ensures.value in
-    let is : both.me.0 ≡ one ∷ two ∷ [] =
-    ap (λ (m : Me Unit (List SeatView)). m.0) c.join_seat.ensures.2
-    ∙ ap (λ (m : Me Unit (List SeatView)). c.first.inside.seat.me.0 ++ m.0) me
-    ∙ two_of c.first.inside.seat.me.0 c.second.inside.seat.me.0 c.first.invariant.0 c.second.invariant.0 in
-    let later = c.load.new.seat in
+    let is : c.join_seat.new.seat.me.0 ≡ one ∷ two ∷ [] =
+    joined c.first.inside.seat.me.0 c.replace-other.result.me.0 c.second.inside.seat.me.0 c.join_seat.new.seat.me.0 (ap (λ (m : Me Unit (List SeatView)). m.0) c.join_seat.ensures.2)
+    (ap (λ x. x.me.0) c.replace-other.ensures.value) c.first.invariant.0 c.second.invariant.0 in
     let t = c.load.ensures.2 one two is in
     let new_first : SeatView = first_of c.split_seat.new.seat.me.0 in
     let new_second : SeatView = first_of c.split_seat.result.me.0 in
