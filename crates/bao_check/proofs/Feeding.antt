@@ -348,8 +348,11 @@ waits_stop task choice parts taken more n all there next less w =
     w.stopped fault (length taken + n)
     (subst (λ (ps : List Part). AllCome task.mode choice ps (taken ++ more) (length taken) (Some fault) (length taken + n)) (sym first.is)
     (AllCome-last task.mode choice (take (length parts - 1) parts) found.0 (taken ++ more) (length taken) (Some fault) (length taken + n)
-    (inl (refl, subst (λ (s : List ℕ). StopsIn found.0.asked task.mode choice found.0.number found.0.len s (length taken) fault (length taken + n)) (append-nil (taken ++ more))
-    (part_short task.mode choice parts found.0 n taken more first there less)))))
+    (inl (
+      refl,
+      subst (λ (s : List ℕ). StopsIn found.0.asked task.mode choice found.0.number found.0.len s (length taken) fault (length taken + n)) (append-nil (taken ++ more))
+          (part_short task.mode choice parts found.0 n taken more first there less),
+    ))))
 
 pub fault_as : (task : CheckTask) (text : List ℕ) (fault : CheckFault) (end : ℕ) → IsStopAs task text fault end → IsFaultAs task text fault
 fault_as task text fault end h = first_fault task.mode task.root text (slice_nodes text task.start task.len) fault end h

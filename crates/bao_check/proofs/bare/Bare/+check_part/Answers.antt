@@ -46,11 +46,11 @@ returns-in_err-check_part-clause-err t c =
     let near : Asked = record { top = false; value = c.part_values.result.0 } in
     let is_near = half left c.part_values.result.0 c.args.at bare.outline.now c.part_values.ensures.left in
     λ root sides source reaches.
-        rw (p.1, p.2)
-        (stops_near bare root c.args.number c.args.n c.left_len-left_len.result (omega (arith, c.if-n-chunk_len.false)) c.left_len-left_len.ensures.value c.in_err-check_part.field-0.0
-        (c.in_err-check_part.ensures.err root _ _
-        (near_reached root bare.outline.now c.args.asked.now c.args.number c.args.n sides source c.args.at (omega (arith, c.if-n-chunk_len.false)) reaches
-        c.left_len-left_len.result c.left_len-left_len.ensures.value near is_near)))
+    rw (p.1, p.2)
+    (stops_near bare root c.args.number c.args.n c.left_len-left_len.result (omega (arith, c.if-n-chunk_len.false)) c.left_len-left_len.ensures.value c.in_err-check_part.field-0.0
+    (c.in_err-check_part.ensures.err root _ _
+    (near_reached root bare.outline.now c.args.asked.now c.args.number c.args.n sides source c.args.at (omega (arith, c.if-n-chunk_len.false)) reaches
+    c.left_len-left_len.result c.left_len-left_len.ensures.value near is_near)))
 
 pub returns-clause-ok : goal.returns-clause-ok
 returns-clause-ok t c =
@@ -61,14 +61,14 @@ returns-clause-ok t c =
     let is_near = half left c.part_values.result.0 c.args.at bare.outline.now c.part_values.ensures.left in
     let is_far = half right c.part_values.result.1 c.args.at bare.outline.now c.part_values.ensures.right in
     λ root sides source reaches.
-        on_ok_weaker c.check_part-2.result
-        (passes_parts bare root c.args.number c.args.n l (omega (arith, c.if-n-chunk_len.false)) c.left_len-left_len.ensures.value
-        (c.in_ok-check_part.ensures.ok root _ _
-        (near_reached root bare.outline.now c.args.asked.now c.args.number c.args.n sides source c.args.at (omega (arith, c.if-n-chunk_len.false)) reaches
-        l c.left_len-left_len.ensures.value near is_near)))
-        (c.check_part-2.ensures.ok root _ _
-        (far_reached root bare.outline.now c.args.asked.now c.args.number c.args.n sides source c.args.at (omega (arith, c.if-n-chunk_len.false)) reaches
-        l c.left_len-left_len.ensures.value far is_far))
+    on_ok_weaker c.check_part-2.result
+    (passes_parts bare root c.args.number c.args.n l (omega (arith, c.if-n-chunk_len.false)) c.left_len-left_len.ensures.value
+    (c.in_ok-check_part.ensures.ok root _ _
+    (near_reached root bare.outline.now c.args.asked.now c.args.number c.args.n sides source c.args.at (omega (arith, c.if-n-chunk_len.false)) reaches
+    l c.left_len-left_len.ensures.value near is_near)))
+    (c.check_part-2.ensures.ok root _ _
+    (far_reached root bare.outline.now c.args.asked.now c.args.number c.args.n sides source c.args.at (omega (arith, c.if-n-chunk_len.false)) reaches
+    l c.left_len-left_len.ensures.value far is_far))
 
 pub returns-clause-err : goal.returns-clause-err
 returns-clause-err t c =
@@ -79,11 +79,11 @@ returns-clause-err t c =
     let is_near = half left c.part_values.result.0 c.args.at bare.outline.now c.part_values.ensures.left in
     let is_far = half right c.part_values.result.1 c.args.at bare.outline.now c.part_values.ensures.right in
     λ root sides source reaches.
-        IfErr-weaker c.check_part-2.result _ _
-        (λ fault. stops_far bare root c.args.number c.args.n l (omega (arith, c.if-n-chunk_len.false)) c.left_len-left_len.ensures.value fault
-        (c.in_ok-check_part.ensures.ok root _ _
-        (near_reached root bare.outline.now c.args.asked.now c.args.number c.args.n sides source c.args.at (omega (arith, c.if-n-chunk_len.false)) reaches
-        l c.left_len-left_len.ensures.value near is_near)))
-        (c.check_part-2.ensures.err root _ _
-        (far_reached root bare.outline.now c.args.asked.now c.args.number c.args.n sides source c.args.at (omega (arith, c.if-n-chunk_len.false)) reaches
-        l c.left_len-left_len.ensures.value far is_far))
+    IfErr-weaker c.check_part-2.result _ _
+    (λ fault. stops_far bare root c.args.number c.args.n l (omega (arith, c.if-n-chunk_len.false)) c.left_len-left_len.ensures.value fault
+    (c.in_ok-check_part.ensures.ok root _ _
+    (near_reached root bare.outline.now c.args.asked.now c.args.number c.args.n sides source c.args.at (omega (arith, c.if-n-chunk_len.false)) reaches
+    l c.left_len-left_len.ensures.value near is_near)))
+    (c.check_part-2.ensures.err root _ _
+    (far_reached root bare.outline.now c.args.asked.now c.args.number c.args.n sides source c.args.at (omega (arith, c.if-n-chunk_len.false)) reaches
+    l c.left_len-left_len.ensures.value far is_far))
