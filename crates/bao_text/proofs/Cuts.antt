@@ -1,5 +1,5 @@
 -- Nodes that are cut out of bytes, one part after another.
-use Rattle.std.proofs.Common.{◌≡◌, ℕ, ◌+◌, ◌<◌, ◌≤◌, List, [], ◌++◌, length, take, drop, nat_le, Bool, true, false, refl, sym, ap, ◌∙◌, arith, lit≤}
+use Rattle.std.proofs.Common.{Result, Ok, Err, IfOk, OnOk, ◌≡◌, ℕ, ◌+◌, ◌<◌, ◌≤◌, List, [], ◌++◌, length, take, drop, nat_le, Bool, true, false, refl, sym, ap, ◌∙◌, arith, lit≤}
 use Rattle.std.specs.Int.{from_le_bytes, w64}
 use Rattle.std.proofs.lemmas.Bool.{le-ltb, leb-true}
 use Rattle.std.proofs.lemmas.List.{append-nil, append_assoc, drop_at, take-take}
@@ -18,15 +18,16 @@ Cuts-none Holds old nodes n none = record {
   few = omega arith;
 }
 
--- one part
-pub Cuts-run : (Holds : List ℕ → Type 0) (old new : List ℕ) (at k n : ℕ) (nodes : List TreeNode) (whole : Bool) → IsRun at k nodes → n ≤ k
-    → ((s : List ℕ) → Holds s → new ≡ old ++ piece s at k) → ((s : List ℕ) → Holds s → 0 < k → whole ≡ nat_le (at + k) (length s)) → length new ≤ length old + k
-    → Cuts Holds old new nodes n whole
-Cuts-run Holds old new at k n nodes whole run some part all few = record {
+-- one part, as it was copied: of a copy that was made, the type of faults is any
+pub Cuts-run : (E : Type 0) (Holds : List ℕ → Type 0) (old new : List ℕ) (at k n : ℕ) (nodes : List TreeNode) (result : Result Bool E) → IsRun at k nodes → n ≤ k
+    → ((s : List ℕ) → Holds s → OnOk result (new ≡ old ++ piece s at k)) → ((s : List ℕ) → Holds s → IfOk result (λ whole. 0 < k → whole ≡ nat_le (at + k) (length s)))
+    → OnOk result (length new ≤ length old + k) → IfOk result (λ whole. Cuts Holds old new nodes n whole)
+Cuts-run E Holds old new at k n nodes (Ok whole) run some part all few = record {
   cut = λ s is. part s is ∙ ap (λ (xs : List ℕ). old ++ xs) (sym (run.cut s));
   all = λ s is more. let over : 0 < k = omega arith in all s is over ∙ sym (run.all s over);
-  few = omega (arith, run.len);
+  few = omega (arith, run.len, few);
 }
+Cuts-run E Holds old new at k n nodes (Err fault) run some part all few = tt
 
 -- the nodes after those that aren't all there count for nothing
 pub Cuts-short : (Holds : List ℕ → Type 0) (old new : List ℕ) (xs ys : List TreeNode) (k n : ℕ) → 0 < k → Cuts Holds old new xs k false → Cuts Holds old new (xs ++ ys) n false
@@ -40,11 +41,8 @@ Cuts-short Holds old new xs ys k n some h = record {
 pub Cuts-then : (Holds : List ℕ → Type 0) (old mid new : List ℕ) (xs ys : List TreeNode) (k m n : ℕ) (whole : Bool) → 0 < k → 0 < m
     → Cuts Holds old mid xs k true → Cuts Holds mid new ys m whole → Cuts Holds old new (xs ++ ys) n whole
 Cuts-then Holds old mid new xs ys k m n whole some more a b = record {
-  cut = λ s is.
-      let there : has_all s xs ≡ true = sym (a.all s is some) in
-      b.cut s is ∙ ap (λ (bytes : List ℕ). bytes ++ cut_nodes s ys) (a.cut s is) ∙ append_assoc old (cut_nodes s xs) (cut_nodes s ys)
-      ∙ ap (λ (bytes : List ℕ). old ++ bytes) (sym (cut_nodes-append s xs ys there));
-  all = λ s is _. let there : has_all s xs ≡ true = sym (a.all s is some) in b.all s is more ∙ sym (has_all-append s xs ys there);
+  cut = λ s is. rw (b.cut s is, a.cut s is, cut_nodes-append s xs ys (sym (a.all s is some)), append_assoc) refl;
+  all = λ s is _. rw (has_all-append s xs ys (sym (a.all s is some))) (b.all s is more);
   few = omega (arith, a.few, b.few, sum_by-append size xs ys);
 }
 
@@ -55,6 +53,4 @@ slice_cut old mid new s start len total begin there is rest =
     let some : 8 ≤ length s = leb-true 8 (length s) (sym there) in
     let first : drop (length old) mid ≡ take 8 s = ap (drop (length old)) begin ∙ drop_at old (take 8 s) (length old) refl in
     let claim : total ≡ claimed s = is ∙ (λ i. from_le_bytes w64 (take 8 (first i))) ∙ ap (from_le_bytes w64) (take-take 8 8 s (lit≤ tt)) in
-    let text : cut_text s start len ≡ take 8 s ++ cut_nodes s (nodes (claimed s) start len) = rw (le-ltb (length s) 8 some) refl in
-    rest ∙ (λ i. begin i ++ cut_nodes s (nodes (claim i) start len)) ∙ append_assoc old (take 8 s) (cut_nodes s (nodes (claimed s) start len))
-    ∙ ap (λ (bytes : List ℕ). old ++ bytes) (sym text)
+    rest ∙ rw (begin, claim, le-ltb (length s) 8 some, append_assoc) refl

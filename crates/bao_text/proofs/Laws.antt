@@ -19,16 +19,10 @@ length-length_text : (n : ℕ) → length (length_text n) ≡ 8
 length-length_text n = refl
 
 pub length-combined_text : (mode : Mode) (blob : List ℕ) → length (combined_text mode blob) ≡ 8 + 64 * (chunk_count (length blob) - 1) + length blob
-length-combined_text mode blob =
-    let rest : length (subtree_text (of_combined (length blob)) mode 0 blob) ≡ length blob + 64 * (chunk_count (length blob) - 1) =
-    length-everything (of_combined (length blob)) mode blob refl refl in
-    length-append (length_text (length blob)) (subtree_text (of_combined (length blob)) mode 0 blob) ∙ omega arith
+length-combined_text mode blob = omega (arith, length-append {A = ℕ}, length-everything (of_combined (length blob)) mode blob refl refl)
 
 pub length-outboard_text : (mode : Mode) (blob : List ℕ) → length (outboard_text mode blob) ≡ 8 + 64 * (chunk_count (length blob) - 1)
-length-outboard_text mode blob =
-    let rest : length (subtree_text (of_outboard (length blob)) mode 0 blob) ≡ 0 + 64 * (chunk_count (length blob) - 1) =
-    length-everything (of_outboard (length blob)) mode blob refl refl in
-    length-append (length_text (length blob)) (subtree_text (of_outboard (length blob)) mode 0 blob) ∙ omega arith
+length-outboard_text mode blob = omega (arith, length-append {A = ℕ}, length-everything (of_outboard (length blob)) mode blob refl refl)
 
 -- an encoding is the length and the bytes of its nodes
 pub chosen_text-nodes : (choice : Choice) (mode : Mode) (blob : List ℕ)
@@ -66,3 +60,6 @@ cut_text-combined mode blob start len fits =
     rw (le-ltb (length text) 8 long)
     ((λ i. head i ++ cut_nodes text (nodes (total i) start len))
     ∙ ap (λ (xs : List ℕ). first ++ xs) (cut_nodes-everything all (of_slice (length blob) start len) mode blob first refl refl refl))
+
+-- what functions promise by these laws
+pub ruleset laws = (length-combined_text, length-outboard_text, chosen_text-nodes, cut_text-combined)

@@ -95,6 +95,7 @@ pub fn append_cut<P: Places>(
 
 /// The encoding of the slice (`start`, `len`), cut out of the combined encoding `text` as `append_cut` cuts it: nothing is
 /// checked. Of the combined encoding of a blob it is the blob's slice. Answers `Memory` (401) where a growth was refused.
+#[tactic(auto, using(crate::proofs::Laws::laws))]
 pub fn cut_slice(alloc: Global, text: &[u8], start: u64, len: u64) -> Result<Vec<u8>, Memory>
     ensures cut { IfOk result (λ v. v.items ≡ cut_text text.now start len) }
     ensures slice { (mode : Mode) (blob : List ℕ) → length blob < 2 ^ 64 → text.now ≡ combined_text mode blob

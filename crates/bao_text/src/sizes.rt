@@ -34,6 +34,7 @@ pub fn subtree_size(n: u64) -> u128
 
 /// How many bytes the combined encoding of a blob of `len` bytes has: 8 for the length, 64 for each
 /// parent, one fewer than there are chunks, and the blob's.
+#[tactic(auto, using(crate::proofs::Laws::laws))]
 pub fn encoded_len(len: u64) -> u128
     ensures value { result ≡ 8 + 64 * (chunk_count len - 1) + len }
     ensures text { (mode : Mode) (blob : List ℕ) → length blob ≡ len → length (combined_text mode blob) ≡ result }
@@ -43,6 +44,7 @@ pub fn encoded_len(len: u64) -> u128
 
 /// How many bytes the outboard encoding of a blob of `len` bytes has: 8 for the length and 64 for each
 /// parent, one fewer than there are chunks.
+#[tactic(auto, using(crate::proofs::Laws::laws))]
 pub fn outboard_len(len: u64) -> u128
     ensures value { result ≡ 8 + 64 * (chunk_count len - 1) }
     ensures text { (mode : Mode) (blob : List ℕ) → length blob ≡ len → length (outboard_text mode blob) ≡ result }

@@ -50,6 +50,7 @@ pub fn put_parent(text: &mut Vec<u8>, at: usize, left: &Cv, right: &Cv)
 /// compression, as `top_input` does.
 ///
 /// Answers `Memory` (401) where a growth was refused. What the encoding has then is not said.
+#[tactic(auto, using(crate::proofs::ParentPut::put_together))]
 pub fn append_subtree(
     choice: &Choice,
     mode: &Mode,
@@ -89,7 +90,7 @@ pub fn append_subtree(
 }
 
 // The encoding of `bytes` for a choice, with room for `room` bytes from the start, and the hash.
-#[tactic(auto, unfolding(b3tree::specs::Hashing::hash))]
+#[tactic(auto, using(crate::proofs::Laws::laws), unfolding(b3tree::specs::Hashing::hash))]
 fn chosen(
     alloc: Global,
     choice: &Choice,

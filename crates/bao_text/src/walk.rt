@@ -37,6 +37,7 @@ pub struct Nodes {
 }
 
 // Puts a subtree last, if it is wanted.
+#[tactic(auto, using(crate::proofs::NodeNaming::waiting))]
 fn push_wanted(choice: &Choice, waiting: &mut Waiting, number: u64, len: u64)
     requires fits { (length waiting.old.items < 55) × (1024 * number + len ≤ 2 ^ 64 - 1) × (len ≤ 1024 * 2 ^ (54 - length waiting.old.items)) }
     requires subtrees { AreWaiting choice.now 54 waiting.old.items }
@@ -50,6 +51,7 @@ fn push_wanted(choice: &Choice, waiting: &mut Waiting, number: u64, len: u64)
 }
 
 // Takes the first node of those that the subtrees have: the last subtree's own, whose parts then wait in its place.
+#[tactic(auto, using(crate::proofs::NodeNaming::waiting))]
 fn next_node(choice: &Choice, waiting: &mut Waiting) -> Option<Node>
     requires chunks { choice.now.chunks ≡ true }
     requires subtrees { AreWaiting choice.now 54 waiting.old.items }

@@ -16,6 +16,7 @@ use std::io::Write;
 
 // Writes all of `text`, after `before` bytes of a larger encoding, by as many writes as it takes. The first
 // that answers a fault, of whatever kind, or takes no byte is the last.
+#[tactic(auto, using(crate::proofs::Writing::writes))]
 pub(crate) fn write_after<W: Write>(
     before: u128,
     text: &[u8],
@@ -93,6 +94,7 @@ fn write_beside<W: Write>(
 /// Answers `Memory` (401) where a growth was refused, with nothing written, and `Writer` (402) only where
 /// a write answered a fault, one of the kind `Interrupted` too, or took no byte: then exactly the first
 /// `written` bytes of the encoding went out. The writer is not flushed.
+#[tactic(auto, using(crate::proofs::Laws::laws))]
 pub fn write_combined<W: Write>(
     alloc: Global,
     mode: &Mode,

@@ -1,15 +1,11 @@
-use Rattle.std.proofs.Common.{◌≡◌, ◌++◌, [], List, ℕ, length, take, drop, replicate, refl, ◌∙◌, arith}
+use Rattle.std.proofs.Common.{◌≡◌, ◌++◌, List, ℕ, length, replicate, refl, ◌∙◌, arith}
 use Rattle.std.proofs.lemmas.List.{append-nil, drop_all, drop_at, take_at}
 use borrow.Rule.Slice.PartMut.{put_mid}
 use Rattle.bao_text.proofs.texts.parent_bytes.Goals as goal
 
 -- n bytes written, and then n bytes after them
 joined : (n : ℕ) (xs ys zs : List ℕ) → length xs ≡ n → length zs ≡ n → put_mid n n (xs ++ zs) ys ≡ xs ++ ys
-joined n xs ys zs h k =
-    let front : take n (xs ++ zs) ≡ xs = take_at xs zs n h in
-    let back : drop n (xs ++ zs) ≡ zs = drop_at xs zs n h in
-    let none : drop n zs ≡ [] = drop_all n zs (omega arith) in
-    rw (front, back, none, append-nil) refl
+joined n xs ys zs h k = grind (arith, take_at, drop_at, drop_all, append-nil)
 
 pub returns : goal.returns
 returns c =

@@ -1,9 +1,0 @@
-use Rattle.std.proofs.Common.{◌≡◌, ◌+◌, ◌-◌, ◌*◌, ◌∙◌, arith}
-use Rattle.bao_text.specs.Choice.{chunk_count}
-use Rattle.bao_text.proofs.Laws.{length-outboard_text}
-use Rattle.bao_text.proofs.sizes.outboard_len.Goals as goal
-
-pub returns-clause-text : goal.returns-clause-text
-returns-clause-text c = λ mode blob size.
-    let value : 8 + 64 * (chunk_count c.args.len - 1) ≡ 8 + 64 * c.from.result = omega arith in
-    length-outboard_text mode blob ∙ (λ i. 8 + 64 * (chunk_count (size i) - 1)) ∙ value
