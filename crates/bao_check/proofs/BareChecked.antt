@@ -1,5 +1,5 @@
 -- From the walk through chunks beside an outline to what its check says.
-use Rattle.std.proofs.Common.{◌≡◌, ℕ, ◌+◌, ◌-◌, ◌*◌, ◌<◌, ◌≤◌, List, [], length, sym, subst, arith}
+use Rattle.std.proofs.Common.{◌≡◌, ℕ, ◌+◌, ◌*◌, ◌<◌, ◌≤◌, List, [], length, sym, subst, arith}
 use Rattle.b3tree.specs.declared.mode.Mode.{Mode}
 use Rattle.bao_text.specs.Choice.{chunk_count}
 use Rattle.bao_text.specs.Cut.{claimed}
@@ -8,7 +8,7 @@ use Rattle.bao_check.specs.declared.asked.Asked.{Asked}
 use Rattle.bao_check.specs.declared.bare.Bare.{Bare}
 use Rattle.bao_check.specs.declared.fault.CheckFault.{CheckFault}
 use Rattle.bao_check.specs.declared.fault.CheckFault.TheVariants.{Short, Mismatch, Trailing, Memory, Reader}
-use Rattle.bao_check.specs.Bare.{AreBare, AreGoodBare, HasChunkValue, IsBareFault, IsGoodBare, bare_at, chunk_len}
+use Rattle.bao_check.specs.Bare.{AreBare, AreGoodBare, HasChunkValue, IsBareFault, IsGoodBare}
 use Rattle.bao_check.specs.BareWalk.{IsGoodChunk, IsWantedChunk, PartPasses, PartStops, Reaches}
 use Rattle.bao_check.specs.Beside.{bare_len}
 use Rattle.bao_check.specs.Walk.{asked_root}
@@ -18,9 +18,7 @@ use Rattle.bao_check.proofs.BareReached.{reaches-whole}
 module _ (bare : Bare) (asked : Asked) (total count : ℕ) (mode : Mode) (root : List ℕ) (mode_is : bare.mode ≡ mode) (asked_is : asked ≡ asked_root root) (total_is : total ≡ claimed bare.outline.now)
     (after_is : bare.after ≡ bare.first + count) (within : bare.first + count ≤ chunk_count (claimed bare.outline.now)) where
   reaches : Reaches root bare.outline.now asked 0 total [] 8 8
-  reaches =
-      subst (λ (n : ℕ). Reaches root bare.outline.now asked 0 n [] 8 8) (sym total_is)
-      (subst (λ (a : Asked). Reaches root bare.outline.now a 0 (claimed bare.outline.now) [] 8 8) (sym asked_is) (reaches-whole root bare.outline.now))
+  reaches = grind (arith, reaches-whole)
 
   good_is : (k : ℕ) → IsGoodChunk bare root k → IsGoodBare mode root bare.outline.now bare.first bare.chunks.now k
   good_is k good = subst (λ (m : Mode). IsGoodBare m root bare.outline.now bare.first bare.chunks.now k) mode_is good
@@ -33,14 +31,7 @@ module _ (bare : Bare) (asked : Asked) (total count : ℕ) (mode : Mode) (root :
   walked_good passes = λ k first before. good_is k (passes root [] 8 reaches k (wanted_is k first before))
 
   fault_is : (fault : CheckFault) → PartStops bare root 0 total fault → IsBareFault mode root bare.outline.now bare.first count bare.chunks.now fault
-  fault_is (Short at) h = (
-    h.k,
-    h.wanted.first,
-    omega (arith, h.wanted.after, after_is),
-    h.is.0,
-    (λ j first less. good_is j (h.good j less (wanted_is j first (omega (arith, less, h.wanted.after, after_is))))),
-    h.is.1,
-  )
+  fault_is (Short at) h = grind (arith, good_is, wanted_is)
   fault_is (Mismatch at) h = (
     h.k,
     h.wanted.first,
@@ -61,10 +52,7 @@ module _ (bare : Bare) (asked : Asked) (total count : ℕ) (mode : Mode) (root :
 module _ (mode : Mode) (root outline : List ℕ) (first count : ℕ) (chunks : List ℕ) (some : 1 ≤ count) (within : first + count ≤ chunk_count (claimed outline)) where
   -- good chunks are no fewer bytes than they should be
   pub bare_long : AreGoodBare mode root outline first chunks (first + count) → bare_len (claimed outline) (1024 * first) (1024 * count) ≤ length chunks
-  bare_long good =
-      let last : ℕ = first + count - 1 in
-      let there : bare_at first last + chunk_len (claimed outline) last ≤ length chunks = (good last (omega arith) (omega arith)).0 in
-      omega arith
+  bare_long good = grind arith
 
   -- what has a fault isn't accepted
   pub bare_apart : (fault : CheckFault) → IsBareFault mode root outline first count chunks fault → AreBare mode root outline first count chunks → ⊥

@@ -88,5 +88,4 @@ module _ (mode : Mode) (root outline chunks : List ℕ) (first count : ℕ) (acc
       record { good = good; ends = same_size (length chunks) (bare_len total start len) (bare_len total start (1024 * count)) _ (sym rest ∙ whole.none) size end last }
 
 pub bare_accepted : BareAccepted
-bare_accepted mode root outline chunks first count accepted small some within =
-    (bare-accepted mode root outline chunks first count accepted small some within, accepted-bare mode root outline chunks first count accepted small some within)
+bare_accepted mode root outline chunks first count accepted small some within = search (arith, bare-accepted, accepted-bare)

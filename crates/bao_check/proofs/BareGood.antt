@@ -30,7 +30,7 @@ use Rattle.bao_check.proofs.BesidePlaces.{Finds, Finds-all, Finds-far, Finds-nea
 use Rattle.bao_check.proofs.Lists.{All-first, All-second, nodes_size}
 use Rattle.bao_check.proofs.Outlines.{near-size}
 use Rattle.bao_check.proofs.Parts.{AreGood-split, below}
-use Rattle.bao_check.proofs.Presence.{Meets, Meets-from_wants, wants-from_Meets}
+use Rattle.bao_check.proofs.Presence.{Meets-from_wants, wants-from_Meets}
 use Rattle.bao_check.proofs.Sizes.{chunk_size, wants_whole}
 use Rattle.bao_check.proofs.EachNode.{chunk_node, leaf_nodes}
 use Rattle.bao_check.proofs.Made.{At_bytes, IsChunkMade, IsParentMade}
@@ -68,21 +68,14 @@ module _ (mode : Mode) (root outline text chunks : List ℕ) (choice : Choice) (
 
   -- what is wanted of the choice
   wanted_chunk : (number n : ℕ) → wants choice (1024 * number) n ≡ true → n ≤ 1024 → (first ≤ number) × (number < after)
-  wanted_chunk number n wanted one =
-      let meets : Meets choice (1024 * number) n = Meets-from_wants choice (1024 * number) n wanted in
-      let before : 1024 * number < choice.end = meets.before in
-      let since : choice.start < 1024 * number + max n 1 = meets.after in
-      (omega (arith, ranges.start), omega (arith, ranges.end))
+  wanted_chunk number n wanted one = grind (arith, Meets-from_wants)
 
   is_wanted : (number n k : ℕ) → first ≤ k → k < after → number ≤ k → k < number + chunk_count n → wants choice (1024 * number) n ≡ true
-  is_wanted number n k from to low high =
-      wants-from_Meets choice (1024 * number) n
-      (record { before = omega (arith, ranges.end, ranges.within); after = omega (arith, ranges.start) })
+  is_wanted number n k from to low high = search (arith, wants-from_Meets)
 
   -- a chunk's bytes are those made for its node
   chunk_bytes : (number n : ℕ) (sides : List Side) (source : ℕ) → Inside total number n → n ≤ 1024 → bare_chunk total first chunks number ≡ made (chunk_node number n sides source)
-  chunk_bytes number n sides source inside one =
-      ap (λ (k : ℕ). take k (drop (1024 * (number - first)) chunks)) (chunk_size total number n inside one)
+  chunk_bytes number n sides source inside one = grind (arith, chunks, chunk_size)
 
   -- what is known of a subtree: it is reached in the outline, and each node's bytes are whole
   record Known (asked : Asked) (number n : ℕ) (sides : List Side) (source from : ℕ) : Type 0 where
@@ -93,10 +86,7 @@ module _ (mode : Mode) (root outline text chunks : List ℕ) (choice : Choice) (
   -- of a wanted chunk
   own_chunk : (asked : Asked) (number n : ℕ) (sides : List Side) (source from : ℕ) → wants choice (1024 * number) n ≡ true → n ≤ 1024 → Known asked number n sides source from
       → length (made (chunk_node number n sides source)) ≡ n
-  own_chunk asked number n sides source from wanted one known =
-      let whole : AllByRecursion IsMadeWhole (chunk_node number n sides source ∷ []) =
-      subst (AllByRecursion IsMadeWhole) (leaf_nodes choice number n sides source wanted one ranges.chunks) known.whole in
-      whole.0
+  own_chunk asked number n sides source from wanted one known = grind (arith, leaf_nodes)
 
   -- of a wanted parent and of its parts
   module _ (asked : Asked) (number n : ℕ) (sides : List Side) (source from : ℕ) (wanted : wants choice (1024 * number) n ≡ true) (more : 1024 < n) (known : Known asked number n sides source from) where
@@ -123,14 +113,14 @@ module _ (mode : Mode) (root outline text chunks : List ℕ) (choice : Choice) (
 
     known_near : Known (below left bytes) number l (sides ++ left ∷ []) (source + 64) (from + 64)
     known_near = record {
-      reaches = reaches-near root outline asked number n sides source from more known.reaches;
+      reaches = reaches-near more known.reaches;
       finds = Finds-near all_places own number n sides source from more has known.finds;
       whole = All-first IsMadeWhole near far all_whole.1;
     }
 
     known_far : Known (below right bytes) (number + l / 1024) (n - l) (sides ++ right ∷ []) (source + 64 + subtree_size l) (from + 64 * (l / 1024))
     known_far = record {
-      reaches = reaches-far root outline asked number n sides source from more known.reaches;
+      reaches = reaches-far more known.reaches;
       finds = Finds-far all_places own number n sides source from more has known.finds;
       whole = All-second IsMadeWhole near far all_whole.1;
     }

@@ -21,11 +21,7 @@ use Rattle.bao_check.proofs.Sizes.{Inside-far, Inside-near, Inside-whole}
 
 -- at the top it is the root
 pub reaches-whole : (root outline : List ℕ) → Reaches root outline (asked_root root) 0 (claimed outline) [] 8 8
-reaches-whole root outline = record {
-  inside = Inside-whole (claimed outline);
-  among = λ k value leaf. leaf;
-  one = λ small x. ((λ h. h.0 (omega arith)), λ meets. ((λ _. meets), λ several. absurd (omega arith)));
-}
+reaches-whole root outline = search (arith, Inside-whole)
 
 -- the subtree has all its parents
 pub reaches-parents : (root outline : List ℕ) (asked : Asked) (number n : ℕ) (sides : List Side) (source at : ℕ) → Reaches root outline asked number n sides source at
@@ -33,7 +29,7 @@ pub reaches-parents : (root outline : List ℕ) (asked : Asked) (number n : ℕ)
 reaches-parents root outline asked number n sides source at reaches = record { start = omega arith; end = omega (arith, reaches.inside.within); without = refl }
 
 -- below a parent it is the half of it
-module _ (root outline : List ℕ) (asked : Asked) (number n : ℕ) (sides : List Side) (source at : ℕ) (more : 1024 < n) (reaches : Reaches root outline asked number n sides source at) where
+module _ {root outline : List ℕ} {asked : Asked} {number n : ℕ} {sides : List Side} {source at : ℕ} (more : 1024 < n) (reaches : Reaches root outline asked number n sides source at) where
   abbrev l : ℕ
   l = left_len n
 
@@ -70,13 +66,9 @@ module _ (root outline : List ℕ) (asked : Asked) (number n : ℕ) (sides : Lis
   }
 
   -- the same of a length and of an `asked` that are these
-  pub near_reached : (m : ℕ) → m ≡ l → (a : Asked) → a ≡ below left bytes → Reaches root outline a number m (sides ++ left ∷ []) (source + 64) (at + 64)
-  near_reached m m_is a a_is =
-      subst (λ (k : ℕ). Reaches root outline a number k (sides ++ left ∷ []) (source + 64) (at + 64)) (sym m_is)
-      (subst (λ (b : Asked). Reaches root outline b number l (sides ++ left ∷ []) (source + 64) (at + 64)) (sym a_is) reaches-near)
+  pub near_reached : {m : ℕ} → m ≡ l → {a : Asked} → a ≡ below left bytes → Reaches root outline a number m (sides ++ left ∷ []) (source + 64) (at + 64)
+  near_reached m_is a_is = subst (λ (T : Type 0). T) (λ i. Reaches root outline (sym a_is i) number (sym m_is i) (sides ++ left ∷ []) (source + 64) (at + 64)) reaches-near
 
-  pub far_reached : (m : ℕ) → m ≡ l → (a : Asked) → a ≡ below right bytes
+  pub far_reached : {m : ℕ} → m ≡ l → {a : Asked} → a ≡ below right bytes
       → Reaches root outline a (number + m / 1024) (n - m) (sides ++ right ∷ []) (source + 64 + subtree_size l) (at + 64 * (m / 1024))
-  far_reached m m_is a a_is =
-      subst (λ (k : ℕ). Reaches root outline a (number + k / 1024) (n - k) (sides ++ right ∷ []) (source + 64 + subtree_size l) (at + 64 * (k / 1024))) (sym m_is)
-      (subst (λ (b : Asked). Reaches root outline b (number + l / 1024) (n - l) (sides ++ right ∷ []) (source + 64 + subtree_size l) (at + 64 * (l / 1024))) (sym a_is) reaches-far)
+  far_reached m_is a_is = grind (arith, reaches-far)

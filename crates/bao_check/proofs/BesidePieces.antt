@@ -8,7 +8,15 @@ use Rattle.b3tree.specs.declared.mode.Mode.{Mode}
 use Rattle.bao_text.specs.Cut.{claimed}
 use Rattle.bao_text.specs.NodeNames.{boundary}
 use Rattle.bao_text.specs.Nodes.{TreeNode, nodes, size}
+use Rattle.std.specs.Borrow.{Bor}
+use Rattle.bao_check.specs.declared.checked.Body.{Body}
+use Rattle.bao_check.specs.declared.checked.Body.TheVariants.{Beside}
+use Rattle.bao_check.specs.declared.checked.Checked.{Checked}
 use Rattle.bao_check.specs.declared.locate.Span.{Span}
+use Rattle.bao_check.specs.declared.outline.Outline.{Outline}
+use Rattle.bao_check.specs.Bodies.{IsOfWhole, text_of}
+use Rattle.bao_check.specs.Checked.{piece_places, piece_text}
+use Rattle.bao_check.specs.Outline.{outline_mode, outline_root, outline_text}
 use Rattle.bao_check.specs.Accepted.{IsAccepted, bytes_at, outboard_nodes, places_of, slice_nodes, text_end}
 use Rattle.bao_check.specs.Beside.{IsOfChunks, beside_text, node_beside}
 use Rattle.bao_check.specs.Parents.{parent_in, parent_place}
@@ -139,3 +147,31 @@ stand_beside outer inner outer_root inner_root outline start len chunks range pa
     let h : Stands outline start len chunks place =
     beside-bytes outline start len chunks made (accepted.ends ∙ ap text_end same) place (subst (λ (ns : List TreeNode). Contains (places_of ns) place) same there) in
     (h.bytes, h.size_is)
+
+-- of a piece that is chunks beside an outline
+module _ (piece : Checked) (outline : Bor Outline) (chunks : Bor (List ℕ)) (is : piece.body ≡ Beside outline chunks) where
+  text_is : piece_text piece ≡ beside_text (outline_text outline.now) piece.start piece.len chunks.now
+  text_is = ap (λ (body : Body). text_of body piece.start piece.len) is
+
+  stands : StandBeside (outline_text outline.now) piece.start piece.len chunks.now
+  stands =
+      stand_beside piece.mode (outline_mode outline.now) piece.root.0 (outline_root outline.now) (outline_text outline.now) piece.start piece.len chunks.now
+      (subst (λ (body : Body). IsOfWhole body piece.start piece.len) is piece.whole) outline.now.accepted
+      (subst (λ (s : List ℕ). IsAccepted piece.mode piece.root.0 s (slice_nodes s piece.start piece.len)) text_is piece.accepted)
+
+  pub piece_chunk : (i : ℕ) (span : Span) → chunk_place (piece_places piece) i ≡ Some span
+      → chunk_in (piece_text piece) (piece_places piece) i ≡ Some (take span.len (drop (1024 * (i - piece.start / 1024)) chunks.now))
+  piece_chunk i span =
+      subst (λ (s : List ℕ). chunk_place (places_of (slice_nodes s piece.start piece.len)) i ≡ Some span
+      → chunk_in s (places_of (slice_nodes s piece.start piece.len)) i ≡ Some (take span.len (drop (1024 * (i - piece.start / 1024)) chunks.now))) (sym text_is)
+      (chunk_beside (outline_text outline.now) piece.start piece.len chunks.now stands i span)
+
+  pub piece_parent : (m at : ℕ) → parent_place (piece_places piece) m ≡ Some at
+      → parent_in (outline_text outline.now) (places_of (outboard_nodes (outline_text outline.now))) m ≡ parent_in (piece_text piece) (piece_places piece) m
+  piece_parent m at =
+      subst (λ (s : List ℕ). parent_place (places_of (slice_nodes s piece.start piece.len)) m ≡ Some at
+      → parent_in (outline_text outline.now) (places_of (outboard_nodes (outline_text outline.now))) m ≡ parent_in s (places_of (slice_nodes s piece.start piece.len)) m) (sym text_is)
+      (parent_beside (outline_text outline.now) piece.start piece.len chunks.now stands m at)
+
+-- where a piece reads its chunks
+pub ruleset chunks_read = (chunk_in-place, piece_chunk)

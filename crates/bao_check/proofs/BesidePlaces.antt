@@ -1,9 +1,6 @@
 -- The bytes of an encoding that an outline and chunks make stand at their places.
 use Rattle.std.proofs.Common.{◌≡◌, ℕ, ◌+◌, ◌-◌, ◌*◌, ◌/◌, ◌^◌, ◌<◌, ◌≤◌, max, min, List, [], ◌∷◌, ◌++◌, length, take, drop, true, Some, refl, sym, ap, subst, ◌∙◌, arith, inl, inr, length-append, length-drop, length-take}
 use Rattle.std.specs.List.{AllByRecursion, Contains, flat_map}
-use Rattle.std.specs.Int.{w64, from_le_bytes}
-use Rattle.std.specs.Option.{option_map, unwrap_or}
-use Rattle.std.specs.Prelude.{Option}
 use Rattle.std.proofs.lemmas.Bool.{cases_lt}
 use Rattle.std.proofs.lemmas.List.{length-take-le, take_at}
 use Rattle.b3tree.specs.Tree.{left_len}
@@ -61,12 +58,7 @@ module _ (all : List (ℕ × TreeNode)) (choice : Choice) (number n : ℕ) (side
 
   -- the subtree's own parent
   pub Finds-here : (text : List ℕ) → parent_in text all (number + left_len n / 1024) ≡ Some (take 64 (drop at text))
-  Finds-here text =
-      let parts : Parts n (left_len n) = left_len-Parts n more in
-      let m : ℕ = number + left_len n / 1024 in
-      parent_in-place text all m
-      ∙ ap (option_map (λ (k : ℕ). take 64 (drop k text)))
-      (finds.same m (omega (arith, parts.some)) (omega (arith, parts.whole, parts.some, parts.below)) ∙ parent_place-here choice number n sides source at m wanted more refl)
+  Finds-here text = grind (arith, left_len-Parts, parent_in-place, parent_place-here, wanted)
 
 -- so is each parent of an outline
 pub Finds-all : (total : ℕ) → Finds (placed_nodes 8 (subtree_nodes (of_outboard total) 0 total [] 8)) (of_outboard total) 0 total [] 8 8
@@ -87,8 +79,7 @@ pub record Fits (outline : List ℕ) (first len : ℕ) (chunks : List ℕ) (node
 pub parent-beside : (outline chunks : List ℕ) (first : ℕ) (own : Choice) (number n : ℕ) (sides : List Side) (source at : ℕ) → 1024 < n → WantsParents own number n
     → Finds (places_of (outboard_nodes outline)) own number n sides source at
     → node_beside outline first chunks (parent_node number n sides source) ≡ take 64 (drop at outline)
-parent-beside outline chunks first own number n sides source at more has finds =
-    ap (λ (o : Option (List ℕ)). unwrap_or o []) (Finds-here (places_of (outboard_nodes outline)) own number n sides source at more has finds outline)
+parent-beside outline chunks first own number n sides source at more has finds = grind (arith, Finds-here)
 
 module _ (outline chunks : List ℕ) (own choice : Choice) (total first len : ℕ) (covers : Covers total first len choice) where
   abbrev all_places : List (ℕ × TreeNode)
@@ -197,10 +188,7 @@ made_fits outline start len chunks made =
 made_length : (outline : List ℕ) (start len : ℕ) (chunks : List ℕ) → 8 ≤ length outline
     → length (beside_text outline start len chunks)
     ≡ 8 + (length (flat_map (node_beside outline (start / 1024) chunks) (nodes (claimed outline) start len)) + length (drop (bare_len (claimed outline) start len) chunks))
-made_length outline start len chunks long =
-    let bytes : List ℕ = flat_map (node_beside outline (start / 1024) chunks) (nodes (claimed outline) start len) in
-    let rest : List ℕ = drop (bare_len (claimed outline) start len) chunks in
-    length-append (take 8 outline) (bytes ++ rest) ∙ (λ i. length-take-le 8 outline long i + length-append bytes rest i)
+made_length outline start len chunks long = grind (arith, length-append, length-take-le)
 
 -- no node's bytes are short where the encoding is as long as it is to be, and nothing follows
 pub record IsWhole (outline : List ℕ) (start len : ℕ) (chunks : List ℕ) : Type 0 where
@@ -249,16 +237,11 @@ made-At outline start len chunks long =
 
 pub made-ends : (outline : List ℕ) (start len : ℕ) (chunks : List ℕ) → 8 ≤ length outline → IsWhole outline start len chunks
     → length (beside_text outline start len chunks) ≡ text_end (nodes (claimed outline) start len)
-made-ends outline start len chunks long whole =
-    let f : TreeNode → List ℕ = node_beside outline (start / 1024) chunks in
-    let ns : List TreeNode = nodes (claimed outline) start len in
-    made_length outline start len chunks long ∙ (λ i. 8 + (flat-size f ns whole.sizes i + whole.none i)) ∙ (let e : 8 + (nodes_size ns + 0) ≡ 8 + nodes_size ns = omega arith in e)
+made-ends outline start len chunks long whole = search (arith, start, chunks, made_length, flat-size)
 
 -- it claims the outline's length
 pub made-claimed : (outline : List ℕ) (start len : ℕ) (chunks : List ℕ) → 8 ≤ length outline → claimed (beside_text outline start len chunks) ≡ claimed outline
-made-claimed outline start len chunks long =
-    let bytes : List ℕ = flat_map (node_beside outline (start / 1024) chunks) (nodes (claimed outline) start len) in
-    ap (from_le_bytes w64) (take_at (take 8 outline) (bytes ++ drop (bare_len (claimed outline) start len) chunks) 8 (length-take-le 8 outline long))
+made-claimed outline start len chunks long = grind (arith, take_at, length-take-le)
 
 -- what stands at a place of such an encoding
 pub record Stands (outline : List ℕ) (start len : ℕ) (chunks : List ℕ) (place : ℕ × TreeNode) : Type 0 where

@@ -28,12 +28,7 @@ use Rattle.bao_check.proofs.Sizes.{Inside-far, Inside-near, Inside-whole, chunk_
 
 find_parent-first : (xs ys : List TreeNode) (m : ℕ) (node : TreeNode) → find_parent xs m ≡ Some node → find_parent (xs ++ ys) m ≡ Some node
 find_parent-first [] ys m node h = let bad : None ≡ Some node = h in cc
-find_parent-first (x ∷ xs) ys m node h = elim (cases_Bool (is_parent_at m x)) [
-  | inl here ↦
-      let found : Some x ≡ Some node = rw here at h in
-      rw here found
-  | inr other ↦ rw other (find_parent-first xs ys m node (rw other at h))
-]
+find_parent-first (x ∷ xs) ys m node h = grind (arith, cases_Bool, find_parent-first xs ys m node)
 
 find_parent-second : (xs ys : List TreeNode) (m : ℕ) → AllByRecursion (λ x. is_parent_at m x ≡ false) xs → find_parent (xs ++ ys) m ≡ find_parent ys m
 find_parent-second [] ys m all = refl
@@ -70,15 +65,10 @@ module _ (all choice : Choice) (number n : ℕ) (sides : List Side) (source : �
 
   -- another boundary is looked for further on
   past_own : (m : ℕ) → (middle ≡ m → ⊥) → find_parent everything m ≡ find_parent (near_of all ++ far_of all) m
-  past_own m other =
-      let miss : is_parent_at m own ≡ false = not_parent_at m own (λ parent. other) in
-      ap (λ (xs : List TreeNode). find_parent xs m) whole ∙ rw miss refl
+  past_own m other = grind (arith, not_parent_at, whole)
 
   found_own : find_parent everything middle ≡ Some own
-  found_own = elim (eqb_tells middle middle) [
-    | inl hit ↦ ap (λ (xs : List TreeNode). find_parent xs middle) whole ∙ rw hit.0 refl
-    | inr other ↦ absurd (other.1 refl)
-  ]
+  found_own = grind (arith, eqb_tells, whole)
 
   found_near : (x : TreeNode) → Contains (near_of choice) x → IsFound all number (left_len n) (sides ++ left ∷ []) (source + 64) x → IsFound all number n sides source x
   found_near x h found parent =

@@ -1,7 +1,7 @@
 -- What an accepted encoding has as a chunk, it certifies.
 use Rattle.std.proofs.Common.{◌≡◌, ◌⊎◌, ℕ, ◌+◌, ◌-◌, ◌*◌, ◌/◌, ◌<◌, ◌≤◌, ◌==◌, ◌&&◌, None, Some, Bool, List, [], ◌∷◌, ◌++◌, length, take, drop, true, false, refl, sym, ap, subst, ◌∙◌, arith, inl, inr, length-drop}
 use Rattle.std.specs.List.{AllByRecursion, Contains}
-use Rattle.std.proofs.lemmas.Bool.{cases_Bool, cases_lt, eqb-true, le-ltb, lt-ltb}
+use Rattle.std.proofs.lemmas.Bool.{cases_Bool, eqb-true, le-ltb, lt-ltb}
 use Rattle.std.proofs.lemmas.List.{append-nil, length-take-le}
 use Rattle.std.proofs.lemmas.List.Concat.{flat_map-append}
 use Rattle.std.proofs.lemmas.List.Elements.{Contains-append_left, Contains-append_right}
@@ -13,7 +13,7 @@ use Rattle.b3tree.specs.Tree.{left_len, parent_input}
 use Rattle.b3tree.specs.Valid.{AreBytes}
 use Rattle.b3tree.proofs.BlockWords.{AreBytes-drop, AreBytes-take}
 use Rattle.bao_text.specs.declared.choice.Choice.{Choice}
-use Rattle.bao_text.specs.Choice.{chunk_count, of_slice, wants}
+use Rattle.bao_text.specs.Choice.{chunk_count, wants}
 use Rattle.bao_text.specs.Cut.{claimed}
 use Rattle.bao_text.specs.Nodes.{TreeNode, Side, chosen_nodes, chunk_nodes, left, placed_nodes, right, size, subtree_nodes, subtree_size}
 use Rattle.bao_text.proofs.Halves.{Far, Near, far_nodes, near_nodes}
@@ -89,10 +89,7 @@ is_top-below (d ∷ sides) side = refl
 -- that chunk is what the encoding has there
 pub same_chunk : (text : List ℕ) (at number n : ℕ) (sides : List Side) (source k : ℕ) (bytes : List ℕ)
     → chunk_in text ((at, chunk_node number n sides source) ∷ []) k ≡ Some bytes → (number ≡ k) × (take n (drop at text) ≡ bytes)
-same_chunk text at number n sides source k bytes there = elim (cases_Bool (number == k)) [
-  | inl hit ↦ let found : Some (take n (drop at text)) ≡ Some bytes = rw hit at there in (eqb-true number k hit, cc)
-  | inr miss ↦ let none : None ≡ Some bytes = rw miss at there in cc
-]
+same_chunk text at number n sides source k bytes there = grind (arith, cases_Bool, eqb-true)
 
 way-here : (asked : Asked) (mode : Mode) (text : List ℕ) (at number n : ℕ) (sides : List Side) (source : ℕ)
     → asked.top ≡ is_top sides → n ≤ 1024 → at + n ≤ length text → Meets asked (last_chunk_input mode number (take n (drop at text)))
@@ -169,15 +166,6 @@ text_inputs-far mode text near far x h =
     subst (λ (xs : List Input). Contains xs x) (sym (flat_map-append (place_inputs mode text) near far))
     (Contains-append_right (text_inputs mode text near) (text_inputs mode text far) x h)
 
--- each chunk of the left part is whole
-near_full : (number l k : ℕ) (bytes : List ℕ) → chunk_count l ≡ l / 1024 → 1024 * (l / 1024) ≡ l
-    → (k + 1 < number + chunk_count l → length bytes ≡ 1024) → (k + 1 ≡ number + chunk_count l → 1024 * k + length bytes ≡ 1024 * number + l)
-    → k + 1 ≤ number + l / 1024 → length bytes ≡ 1024
-near_full number l k bytes count whole full ends inner = elim (cases_lt (k + 1) (number + chunk_count l)) [
-  | inl less ↦ full less
-  | inr least ↦ let end : 1024 * k + length bytes ≡ 1024 * number + l = ends (omega arith) in omega arith
-]
-
 -- a parent's bytes, where it is there
 parent_there : (text : List ℕ) (at : ℕ) → at + 64 ≤ length text → AreBytes text → (length (take 64 (drop at text)) ≡ 64) × AreBytes (take 64 (drop at text))
 parent_there text at there valid =
@@ -217,7 +205,7 @@ way-near asked mode text at number n sides source k bytes near far top more ther
       from = way.from;
       within = omega arith;
       size = way.size;
-      full = λ _. near_full number l k bytes near_count parts.whole way.full way.ends inner;
+      full = λ _. grind (arith, near_count, parts.whole, way.full, way.ends, inner);
       last = λ same. absurd (omega arith);
       ends = λ same. absurd (omega arith);
     }
@@ -348,8 +336,7 @@ chosen_certified choice mode root text total accepted number bytes there =
 pub certified : (mode : Mode) (root text : List ℕ) (start len : ℕ) → IsAccepted mode root text (slice_nodes text start len)
     → (number : ℕ) (bytes : List ℕ) → chunk_in text (places_of (slice_nodes text start len)) number ≡ Some bytes
     → IsCertified mode root text (places_of (slice_nodes text start len)) (claimed text) number bytes
-certified mode root text start len accepted number bytes there =
-    chosen_certified (of_slice (claimed text) start len) mode root text (claimed text) accepted number bytes there
+certified mode root text start len accepted number bytes there = search (arith, chosen_certified)
 
 -- the certificate of a chunk of an encoding of bytes
 abbrev pub certificate_of : {mode : Mode} {root text : List ℕ} {places : List (ℕ × TreeNode)} {total number : ℕ} {bytes : List ℕ} → IsCertified mode root text places total number bytes

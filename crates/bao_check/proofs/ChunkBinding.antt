@@ -24,8 +24,7 @@ same_block mode i j s t k l hs ht same =
     (sym (chunk_input_m mode i s k) ∙ same.m ∙ chunk_input_m mode j t l)
 
 pub same_start : (mode : Mode) (i j : ℕ) (s t : List ℕ) (k : ℕ) → SameParts (chunk_input mode i s 0) (chunk_input mode j t (suc k)) → ⊥
-same_start mode i j s t k same =
-    first_alone (block_count (length s)) (block_count (length t)) k (sym (chunk_input_low mode i s 0) ∙ same.low ∙ chunk_input_low mode j t (suc k))
+same_start mode i j s t k same = grind (arith, first_alone, chunk_input_low)
 
 -- from a block back to the first
 blocks_bind : (top : Bool) (mode : Mode) (i j : ℕ) (s t : List ℕ) (k l : ℕ) → AreBytes s → AreBytes t → k < block_count (length s) → l < block_count (length t)
@@ -34,8 +33,7 @@ blocks_bind : (top : Bool) (mode : Mode) (i j : ℕ) (s t : List ℕ) (k l : ℕ
 blocks_bind top mode i j s t zero zero hs ht ks lt same =
     inl (take_blocks s 0 ∙ same_block mode i j s t 0 0 hs ht same ∙ sym (take_blocks t 0))
 blocks_bind top mode i j s t zero (suc l) hs ht ks lt same = absurd (same_start mode i j s t l same)
-blocks_bind top mode i j s t (suc k) zero hs ht ks lt same =
-    absurd (same_start mode j i t s k (record { h = sym same.h; m = sym same.m; t = sym same.t; b = sym same.b; low = sym same.low }))
+blocks_bind top mode i j s t (suc k) zero hs ht ks lt same = search (arith, same_start)
 blocks_bind top mode i j s t (suc k) (suc l) hs ht ks lt same =
     let values : cv (chunk_input mode i s k) ≡ cv (chunk_input mode j t l) = sym (chunk_input_h mode i s k) ∙ same.h ∙ chunk_input_h mode j t l in
     elim (same_or_named (whole_chunk top mode i s) (whole_chunk top mode j t) (chunk_input mode i s k) (chunk_input mode j t l) (earlier_there top mode i s k ks) (earlier_there top mode j t l lt) values) [

@@ -2,7 +2,7 @@
 use Rattle.std.proofs.Common.{◌≡◌, ℕ, ◌+◌, ◌-◌, ◌*◌, ◌/◌, ◌<◌, ◌≤◌, List, [], ◌∷◌, ◌++◌, length, take, drop, map, sum_by, Option, None, Some, IfSome, Bool, true, false, if◌then◌else◌, refl, sym, ap, subst, ◌∙◌, arith, inl, inr, length-append, length-drop}
 use Rattle.std.proofs.Math.Seq.{take-add}
 use Rattle.std.specs.Option.{option_map}
-use Rattle.std.proofs.lemmas.Bool.{cases_lt}
+use Rattle.std.proofs.lemmas.Bool.{cases_Bool, cases_lt}
 use Rattle.std.proofs.lemmas.Bool.Decides.{leb_tells}
 use Rattle.std.proofs.lemmas.List.{append-nil, append_assoc, drop-append-le, drop-drop, drop_at, length-take-le, take-append-drop, take-append-le, take_all}
 use Rattle.std.proofs.lemmas.List.Sums.{sum_by-append}
@@ -11,7 +11,7 @@ use Rattle.b3tree.specs.Tree.{left_len}
 use Rattle.bao_text.specs.declared.choice.Choice.{Choice}
 use Rattle.bao_text.specs.Choice.{of_slice, wants}
 use Rattle.bao_text.specs.Cut.{claimed}
-use Rattle.bao_text.specs.Nodes.{TreeNode, Side, chunk_nodes, left, right, size, subtree_nodes, subtree_size}
+use Rattle.bao_text.specs.Nodes.{TreeNode, Side, size, subtree_nodes}
 use Rattle.bao_text.proofs.NodeNaming.{bare, bare-anywhere}
 use Rattle.bao_text.proofs.SubtreeNodes.{subtree_nodes-leaf, subtree_nodes-parent, subtree_nodes-unwanted}
 use Rattle.bao_check.specs.declared.fault.CheckFault.{CheckFault}
@@ -22,9 +22,10 @@ use Rattle.bao_check.specs.Decoded.{Decodes, Kind, chunk_bytes, decoded, kind, k
 use Rattle.bao_check.specs.Waiting.{AllCome, CheckTask, HasRefused, HasRefusedIn, HasTaken, IsFaultAs, chunk_waits, is_chunk_first, last_part, next_size, part_size}
 use Rattle.bao_check.specs.Whole.{HasWholeAhead}
 use Rattle.bao_check.specs.Walk.{Passes}
-use Rattle.bao_check.proofs.Feeding.{all_taken_from, ends, stands}
+use Rattle.bao_check.proofs.Feeding.{AreParts-last, all_taken_from, before_last, before_unwanted, ends, stands}
 use Rattle.bao_check.proofs.Sizes.{wants_whole}
 use Rattle.bao_check.proofs.Subtrees.{claimed-append}
+use Rattle.std.proofs.lemmas.Slice.{take-put_mid}
 
 kinds-append : (xs ys : List TreeNode) → map kind (xs ++ ys) ≡ map kind xs ++ map kind ys
 kinds-append [] ys = refl
@@ -42,21 +43,11 @@ pub kinds-unwanted : (choice : Choice) (number n : ℕ) → wants choice (1024 *
 kinds-unwanted choice number n skipped = ap (map kind) (subtree_nodes-unwanted choice number n [] 0 skipped)
 
 pub kinds-chunk : (choice : Choice) (number n : ℕ) → wants choice (1024 * number) n ≡ true → choice.chunks ≡ true → n ≤ 1024 → subtree_kinds choice number n ≡ (true, n) ∷ []
-kinds-chunk choice number n wanted there one =
-    let chunk : map kind (chunk_nodes choice number n [] 0) ≡ (true, n) ∷ [] = rw there refl in
-    ap (map kind) (subtree_nodes-leaf choice number n [] 0 wanted one) ∙ chunk
+kinds-chunk choice number n wanted there one = grind (arith, subtree_nodes-leaf)
 
 pub kinds-parent : (choice : Choice) (number n : ℕ) → wants choice (1024 * number) n ≡ true → 1024 < n
     → subtree_kinds choice number n ≡ (false, 64) ∷ (subtree_kinds choice number (left_len n) ++ subtree_kinds choice (number + left_len n / 1024) (n - left_len n))
-kinds-parent choice number n wanted more =
-    let l : ℕ = left_len n in
-    let middle : ℕ = number + l / 1024 in
-    let near : List TreeNode = subtree_nodes choice number l (left ∷ []) 64 in
-    let far : List TreeNode = subtree_nodes choice middle (n - l) (right ∷ []) (64 + subtree_size l) in
-    ap (map kind) (subtree_nodes-parent choice number n [] 0 wanted more)
-    ∙ ap (λ (xs : List Kind). (false, 64) ∷ xs)
-    (kinds-append near far
-    ∙ (λ i. kinds-anywhere choice number l (left ∷ []) 64 i ++ kinds-anywhere choice middle (n - l) (right ∷ []) (64 + subtree_size l) i))
+kinds-parent choice number n wanted more = grind (arith, subtree_nodes-parent, kinds-append, kinds-anywhere)
 
 -- how many bytes nodes are
 pub kinds_size-append : (xs ys : List Kind) → kinds_size (xs ++ ys) ≡ kinds_size xs + kinds_size ys
@@ -74,31 +65,19 @@ kinds_size-nodes (x ∷ xs) =
 -- the chunks' bytes of nodes, one after another
 pub chunk_bytes-append : (xs ys : List Kind) (s : List ℕ) → chunk_bytes (xs ++ ys) s ≡ chunk_bytes xs s ++ chunk_bytes ys (drop (kinds_size xs) s)
 chunk_bytes-append [] ys s = refl
-chunk_bytes-append (x ∷ xs) ys s =
-    let own : List ℕ = if x.0 then take x.1 s else [] in
-    let place : drop (kinds_size xs) (drop x.1 s) ≡ drop (kinds_size (x ∷ xs)) s =
-    drop-drop (kinds_size xs) x.1 s ∙ ap (λ (n : ℕ). drop n s) (let e : x.1 + kinds_size xs ≡ kinds_size (x ∷ xs) = sym (kinds_size-cons x xs) in e) in
-    ap (λ (t : List ℕ). own ++ t) (chunk_bytes-append xs ys (drop x.1 s) ∙ ap (λ (t : List ℕ). chunk_bytes xs (drop x.1 s) ++ chunk_bytes ys t) place)
-    ∙ sym (append_assoc own (chunk_bytes xs (drop x.1 s)) (chunk_bytes ys (drop (kinds_size (x ∷ xs)) s)))
+chunk_bytes-append (x ∷ xs) ys s = grind (arith, cases_Bool, kinds_size-cons, drop-drop, append_assoc, chunk_bytes-append xs ys (drop x.1 s))
 
 -- those that are wholly there, whatever follows
 pub chunk_bytes-within : (xs : List Kind) (s more : List ℕ) → kinds_size xs ≤ length s → chunk_bytes xs (s ++ more) ≡ chunk_bytes xs s
 chunk_bytes-within [] s more within = refl
-chunk_bytes-within (x ∷ xs) s more within =
-    let fits : x.1 + kinds_size xs ≤ length s = omega (arith, kinds_size-cons x xs, within) in
-    let own : (if x.0 then take x.1 (s ++ more) else []) ≡ (if x.0 then take x.1 s else []) =
-    ap (λ (t : List ℕ). if x.0 then t else []) (take-append-le x.1 s more (omega (arith, fits))) in
-    let rest : chunk_bytes xs (drop x.1 (s ++ more)) ≡ chunk_bytes xs (drop x.1 s) =
-    ap (chunk_bytes xs) (drop-append-le x.1 s more (omega (arith, fits))) ∙ chunk_bytes-within xs (drop x.1 s) more (omega (arith, fits, length-drop x.1 s)) in
-    (λ i. own i ++ rest i)
+chunk_bytes-within (x ∷ xs) s more within = grind (arith, cases_Bool, kinds_size-cons, take-append-le, drop-append-le, length-drop, chunk_bytes-within xs (drop x.1 s) more)
 
 pub chunk_bytes-one : (n : ℕ) (s : List ℕ) → chunk_bytes ((true, n) ∷ []) s ≡ take n s
 chunk_bytes-one n s = append-nil (take n s)
 
 -- a chunk, and a parent with its parts
 pub kinds_size-chunk : (choice : Choice) (number n : ℕ) → wants choice (1024 * number) n ≡ true → choice.chunks ≡ true → n ≤ 1024 → kinds_size (subtree_kinds choice number n) ≡ n
-kinds_size-chunk choice number n wanted there one =
-    ap kinds_size (kinds-chunk choice number n wanted there one) ∙ kinds_size-cons (true, n) [] ∙ (let e : n + 0 ≡ n = omega arith in e)
+kinds_size-chunk choice number n wanted there one = grind (arith, kinds-chunk, kinds_size-cons)
 
 pub chunk_bytes-chunk : (choice : Choice) (number n : ℕ) (s : List ℕ) → wants choice (1024 * number) n ≡ true → choice.chunks ≡ true → n ≤ 1024
     → chunk_bytes (subtree_kinds choice number n) s ≡ take n s
@@ -117,46 +96,28 @@ kinds_size-parent choice number n l wanted more is =
 pub chunk_bytes-parent : (choice : Choice) (number n l : ℕ) (s : List ℕ) → wants choice (1024 * number) n ≡ true → 1024 < n → l ≡ left_len n
     → chunk_bytes (subtree_kinds choice number n) s
     ≡ chunk_bytes (subtree_kinds choice number l) (drop 64 s) ++ chunk_bytes (subtree_kinds choice (number + l / 1024) (n - l)) (drop (kinds_size (subtree_kinds choice number l)) (drop 64 s))
-chunk_bytes-parent choice number n l s wanted more is =
-    let near : ℕ → List Kind = λ k. subtree_kinds choice number k in
-    let far : ℕ → List Kind = λ k. subtree_kinds choice (number + k / 1024) (n - k) in
-    ap (λ (ks : List Kind). chunk_bytes ks s) (kinds-parent choice number n wanted more)
-    ∙ chunk_bytes-append (near (left_len n)) (far (left_len n)) (drop 64 s)
-    ∙ ap (λ (k : ℕ). chunk_bytes (near k) (drop 64 s) ++ chunk_bytes (far k) (drop (kinds_size (near k)) (drop 64 s))) (sym is)
+chunk_bytes-parent choice number n l s wanted more is = grind (arith, kinds-parent, chunk_bytes-append)
 
 pub kinds_size-some : (choice : Choice) (number n : ℕ) → wants choice (1024 * number) n ≡ true → choice.chunks ≡ true → 0 < n → 0 < kinds_size (subtree_kinds choice number n)
-kinds_size-some choice number n wanted there some = elim (cases_lt 1024 n) [
-  | inl more ↦ omega (arith, kinds_size-parent choice number n (left_len n) wanted more refl)
-  | inr one ↦ omega (arith, some, kinds_size-chunk choice number n wanted there one)
-]
+kinds_size-some choice number n wanted there some = grind (arith, cases_lt, kinds_size-parent choice number n (left_len n), kinds_size-chunk)
 
 -- nodes that stand together
 pub chunk_bytes-both : (xs ys : List Kind) (s more : List ℕ) → kinds_size xs ≡ length s → chunk_bytes (xs ++ ys) (s ++ more) ≡ chunk_bytes xs s ++ chunk_bytes ys more
-chunk_bytes-both xs ys s more all =
-    chunk_bytes-append xs ys (s ++ more)
-    ∙ (λ i. chunk_bytes-within xs s more (omega (arith, all)) i ++ chunk_bytes ys (drop_at s more (kinds_size xs) (sym all) i))
+chunk_bytes-both xs ys s more all = grind (arith, chunk_bytes-append, chunk_bytes-within, drop_at)
 
 -- a part that is put last comes first
 pub waiting_kinds-last : (choice : Choice) (xs : List Part) (x : Part) → waiting_kinds choice (xs ++ x ∷ []) ≡ subtree_kinds choice x.number x.len ++ waiting_kinds choice xs
 waiting_kinds-last choice [] x = sym (append-nil (subtree_kinds choice x.number x.len))
-waiting_kinds-last choice (y ∷ ys) x =
-    ap (λ (zs : List Kind). zs ++ subtree_kinds choice y.number y.len) (waiting_kinds-last choice ys x)
-    ∙ append_assoc (subtree_kinds choice x.number x.len) (waiting_kinds choice ys) (subtree_kinds choice y.number y.len)
+waiting_kinds-last choice (y ∷ ys) x = grind (arith, append_assoc, waiting_kinds-last choice ys x)
 
 pub same_part : (o : Option Part) (one other : Part) → o ≡ Some one → o ≡ Some other → one ≡ other
-same_part o one other h k =
-    let e : Some one ≡ Some other = sym h ∙ k in
-    cc
+same_part o one other h k = grind arith
 
 pub waiting_kinds-put : (choice : Choice) (parts after : List Part) (part : Part) → after ≡ parts ++ part ∷ []
     → waiting_kinds choice after ≡ subtree_kinds choice part.number part.len ++ waiting_kinds choice parts
 waiting_kinds-put choice parts after part is = ap (waiting_kinds choice) is ∙ waiting_kinds-last choice parts part
 
--- nothing taken, and one after another
-pub taken_nothing : (mode : Mode) (choice : Choice) (parts : List Part) → HasTaken mode choice parts parts []
-taken_nothing mode choice parts =
-    record { comes = λ taken more o end h. subst (λ (s : List ℕ). AllCome mode choice parts ((taken ++ []) ++ more) (length s) o end) (append-nil taken) h }
-
+-- one node taken after another
 text_of_both : (taken one other more : List ℕ) → ((taken ++ one) ++ other) ++ more ≡ (taken ++ (one ++ other)) ++ more
 text_of_both taken one other more = ap (λ (s : List ℕ). s ++ more) (append_assoc taken one other)
 
@@ -208,16 +169,9 @@ refused_front mode choice parts at n size bytes fault within refused = record {
       subst (λ (s : List ℕ). AllCome mode choice parts s (length had) (Some fault) (length had + size)) all (refused.stops had (drop n bytes ++ more) at_is);
 }
 
-pub decodes_nothing : (choice : Choice) (parts : List Part) → Decodes choice parts parts [] []
-decodes_nothing choice parts = λ more. refl
-
 pub decodes_both : (choice : Choice) (a b c : List Part) (one other first second : List ℕ) → Decodes choice a b one first → Decodes choice b c other second
     → Decodes choice a c (one ++ other) (first ++ second)
-decodes_both choice a b c one other first second left_is right_is = λ more.
-    ap (chunk_bytes (waiting_kinds choice a)) (append_assoc one other more)
-    ∙ left_is (other ++ more)
-    ∙ ap (λ (s : List ℕ). first ++ s) (right_is more)
-    ∙ sym (append_assoc first second (chunk_bytes (waiting_kinds choice c) more))
+decodes_both choice a b c one other first second left_is right_is = grind (arith, append_assoc)
 
 -- all nodes of the part that comes first
 pub part_decodes : (choice : Choice) (before after : List Part) (part : Part) (node : List ℕ) → before ≡ after ++ part ∷ [] → kinds_size (subtree_kinds choice part.number part.len) ≡ length node
@@ -284,9 +238,7 @@ some_of o x P is h = subst (λ (p : Option _). IfSome p P) is h
 -- a step more
 pub taken_more : (mode : Mode) (choice : Choice) (a b c : List Part) (bytes rest : List ℕ) (used len : ℕ) → rest ≡ drop used bytes → HasTaken mode choice a b (take used bytes)
     → HasTaken mode choice b c (take len rest) → HasTaken mode choice a c (take (used + len) bytes)
-taken_more mode choice a b c bytes rest used len is first second =
-    subst (HasTaken mode choice a c) (sym (take-add used len bytes ∙ ap (λ (s : List ℕ). take used bytes ++ take len s) (sym is)))
-    (taken_both mode choice a b c (take used bytes) (take len rest) first second)
+taken_more mode choice a b c bytes rest used len is first second = grind (arith, take-add, taken_both)
 
 pub decodes_more : (choice : Choice) (a b c : List Part) (bytes rest had part all : List ℕ) (used len : ℕ) → rest ≡ drop used bytes → all ≡ had ++ part
     → Decodes choice a b (take used bytes) had → Decodes choice b c (take len rest) part → Decodes choice a c (take (used + len) bytes) all
@@ -312,39 +264,23 @@ decoded_begun start len total choice parts header more size is chosen waits =
 
 pub begun_waiting : (choice : Choice) (total : ℕ) (parts before : List Part) (more : List ℕ) → before ≡ [] → waiting_kinds choice parts ≡ subtree_kinds choice 0 total ++ waiting_kinds choice before
     → chunk_bytes (waiting_kinds choice parts) more ≡ chunk_bytes (subtree_kinds choice 0 total) more
-begun_waiting choice total parts before more none kinds =
-    ap (λ (ks : List Kind). chunk_bytes ks more)
-    (kinds ∙ ap (λ (ps : List Part). subtree_kinds choice 0 total ++ waiting_kinds choice ps) none ∙ append-nil (subtree_kinds choice 0 total))
+begun_waiting choice total parts before more none kinds = grind (arith, append-nil)
 
 -- a blob of no bytes has a chunk of none
 pub begun_empty : (start len total : ℕ) (choice : Choice) (parts : List Part) (more : List ℕ) → parts ≡ [] → total ≡ 0 → choice ≡ of_slice total start len
     → chunk_bytes (waiting_kinds choice parts) more ≡ chunk_bytes (subtree_kinds choice 0 total) more
-begun_empty start len total choice parts more none empty chosen =
-    let chosen_empty : choice ≡ of_slice 0 start len = chosen ∙ ap (λ (n : ℕ). of_slice n start len) empty in
-    let wanted : wants choice (1024 * 0) 0 ≡ true =
-    subst (λ (ch : Choice). wants ch (1024 * 0) 0 ≡ true) (sym chosen_empty) (wants_whole (of_slice 0 start len) (1024 * 0) 0 (omega arith) (omega arith)) in
-    let there : choice.chunks ≡ true = ap (λ (ch : Choice). ch.chunks) chosen in
-    ap (λ (ps : List Part). chunk_bytes (waiting_kinds choice ps) more) none
-    ∙ sym (ap (λ (n : ℕ). chunk_bytes (subtree_kinds choice 0 n) more) empty ∙ chunk_bytes-chunk choice 0 0 more wanted there (omega arith))
+begun_empty start len total choice parts more none empty chosen = grind (arith, wants_whole, chunk_bytes-chunk)
 
 -- where nothing waits, all is decoded
 pub decoded_all : (choice : Choice) (parts : List Part) (taken blob : List ℕ) (start len : ℕ) → parts ≡ []
     → decoded (taken ++ []) start len ≡ blob ++ chunk_bytes (waiting_kinds choice parts) [] → decoded taken start len ≡ blob
-decoded_all choice parts taken blob start len none h =
-    ap (λ (s : List ℕ). decoded s start len) (sym (append-nil taken))
-    ∙ h
-    ∙ ap (λ (ps : List Part). blob ++ chunk_bytes (waiting_kinds choice ps) []) none
-    ∙ append-nil blob
+decoded_all choice parts taken blob start len none h = grind (arith, append-nil)
 
 -- what is decoded after nodes, from what was before them
 pub decodes-taken : (choice : Choice) (before after : List Part) (taken node blob part : List ℕ) (start len : ℕ) → Decodes choice before after node part
     → ((more : List ℕ) → decoded (taken ++ more) start len ≡ blob ++ chunk_bytes (waiting_kinds choice before) more)
     → (more : List ℕ) → decoded ((taken ++ node) ++ more) start len ≡ (blob ++ part) ++ chunk_bytes (waiting_kinds choice after) more
-decodes-taken choice before after taken node blob part start len step had more =
-    ap (λ (s : List ℕ). decoded s start len) (append_assoc taken node more)
-    ∙ had (node ++ more)
-    ∙ ap (λ (s : List ℕ). blob ++ s) (step more)
-    ∙ sym (append_assoc blob part (chunk_bytes (waiting_kinds choice after) more))
+decodes-taken choice before after taken node blob part start len step had more = grind (arith, append_assoc)
 
 -- a node's fault, where more comes after it
 pub node_fault_on : (task : CheckTask) (text rest : List ℕ) (fault : CheckFault) → IsNodeFault task text fault → IsNodeFault task (text ++ rest) fault
@@ -356,12 +292,10 @@ node_fault_on task text rest Reader h = h
 
 -- bytes that begin with a length, and what is taken of those after it
 pub after_length : (taken bytes header nodes : List ℕ) (k : ℕ) → header ≡ take 8 bytes → nodes ≡ drop 8 bytes → (taken ++ header) ++ take k nodes ≡ taken ++ take (8 + k) bytes
-after_length taken bytes header nodes k front back =
-    append_assoc taken header (take k nodes) ∙ ap (λ (s : List ℕ). taken ++ s) ((λ i. front i ++ take k (back i)) ∙ sym (take-add 8 k bytes))
+after_length taken bytes header nodes k front back = grind (arith, append_assoc, take-add)
 
 pub all_after_length : (taken bytes header nodes : List ℕ) → header ≡ take 8 bytes → nodes ≡ drop 8 bytes → (taken ++ header) ++ nodes ≡ taken ++ bytes
-all_after_length taken bytes header nodes front back =
-    append_assoc taken header nodes ∙ ap (λ (s : List ℕ). taken ++ s) ((λ i. front i ++ back i) ∙ take-append-drop 8 bytes)
+all_after_length taken bytes header nodes front back = grind (arith, append_assoc, take-append-drop)
 
 -- what one node has of the blob: a chunk its bytes, and a parent none
 one_decodes : (choice : Choice) (before after : List Part) (node : List ℕ) (first : Option Part) (n : ℕ) → last_part before ≡ first → option_map part_size first ≡ Some n
@@ -384,8 +318,10 @@ node_decodes choice before after node n some chunk parent = one_decodes choice b
 pub decodes_node : (choice : Choice) (before after : List Part) (taken node blob own more : List ℕ) (start len : ℕ) → Decodes choice before after node own
     → decoded (taken ++ (node ++ more)) start len ≡ blob ++ chunk_bytes (waiting_kinds choice before) (node ++ more)
     → decoded ((taken ++ node) ++ more) start len ≡ (blob ++ own) ++ chunk_bytes (waiting_kinds choice after) more
-decodes_node choice before after taken node blob own more start len decodes is =
-    ap (λ (s : List ℕ). decoded s start len) (append_assoc taken node more)
-    ∙ is
-    ∙ ap (λ (s : List ℕ). blob ++ s) (decodes more)
-    ∙ sym (append_assoc blob own (chunk_bytes (waiting_kinds choice after) more))
+decodes_node choice before after taken node blob own more start len decodes is = grind (arith, append_assoc)
+
+-- what a copy of chunks goes by
+pub ruleset copied_sizes = (kinds_size-chunk, kinds_size-parent, kinds-unwanted, append-nil, take-put_mid, chunk_bytes-chunk)
+
+-- what is known once a subtree waits
+pub ruleset pushed = (AreParts-last, before_last, before_unwanted, waiting_kinds-put, kinds-unwanted)

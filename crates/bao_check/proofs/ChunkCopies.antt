@@ -1,5 +1,5 @@
 -- Chunks copied side by side, each to where its lane has it.
-use Rattle.std.proofs.Common.{◌≡◌, ◌<◌, ◌≤◌, ℕ, ◌+◌, ◌-◌, List, ◌++◌, length, take, drop, sym, ap, ◌∙◌, arith, length-append, length-drop}
+use Rattle.std.proofs.Common.{◌≡◌, ◌<◌, ◌≤◌, ℕ, ◌+◌, ◌-◌, List, length, take, drop, sym, ap, ◌∙◌, arith, length-append, length-drop}
 use Rattle.std.proofs.lemmas.List.{length-take-le}
 use Rattle.std.proofs.lemmas.Slice.{between-put_mid, take-put_mid_below}
 use borrow.Rule.Slice.PartMut.{put_mid}
@@ -19,8 +19,7 @@ own_there a k xs ys within size =
     ap (λ (m : ℕ). take m (drop a (put_mid a k xs ys))) n ∙ between-put_mid a k xs ys (a + 1024) within (size ∙ n)
 
 pub size_kept : (a k : ℕ) (xs ys : List ℕ) → a + 1024 ≤ length xs → k ≡ 1024 → length ys ≡ 1024 → length (put_mid a k xs ys) ≡ length xs
-size_kept a k xs ys within is size =
-    omega (arith, length-append (take a xs) ys, length-append (take a xs) (ys), length-take-le a xs (omega arith), length-append ys (drop k (drop a xs)), length-append (take a xs) (ys ++ drop k (drop a xs)), length-drop k (drop a xs), length-drop a xs)
+size_kept a k xs ys within is size = grind (arith, length-append, length-take-le, length-drop)
 
 -- lanes lie one after another
 pub lane_before : (j k : ℕ) → j < k → lane_place 0 1024 j + 1024 ≤ lane_place 0 1024 k

@@ -1,5 +1,5 @@
 -- Where a tree's chunks and parents stand in an encoding, as going down to them finds them.
-use Rattle.std.proofs.Common.{◌≡◌, ℕ, zero, suc, ◌+◌, ◌-◌, ◌*◌, ◌/◌, ◌%◌, ◌^◌, ◌<◌, ◌≤◌, List, [], ◌∷◌, ◌++◌, Bool, true, false, ◌&&◌, if◌then◌else◌, Option, None, Some, is_some, refl, sym, ap, ◌∙◌, arith, inl, inr, pow_pos, bit_and}
+use Rattle.std.proofs.Common.{◌≡◌, ℕ, zero, suc, ◌+◌, ◌-◌, ◌*◌, ◌/◌, ◌^◌, ◌<◌, ◌≤◌, List, [], ◌∷◌, ◌++◌, Bool, true, false, ◌&&◌, if◌then◌else◌, Option, None, Some, is_some, refl, sym, ap, ◌∙◌, arith, inl, inr, pow_pos, bit_and}
 use Rattle.std.specs.Bool.{then_some}
 use Rattle.std.specs.Int.Bits.{and_self}
 use Rattle.std.specs.Int.Count.{ones}
@@ -11,12 +11,11 @@ use Rattle.bao_text.specs.declared.choice.Choice.{Choice}
 use Rattle.bao_text.specs.Choice.{chunk_count, wants}
 use Rattle.bao_text.specs.Nodes.{Side, TreeNode, left, placed_nodes, right, subtree_nodes, subtree_size}
 use Rattle.bao_text.proofs.Everything.{chunk_part}
-use Rattle.bao_check.specs.declared.locate.Span.{Span}
 use Rattle.bao_check.specs.Parents.{parent_place}
 use Rattle.bao_check.specs.Spans.{chunk_place}
 use Rattle.bao_text.proofs.Halves.{by_halves}
 use Rattle.bao_check.proofs.Lists.{nodes_size}
-use Rattle.bao_check.proofs.Locating.{and_false, chunk_place-leaf, chunk_place-unwanted, chunk_place-without, count_parts}
+use Rattle.bao_check.proofs.Locating.{and_false, chunk_place-leaf, chunk_place-unwanted, chunk_place-without, count_parts, left_whole}
 use Rattle.bao_check.proofs.Parenting.{outside_lacks, parent_place-here, parent_place-none, parent_place-unwanted}
 use Rattle.bao_check.proofs.Presence.{Meets, Meets-from_wants, chunk_far, chunk_near, far, near, parent_far, parent_near, wants-from_Meets}
 use Rattle.bao_check.proofs.Sizes.{nodes_size-whole}
@@ -30,16 +29,12 @@ found false x y same = refl
 -- the subtree's own parent
 pub parent_here : (choice : Choice) (number n : ℕ) (sides : List Side) (source at m : ℕ) → 1024 < n → number + left_len n / 1024 ≡ m
     → parent_place (placed_nodes at (subtree_nodes choice number n sides source)) m ≡ then_some (wants choice (1024 * number) n) at
-parent_here choice number n sides source at m more same = elim (cases_Bool (wants choice (1024 * number) n)) [
-  | inl wanted ↦ parent_place-here choice number n sides source at m wanted more same ∙ sym (ap (λ (w : Bool). then_some w at) wanted)
-  | inr skipped ↦ parent_place-unwanted choice number n sides source at m skipped ∙ sym (ap (λ (w : Bool). then_some w at) skipped)
-]
+parent_here choice number n sides source at m more same = grind (arith, cases_Bool, parent_place-here, parent_place-unwanted)
 
 -- a subtree that has no such boundary
 pub parent_outside : (choice : Choice) (number n : ℕ) (sides : List Side) (source at m : ℕ) → ((number < m) × (m < number + chunk_count n) → ⊥)
     → parent_place (placed_nodes at (subtree_nodes choice number n sides source)) m ≡ None
-parent_outside choice number n sides source at m outside =
-    parent_place-none (placed_nodes at (subtree_nodes choice number n sides source)) m (outside_lacks choice number n m at source sides outside)
+parent_outside choice number n sides source at m outside = search (arith, parent_place-none, outside_lacks)
 
 ones_one : ones 1 ≡ 1
 unfolding ones
@@ -57,56 +52,23 @@ ones_above high d below =
     omega (arith, same, ones_cat high 1 d below, ones_one)
 
 part_sum : (choice : Choice) (a b : ℕ) → chunk_part choice a + chunk_part choice b ≡ chunk_part choice (a + b)
-part_sum choice a b = elim (cases_Bool choice.chunks) [ inl there ↦ rw there refl | inr gone ↦ rw gone refl ]
-
-part_zero : (choice : Choice) → chunk_part choice 0 ≡ 0
-part_zero choice = elim (cases_Bool choice.chunks) [ inl there ↦ rw there refl | inr gone ↦ rw gone refl ]
+part_sum choice a b = grind (arith, cases_Bool)
 
 -- a part that is wanted whole, of so many chunks
 part_whole : (choice : Choice) (number n count : ℕ) (sides : List Side) (source : ℕ) → n ≡ 1024 * count → 0 < count → choice.start ≤ 1024 * number → 1024 * (number + count) ≤ choice.end
     → nodes_size (subtree_nodes choice number n sides source) + 64 ≡ chunk_part choice (1024 * count) + 64 * count
-part_whole choice number n count sides source size some start end =
-    let whole = nodes_size-whole choice number n sides source start (omega (arith, size, end)) in
-    let part : chunk_part choice n ≡ chunk_part choice (1024 * count) = ap (chunk_part choice) size in
-    omega (arith, whole, part, size, some)
+part_whole choice number n count sides source size some start end = grind (arith, nodes_size-whole)
 
 halved : (levels n : ℕ) → n ≡ 1024 * 2 ^ suc levels → left_len n ≡ 1024 * 2 ^ levels
 halved levels n size =
     let twice : n ≡ 1024 * (2 ^ levels + 2 ^ levels) = omega (arith, size) in
     ap left_len twice ∙ left_len-double (2 ^ levels) (levels, refl)
 
--- one chunk that may be wanted
-chunk_alone : (choice : Choice) (number n : ℕ) (sides : List Side) (source at i : ℕ) → n ≡ 1024 → number ≡ i
-    → chunk_place (placed_nodes at (subtree_nodes choice number n sides source)) i ≡ then_some (choice.chunks && wants choice (1024 * i) 1024) (record { at = at; len = 1024 })
-chunk_alone choice number n sides source at i size same =
-    let asked : wants choice (1024 * number) n ≡ wants choice (1024 * i) 1024 = (λ j. wants choice (1024 * same j) (size j)) in
-    let answer : Bool → Option Span = λ there. then_some there (record { at = at; len = 1024 }) in
-    elim (cases_Bool (wants choice (1024 * number) n)) [
-      | inr skipped ↦
-          chunk_place-unwanted choice number n sides source at i skipped
-          ∙ sym (ap answer (ap (λ (w : Bool). choice.chunks && w) (sym asked ∙ skipped) ∙ and_false choice.chunks))
-      | inl wanted ↦
-          elim (cases_Bool choice.chunks) [
-            | inr gone ↦
-                chunk_place-without choice number n sides source at i wanted (omega (arith, size)) gone
-                ∙ sym (ap answer (ap (λ (c : Bool). c && wants choice (1024 * i) 1024) gone))
-            | inl there ↦
-                ap (chunk_place (placed_nodes at (subtree_nodes choice number n sides source))) (sym same)
-                ∙ chunk_place-leaf choice number n sides source at wanted (omega (arith, size)) there
-                ∙ (λ j. Some (record { at = at; len = size j }))
-                ∙ sym (ap answer (ap (λ (c : Bool). c && wants choice (1024 * i) 1024) there ∙ sym asked ∙ wanted))
-          ]
-    ]
-
 -- Chunk i of 2 ^ levels chunks, none of which lies before the wanted positions.
 pub chunk_full : (levels : ℕ) (choice : Choice) (number n : ℕ) (sides : List Side) (source at i : ℕ) → n ≡ 1024 * 2 ^ levels → number ≤ i → i < number + 2 ^ levels → choice.start ≤ 1024 * number
     → chunk_place (placed_nodes at (subtree_nodes choice number n sides source)) i
     ≡ then_some (choice.chunks && wants choice (1024 * i) 1024) (record { at = at + 1024 * (i - number) + 64 * (i - number + ones (2 ^ levels - 1 - (i - number))); len = 1024 })
-chunk_full zero choice number n sides source at i size first last start =
-    let none : ones (2 ^ zero - 1 - (i - number)) ≡ 0 = ap ones {y = 0} (omega (arith, first, last)) ∙ ones_zero in
-    let place : at ≡ at + 1024 * (i - number) + 64 * (i - number + ones (2 ^ zero - 1 - (i - number))) = omega (arith, none, first, last) in
-    chunk_alone choice number n sides source at i (omega (arith, size)) (omega (arith, first, last))
-    ∙ (λ j. then_some (choice.chunks && wants choice (1024 * i) 1024) (record { at = place j; len = 1024 }))
+chunk_full zero choice number n sides source at i size first last start = search (arith, ones_zero, cases_Bool, chunk_place-unwanted, chunk_place-without, chunk_place-leaf, and_false)
 chunk_full (suc levels) choice number n sides source at i size first last start =
     let h : ℕ = 2 ^ levels in
     let k : ℕ = i - number in
@@ -144,9 +106,7 @@ abbrev pub first_of : ℕ → ℕ
 first_of b = bit_and b (b - 1)
 
 first_of-power : (high : ℕ) → first_of (2 ^ high) ≡ 0
-first_of-power high =
-    let back : 2 ^ high ≡ 1 * 2 ^ high + 0 = omega arith in
-    and_mask (2 ^ high) high ∙ ap (λ (x : ℕ). x % 2 ^ high) back ∙ mod_low 1 high 0 (pow_pos high)
+first_of-power high = grind (arith, and_mask, mod_low, pow_pos)
 
 first_of-above : (high r : ℕ) → 0 < r → r < 2 ^ high → first_of (2 ^ high + r) ≡ 2 ^ high + first_of r
 first_of-above high r some below =
@@ -181,7 +141,7 @@ parent_full (suc levels) choice number n sides source at m size low high start =
                 let own : h ≡ b = omega (arith, after, same) in
                 let first : first_of b ≡ 0 = ap first_of (sym own) ∙ first_of-power levels in
                 let count : ones (2 ^ suc levels - b) ≡ 1 = ap ones {y = h + 0} (omega (arith, own)) ∙ ones_above levels 0 some ∙ ap suc ones_zero in
-                let part : chunk_part choice (1024 * first_of b) ≡ 0 = ap (chunk_part choice) {y = 0} (omega (arith, first)) ∙ part_zero choice in
+                let part : chunk_part choice (1024 * first_of b) ≡ 0 = grind (arith, cases_Bool, first) in
                 let place : at + 64 ≡ at + chunk_part choice (1024 * first_of b) + 64 * (first_of b + ones (2 ^ suc levels - b)) = omega (arith, first, count, part) in
                 let start_is : number ≡ number + first_of b = omega (arith, first) in
                 let len_is : n ≡ 2048 * (b - first_of b) = omega (arith, size, own, first) in
@@ -242,3 +202,9 @@ few_chunks levels below = elim (cases_lt levels 54) [
   | inl few ↦ let near_most : levels ≤ 53 = omega (arith, few) in let most : 2 ^ levels ≤ 2 ^ 53 = pow_mono near_most in omega (arith, most)
   | inr many ↦ let least : 2 ^ 54 ≤ 2 ^ levels = pow_mono many in absurd (omega (arith, least, below))
 ]
+
+-- where a parent is found
+pub ruleset parents_found = (parent_outside, parent_here, parent_near, parent_far, left_whole)
+
+-- and all parents of a group
+pub ruleset parents_grouped = (parent_outside, parent_here, parent_near, parent_far, parent_place-unwanted)

@@ -18,12 +18,13 @@ use Rattle.bao_text.specs.Nodes.{left, right}
 use Rattle.bao_text.proofs.NodeNaming.{AreWaiting-last, Parted, Taken, parted, taken_last}
 use Rattle.bao_check.specs.declared.asked.Asked.{Asked}
 use Rattle.bao_check.specs.declared.fault.CheckFault.{CheckFault}
-use Rattle.bao_check.specs.declared.fault.CheckFault.TheVariants.{Short, Mismatch, Trailing}
+use Rattle.bao_check.specs.declared.fault.CheckFault.TheVariants.{Short, Mismatch, Trailing, Memory, Reader}
 use Rattle.b3word.specs.declared.input.Input.{Input}
 use Rattle.bao_check.specs.declared.form.Form.TheVariants.{Slice}
 use Rattle.bao_check.specs.declared.part.Part.{Part}
 use Rattle.bao_check.specs.Accepted.{part_value, slice_nodes}
 use Rattle.bao_check.specs.Checking.{IsNodeFault}
+use Rattle.bao_check.specs.Streams.{IsOfBytes}
 use Rattle.bao_check.specs.Subtree.{PassesIn, StopsIn}
 use Rattle.bao_check.specs.Waiting.{AllCome, AreParts, FirstComes, HasRefused, HasRefusedIn, HasTaken, IsBefore, IsAcceptedAs, IsFaultAs, IsStopAs, CheckTask, PartComes, WaitsIn, last_part, next_size, part_size, shape}
 use Rattle.bao_check.specs.Walk.{Meets, asked_root, chunk_at, parent_at}
@@ -40,15 +41,13 @@ not_both e = cc
 only_first : (asked : Asked) (number n : ℕ) (mode : Mode) (choice : Choice) (text : List ℕ) (at : ℕ) (o : Option CheckFault) (end : ℕ)
     → FirstComes asked number n mode choice [] text at o end → PartComes asked mode choice number n text at o end
 only_first asked number n mode choice text at o end (inl h) = h.1
-only_first asked number n mode choice text at o end (inr h) =
-    subst (λ (x : Option CheckFault). PartComes asked mode choice number n text at x end) (sym h.2.0) (subst (λ (k : ℕ). PassesIn asked mode choice number n text at k) h.2.1 h.1)
+only_first asked number n mode choice text at o end (inr h) = grind arith
 
 -- a part put last comes first
 pub AllCome-last : (mode : Mode) (choice : Choice) (parts : List Part) (part : Part) (text : List ℕ) (at : ℕ) (o : Option CheckFault) (end : ℕ)
     → FirstComes part.asked part.number part.len mode choice parts text at o end → AllCome mode choice (parts ++ part ∷ []) text at o end
 AllCome-last mode choice [] part text at o end (inl h) = inr (at, (refl, refl), h.1)
-AllCome-last mode choice [] part text at o end (inr h) =
-    inr (at, (refl, refl), only_first part.asked part.number part.len mode choice text at o end (inr h))
+AllCome-last mode choice [] part text at o end (inr h) = grind (arith, only_first)
 AllCome-last mode choice (first ∷ later) part text at o end (inl h) = inl (h.0, AllCome-last mode choice later part text at o end (inl h))
 AllCome-last mode choice (first ∷ later) part text at o end (inr (middle, passes, inl h)) =
     inl (h.0, AllCome-last mode choice later part text at o end (inr (middle, passes, h.1)))
@@ -58,26 +57,17 @@ AllCome-last mode choice (first ∷ later) part text at o end (inr (middle, pass
 pub AllCome-first : (mode : Mode) (choice : Choice) (parts : List Part) (part : Part) (text : List ℕ) (at : ℕ) (o : Option CheckFault) (end : ℕ)
     → AllCome mode choice (parts ++ part ∷ []) text at o end → FirstComes part.asked part.number part.len mode choice parts text at o end
 AllCome-first mode choice [] part text at o end (inl h) = absurd (not_both (sym h.0 ∙ ap (λ (x : Option CheckFault). is_some x) h.1.0))
-AllCome-first mode choice [] part text at None end (inr h) =
-    inr (end, subst (λ (k : ℕ). PassesIn part.asked mode choice part.number part.len text k end) (sym h.1.1) h.2, (refl, refl))
-AllCome-first mode choice [] part text at (Some fault) end (inr h) =
-    inl (refl, subst (λ (k : ℕ). StopsIn part.asked mode choice part.number part.len text k fault end) (sym h.1.1) h.2)
-AllCome-first mode choice (first ∷ later) part text at o end (inl h) = elim (AllCome-first mode choice later part text at o end h.1) [
-  | inl own ↦ inl own
-  | inr rest ↦ inr (rest.0, rest.1, inl (h.0, rest.2))
-]
-AllCome-first mode choice (first ∷ later) part text at o end (inr h) = elim (AllCome-first mode choice later part text at None h.0 h.1) [
-  | inl never ↦ absurd (not_both (sym never.0))
-  | inr rest ↦ inr (rest.0, rest.1, inr (h.0, rest.2, h.2))
-]
+AllCome-first mode choice [] part text at None end (inr h) = grind arith
+AllCome-first mode choice [] part text at (Some fault) end (inr h) = grind arith
+AllCome-first mode choice (first ∷ later) part text at o end (inl h) = grind (arith, AllCome-first mode choice later part text at o end h.1)
+AllCome-first mode choice (first ∷ later) part text at o end (inr h) = grind (arith, not_both, AllCome-first mode choice later part text at None h.0 h.1)
 
 pub before_unwanted : (choice : Choice) (asked : Asked) (number n : ℕ) (parts : List Part) → wants choice (1024 * number) n ≡ false → IsBefore choice asked number n parts parts
 before_unwanted choice asked number n parts skipped =
     record { comes = λ mode text at o end inside h. inr (at, pass_unwanted asked mode choice number n text at inside skipped, h) }
 
 pub before_last : (choice : Choice) (parts after : List Part) (part : Part) → after ≡ parts ++ part ∷ [] → IsBefore choice part.asked part.number part.len parts after
-before_last choice parts after part is =
-    record { comes = λ mode text at o end inside h. AllCome-first mode choice parts part text at o end (subst (λ (ps : List Part). AllCome mode choice ps text at o end) is h) }
+before_last choice parts after part is = search (arith, AllCome-first, is)
 
 -- the shapes of parts with one more
 pub shapes_last : (parts after : List Part) (part : Part) → after ≡ parts ++ part ∷ [] → map shape after ≡ map shape parts ++ shape part ∷ []
@@ -119,9 +109,7 @@ module _ (asked : Asked) (mode : Mode) (choice : Choice) (number n : ℕ) (taken
         (subst (λ (s : List ℕ). Meets asked (last_chunk_input mode number s)) (sym (own n len)) meets))
 
     pub chunk_wrong : length node ≡ n → ¬ Meets asked (last_chunk_input mode number node) → StopsIn asked mode choice number n text here (Mismatch here) (here + n)
-    chunk_wrong len wrong =
-        stop_chunk asked mode choice number n text here wanted one there (Mismatch here)
-        (refl, omega (arith, all_len, len), subst (λ (s : List ℕ). ¬ Meets asked (last_chunk_input mode number s)) (sym (own n len)) wrong)
+    chunk_wrong len wrong = grind (arith, stop_chunk, wanted, all_len, own)
 
     pub chunk_short : length node < n → more ≡ [] → StopsIn asked mode choice number n text here (Short here) (here + n)
     chunk_short less none = stop_chunk asked mode choice number n text here wanted one there (Short here) (refl, omega (arith, all_len, less, ap length none))
@@ -167,26 +155,19 @@ module _ (asked : Asked) (mode : Mode) (choice : Choice) (number n : ℕ) (taken
       pub first_stops : (o : Option CheckFault) (end : ℕ) → is_some o ≡ true → PartComes near mode choice number (left_len n) text (length (taken ++ node)) o end
           → PartComes asked mode choice number n text here o end
       first_stops None end some first = absurd (not_both (sym some))
-      first_stops (Some fault) end some first =
-          near_part_stops asked mode choice number n text here wanted parent near far (left_len n) refl fits met near_asks far_asks fault end
-          (subst (λ (k : ℕ). StopsIn near mode choice number (left_len n) text k fault end) (ends taken node 64 len) first)
+      first_stops (Some fault) end some first = grind (arith, near_part_stops, fits, met, near_asks, far_asks, ends)
 
 -- all of a part taken, of which nothing more comes
 pub all_taken_from : (mode : Mode) (choice : Choice) (before after : List Part) (part : Part) (node : List ℕ) → before ≡ after ++ part ∷ []
     → ((taken more : List ℕ) → PassesIn part.asked mode choice part.number part.len ((taken ++ node) ++ more) (length taken) (length (taken ++ node)))
     → HasTaken mode choice before after node
-all_taken_from mode choice before after part node is here = record {
-  comes = λ taken more o end h.
-      subst (λ (ps : List Part). AllCome mode choice ps ((taken ++ node) ++ more) (length taken) o end) (sym is)
-      (AllCome-last mode choice after part ((taken ++ node) ++ more) (length taken) o end (inr (length (taken ++ node), here taken more, h)));
-}
+all_taken_from mode choice before after part node is here = search (arith, is, AllCome-last)
 
 -- one node taken: a chunk
 pub chunk_taken_from : (mode : Mode) (choice : Choice) (before after : List Part) (part : Part) (node : List ℕ) → before ≡ after ++ part ∷ []
     → wants choice (1024 * part.number) part.len ≡ true → choice.chunks ≡ true → part.len ≤ 1024 → length node ≡ part.len
     → Meets part.asked (last_chunk_input mode part.number node) → HasTaken mode choice before after node
-chunk_taken_from mode choice before after part node is wanted there one len meets =
-    all_taken_from mode choice before after part node is (λ taken more. chunk_there part.asked mode choice part.number part.len taken node more wanted there one len meets)
+chunk_taken_from mode choice before after part node is wanted there one len meets = search (arith, all_taken_from, is, chunk_there, wanted)
 
 -- or a parent, in whose place its parts come
 pub parent_taken_from : (mode : Mode) (choice : Choice) (before rest middle after : List Part) (part : Part) (node : List ℕ) (near far : Asked) → before ≡ rest ++ part ∷ []
@@ -219,28 +200,13 @@ parent_taken_from mode choice before rest middle after part node near far is wan
 pub WaitsIn-taken : (task : CheckTask) (choice : Choice) (before after : List Part) (taken node : List ℕ) → HasTaken task.mode choice before after node
     → ((more : List ℕ) → WaitsIn task choice before (taken ++ more) (length taken))
     → (more : List ℕ) → WaitsIn task choice after ((taken ++ node) ++ more) (length (taken ++ node))
-WaitsIn-taken task choice before after taken node step waits more =
-    let text : List ℕ = (taken ++ node) ++ more in
-    let old : WaitsIn task choice before text (length taken) =
-    subst (λ (s : List ℕ). WaitsIn task choice before s (length taken)) (sym (append_assoc taken node more)) (waits (node ++ more)) in
-    record {
-      accepted = λ end h all. old.accepted end (step.comes taken more None end h) all;
-      trailing = λ end h less. old.trailing end (step.comes taken more None end h) less;
-      stopped = λ fault end h. old.stopped fault end (step.comes taken more (Some fault) end h);
-    }
+WaitsIn-taken task choice before after taken node step waits more = search (arith, append_assoc)
 
 -- one that hasn't the value asked for is the first fault
 part_refused : (mode : Mode) (choice : Choice) (before after : List Part) (part : Part) (node : List ℕ) (at : ℕ) → before ≡ after ++ part ∷ []
     → ((taken more : List ℕ) → StopsIn part.asked mode choice part.number part.len ((taken ++ node) ++ more) (length taken) (Mismatch (length taken)) (length taken + length node))
     → HasRefused mode choice before at (length node) node (Mismatch at)
-part_refused mode choice before after part node at is wrong = record {
-  is = refl;
-  stops = λ taken more at_is.
-      let end : ℕ = length taken + length node in
-      subst (λ (ps : List Part). AllCome mode choice ps ((taken ++ node) ++ more) (length taken) (Some (Mismatch at)) end) (sym is)
-      (AllCome-last mode choice after part ((taken ++ node) ++ more) (length taken) (Some (Mismatch at)) end
-      (inl (refl, subst (λ (k : ℕ). StopsIn part.asked mode choice part.number part.len ((taken ++ node) ++ more) (length taken) (Mismatch k) end) (sym at_is) (wrong taken more))));
-}
+part_refused mode choice before after part node at is wrong = search (arith, is, AllCome-last)
 
 pub chunk_refused : (mode : Mode) (choice : Choice) (before after : List Part) (part : Part) (node : List ℕ) (at : ℕ) → before ≡ after ++ part ∷ []
     → wants choice (1024 * part.number) part.len ≡ true → choice.chunks ≡ true → part.len ≤ 1024 → length node ≡ part.len
@@ -303,6 +269,9 @@ first_of choice parts part n all last size =
       parent = λ more. let e : part_size part ≡ 64 = rw (lt-leb _ _ more) refl in size ∙ e;
     }
 
+pub first_next : (choice : Choice) (parts : List Part) {part : Part} {next : Option Part} → AreParts choice parts → next ≡ last_part parts → next ≡ Some part → First choice parts part (part_size part)
+first_next choice parts {part = part} all is found = first_of choice parts part (part_size part) all (sym is ∙ found) refl
+
 pub first_part : (choice : Choice) (parts : List Part) (part : Part) (n : ℕ) → AreParts choice parts → last_part parts ≡ Some part → next_size parts ≡ Some n → First choice parts part n
 first_part choice parts part n all last next =
     let e : Some (part_size part) ≡ Some n = sym (ap (λ (o : Option Part). option_map part_size o) last) ∙ next in
@@ -362,13 +331,6 @@ pub waits_short : (task : CheckTask) (choice : Choice) (parts : List Part) (take
 waits_short task choice parts taken more n all there next less w =
     fault_as task (taken ++ more) (Short (length taken)) (length taken + n) (waits_stop task choice parts taken more n all there next less w)
 
--- the next node has bytes
-size_some : (part : Part) → 0 < part_size part
-size_some part = elim (cases_lt 1024 part.len) [
-  | inl more ↦ let e : part_size part ≡ 64 = rw (lt-leb _ _ more) refl in omega (arith, e)
-  | inr one ↦ let e : part_size part ≡ part.len = rw (le-leb _ _ one) refl in omega (arith, e, part.some)
-]
-
 none_or : (o : Option ℕ) → ((n : ℕ) → o ≡ Some n → ⊥) → IsNone o
 none_or None h = refl
 none_or (Some n) h = absurd (h n refl)
@@ -379,7 +341,7 @@ pub accepted_done : (task : CheckTask) (choice : Choice) (parts : List Part) (ta
 accepted_done task choice parts taken all there waits accepted =
     none_or (next_size parts) (λ n next.
     let found = size_of_some (last_part parts) n next in
-    let some : length {A = ℕ} [] < n = omega (arith, found.2, size_some found.0) in
+    let some : length {A = ℕ} [] < n = grind (arith, cases_lt, lt-leb, le-leb, found.2, found.0.some) in
     let short : IsFaultAs task (taken ++ []) (Short (length taken)) = waits_short task choice parts taken [] n all there next some (waits []) in
     let bare : IsFaultAs task taken (Short (length taken)) = subst (λ (s : List ℕ). IsFaultAs task s (Short (length taken))) (append-nil taken) short in
     first_fault-not_accepted task.mode task.root taken (slice_nodes taken task.start task.len) (Short (length taken)) bare accepted)
@@ -448,8 +410,7 @@ begun_fault said task taken node fault same none stops more =
 pub refused_stop : (task : CheckTask) (choice : Choice) (parts : List Part) (at size : ℕ) (taken node : List ℕ) (fault : CheckFault) → HasRefused task.mode choice parts at size node fault
     → at ≡ length taken → ((more : List ℕ) → WaitsIn task choice parts (taken ++ more) (length taken))
     → (more : List ℕ) → IsStopAs task ((taken ++ node) ++ more) fault (length taken + size)
-refused_stop task choice parts at size taken node fault refused at_is waits more =
-    (subst (λ (s : List ℕ). WaitsIn task choice parts s (length taken)) (sym (append_assoc taken node more)) (waits (node ++ more))).stopped fault (length taken + size) (refused.stops taken more at_is)
+refused_stop task choice parts at size taken node fault refused at_is waits more = grind (arith, append_assoc)
 
 pub refused_fault : (task : CheckTask) (choice : Choice) (parts : List Part) (at size : ℕ) (taken node : List ℕ) (fault : CheckFault) → HasRefused task.mode choice parts at size node fault
     → at ≡ length taken → ((more : List ℕ) → WaitsIn task choice parts (taken ++ more) (length taken)) → (more : List ℕ) → IsFaultAs task ((taken ++ node) ++ more) fault
@@ -467,10 +428,7 @@ refused_in_fault task choice before after at used taken bytes fault refused at_i
     fault_as task ((taken ++ bytes) ++ more) fault stop.0 (w.stopped fault stop.0 stop.1)
 
 pub later_size : (at : ℕ) (o : Option ℕ) → 0 < at → (if nat_eq at 0 then Some 8 else o) ≡ o
-later_size at o some = elim (cases_Bool (nat_eq at 0)) [
-  | inl hit ↦ let e : at ≡ 0 = eqb-true at 0 hit in absurd (omega (arith, e, some))
-  | inr missed ↦ rw missed refl
-]
+later_size at o some = grind (arith, cases_Bool, eqb-true)
 
 pub none_begun : (at : ℕ) (o : Option ℕ) → IsNone (if nat_eq at 0 then Some 8 else o) → 0 < at
 none_begun zero o none = absurd (not_both none)
@@ -485,8 +443,7 @@ no_rest [] h = refl
 no_rest (x ∷ xs) h = let e : length (x ∷ xs) ≡ 0 = eqb-true (length (x ∷ xs)) 0 h in absurd (omega (arith, e))
 
 pub some_rest : (xs : List ℕ) → (length xs == 0) ≡ false → 0 < length xs
-some_rest [] h = absurd (not_both h)
-some_rest (x ∷ xs) h = omega arith
+some_rest xs h = grind (arith, eqb-true)
 
 pub done_from : (b : Bool) → not b ≡ false → b ≡ true
 done_from true h = refl
@@ -505,6 +462,10 @@ each_size (Some n) P h = h n refl
 pub node_fault : (task : CheckTask) (text : List ℕ) (at : ℕ) (fault : CheckFault) → fault ≡ Mismatch at → ((more : List ℕ) → IsFaultAs task (text ++ more) fault) → IsNodeFault task text fault
 node_fault task text at fault is faults = subst (IsNodeFault task text) (sym is) (λ more. subst (λ (f : CheckFault). IsFaultAs task (text ++ more) f) is (faults more))
 
-pub node_refused : (task : CheckTask) (text : List ℕ) (fault : CheckFault) → ((more : List ℕ) → IsFaultAs task (text ++ more) fault) → (more : List ℕ) → ¬ IsAcceptedAs task (text ++ more)
-node_refused task text fault faults more accepted =
-    first_fault-not_accepted task.mode task.root (text ++ more) (slice_nodes (text ++ more) task.start task.len) fault (faults more) accepted
+pub node_refused : (task : CheckTask) (whole : List ℕ) (fault : CheckFault) → IsNodeFault task whole fault → IsOfBytes fault → (more : List ℕ) → ¬ IsAcceptedAs task (whole ++ more)
+node_refused task whole (Short at) h own more accepted = h
+node_refused task whole (Mismatch at) h own more accepted =
+    first_fault-not_accepted task.mode task.root (whole ++ more) (slice_nodes (whole ++ more) task.start task.len) (Mismatch at) (h more) accepted
+node_refused task whole (Trailing at) h own more accepted = h
+node_refused task whole Memory h own more accepted = own
+node_refused task whole Reader h own more accepted = h

@@ -1,7 +1,6 @@
 -- What an encoding has of a subtree, at its top: a chunk, a parent and its two parts, or nothing.
-use Rattle.std.proofs.Common.{◌≡◌, ℕ, ◌+◌, ◌-◌, ◌*◌, ◌/◌, ◌<◌, ◌≤◌, None, Some, Bool, List, [], ◌∷◌, ◌++◌, length, take, drop, true, false, refl, sym, ap, subst, ◌∙◌, arith, inl, inr, length-drop}
+use Rattle.std.proofs.Common.{◌≡◌, ℕ, ◌+◌, ◌-◌, ◌*◌, ◌/◌, ◌<◌, ◌≤◌, None, Some, Bool, List, [], ◌∷◌, ◌++◌, length, take, drop, true, false, refl, sym, ap, subst, ◌∙◌, arith, length-drop}
 use Rattle.std.specs.List.{Contains}
-use Rattle.std.specs.Option.{option_map}
 use Rattle.std.proofs.lemmas.Bool.{cases_Bool}
 use Rattle.std.proofs.lemmas.List.{length-take-le}
 use Rattle.std.proofs.lemmas.List.Elements.{Contains-append_left}
@@ -84,13 +83,10 @@ module _ (mode : Mode) (choice : Choice) (text : List ℕ) (places : List (ℕ �
   all_nodes = subtree_nodes choice first n part.sides part.source
 
   chunk_same : (k : ℕ) → first ≤ k → k < first + chunk_count n → chunk_in text places k ≡ chunk_in text (placed_nodes part.at all_nodes) k
-  chunk_same k low high =
-      chunk_in-place text places k ∙ ap (option_map (λ span. take span.len (drop span.at text))) (part.chunks_are k low high)
-      ∙ sym (chunk_in-place text (placed_nodes part.at all_nodes) k)
+  chunk_same k low high = grind (arith, chunk_in-place)
 
   parent_same : (m : ℕ) → first < m → m < first + chunk_count n → parent_in text places m ≡ parent_in text (placed_nodes part.at all_nodes) m
-  parent_same m low high =
-      parent_in-place text places m ∙ ap (option_map (λ at. take 64 (drop at text))) (part.parents_are m low high) ∙ sym (parent_in-place text (placed_nodes part.at all_nodes) m)
+  parent_same m low high = grind (arith, parent_in-place)
 
   -- at a chunk
   module _ (one : n ≤ 1024) (bytes : List ℕ) (there : chunk_in text places first ≡ Some bytes) where
@@ -101,24 +97,13 @@ module _ (mode : Mode) (choice : Choice) (text : List ℕ) (places : List (ℕ �
     local = sym (chunk_same first (omega arith) some) ∙ there
 
     node : all_nodes ≡ chunk_node first n part.sides part.source ∷ []
-    node =
-        let none : all_nodes ≡ [] → ⊥ = λ gone. let bad : None ≡ Some bytes = ap (λ (xs : List TreeNode). chunk_in text (placed_nodes part.at xs) first) (sym gone) ∙ local in cc in
-        elim (cases_Bool (wants choice (1024 * first) n)) [
-          | inr skipped ↦ absurd (none (subtree_nodes-unwanted choice first n part.sides part.source skipped))
-          | inl wanted ↦
-              elim (cases_Bool choice.chunks) [
-                | inr without ↦ absurd (none (leaf_without choice first n part.sides part.source wanted one without))
-                | inl with_chunks ↦ leaf_nodes choice first n part.sides part.source wanted one with_chunks
-              ]
-        ]
+    node = grind (arith, local, cases_Bool, subtree_nodes-unwanted, leaf_without, leaf_nodes)
 
     own_good : AreGood (asked_of top value) part.sides mode text part.at (chunk_node first n part.sides part.source ∷ [])
     own_good = subst (λ (xs : List TreeNode). AreGood (asked_of top value) part.sides mode text part.at xs) node part.good
 
     bytes_are : take n (drop part.at text) ≡ bytes
-    bytes_are =
-        (same_chunk text part.at first n part.sides part.source first bytes
-        (ap (λ (xs : List TreeNode). chunk_in text (placed_nodes part.at xs) first) (sym node) ∙ local)).1
+    bytes_are = grind (arith, same_chunk, node, local)
 
     pub leaf_of : Leaf mode top value first n bytes
     leaf_of = record {
@@ -185,29 +170,17 @@ module _ (mode : Mode) (choice : Choice) (text : List ℕ) (places : List (ℕ �
     here = parent_same middle (omega (arith, some_near)) (omega (arith, counts))
 
     known_here : wants choice (1024 * first) n ≡ true → parent_in text places middle ≡ Some (take 64 (drop part.at text))
-    known_here wanted =
-        here
-        ∙ parent_in-place text (placed_nodes part.at all_nodes) middle
-        ∙ ap (option_map (λ at. take 64 (drop at text))) (parent_place-here choice first n part.sides part.source part.at middle wanted more refl)
+    known_here wanted = grind (arith, here, parent_in-place, parent_place-here, wanted)
 
     -- it has this parent where it has a chunk
     pub fork_there : (number : ℕ) (bytes : List ℕ) → first ≤ number → number < first + chunk_count n → chunk_in text places number ≡ Some bytes
         → parent_in text places middle ≡ Some (take 64 (drop part.at text))
-    fork_there number bytes low high there = elim (cases_Bool (wants choice (1024 * first) n)) [
-      | inl wanted ↦ known_here wanted
-      | inr skipped ↦
-          let bad : None ≡ Some bytes =
-          ap (λ (xs : List TreeNode). chunk_in text (placed_nodes part.at xs) number) (sym (subtree_nodes-unwanted choice first n part.sides part.source skipped))
-          ∙ sym (chunk_same number low high) ∙ there in cc
-    ]
+    fork_there number bytes low high there = grind (arith, cases_Bool, known_here, subtree_nodes-unwanted, chunk_same)
 
     -- where it has no parent
     module _ (none : parent_in text places middle ≡ None) where
       skipped : wants choice (1024 * first) n ≡ false
-      skipped = elim (cases_Bool (wants choice (1024 * first) n)) [
-        | inr other ↦ other
-        | inl wanted ↦ let bad : None ≡ Some (take 64 (drop part.at text)) = sym none ∙ known_here wanted in cc
-      ]
+      skipped = grind (arith, cases_Bool, known_here)
 
       none_here : all_nodes ≡ []
       none_here = subtree_nodes-unwanted choice first n part.sides part.source skipped
@@ -216,8 +189,7 @@ module _ (mode : Mode) (choice : Choice) (text : List ℕ) (places : List (ℕ �
       none_near = subtree_nodes-unwanted choice first (left_len n) (part.sides ++ left ∷ []) (part.source + 64) (near_unwanted choice first n part.sides part.source part.at more skipped)
 
       none_far : far_nodes ≡ []
-      none_far = subtree_nodes-unwanted choice middle (n - left_len n) (part.sides ++ right ∷ []) (part.source + 64 + subtree_size (left_len n))
-          (far_unwanted choice first n part.sides part.source part.at more skipped)
+      none_far = grind (arith, subtree_nodes-unwanted, far_unwanted, skipped)
 
       pub no_fork : NoFork part
       no_fork = record {
@@ -247,12 +219,7 @@ module _ (mode : Mode) (choice : Choice) (text : List ℕ) (places : List (ℕ �
     -- where it has one
     module _ (parent : List ℕ) (known : parent_in text places middle ≡ Some parent) where
       wanted : wants choice (1024 * first) n ≡ true
-      wanted = elim (cases_Bool (wants choice (1024 * first) n)) [
-        | inl hit ↦ hit
-        | inr skipped ↦
-            let bad : None ≡ Some parent =
-            ap (λ (xs : List TreeNode). parent_in text (placed_nodes part.at xs) middle) (sym (subtree_nodes-unwanted choice first n part.sides part.source skipped)) ∙ sym here ∙ known in cc
-      ]
+      wanted = grind (arith, cases_Bool, skipped, subtree_nodes-unwanted, here)
 
       parent_is : take 64 (drop part.at text) ≡ parent
       parent_is = let e : Some (take 64 (drop part.at text)) ≡ Some parent = sym (known_here wanted) ∙ known in cc

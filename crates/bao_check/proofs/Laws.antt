@@ -1,12 +1,11 @@
 -- The laws of accepted encodings, from what they certify and what a certificate binds.
-use Rattle.std.proofs.Common.{ℕ, List, ◌∷◌, ◌++◌, sym, subst, ◌∙◌, arith, inl, inr}
-use Rattle.std.specs.List.{AllByRecursion}
+use Rattle.std.proofs.Common.{ℕ, List, sym, ◌∙◌, arith, inl, inr}
 use Rattle.b3tree.specs.declared.mode.Mode.{Mode}
 use Rattle.bao_text.specs.Cut.{claimed}
 use Rattle.bao_text.specs.Nodes.{TreeNode}
 use Rattle.bao_check.specs.declared.fault.CheckFault.{CheckFault}
 use Rattle.bao_check.specs.declared.fault.CheckFault.TheVariants.{Short, Mismatch, Trailing, Memory, Reader}
-use Rattle.bao_check.specs.Accepted.{IsAccepted, IsGoodNode, places_of, slice_nodes}
+use Rattle.bao_check.specs.Accepted.{IsAccepted, places_of, slice_nodes}
 use Rattle.bao_check.specs.Certificate.{Certificate}
 use Rattle.bao_check.specs.Faults.{IsFirstBad, IsFirstFault}
 use Rattle.bao_check.specs.Inputs.{blob_inputs, certificate_inputs, text_inputs}
@@ -28,18 +27,11 @@ accepted_binds mode root text blob start len number bytes keyed valid_blob valid
     ]
 
 pub written_accepted : WrittenAccepted
-written_accepted mode blob keyed bound = (
-  (λ start len. slice_accepted mode blob start len keyed bound),
-  combined_accepted mode blob keyed bound,
-  outboard_accepted mode blob keyed bound,
-)
+written_accepted mode blob keyed bound = search (arith, slice_accepted, combined_accepted, outboard_accepted)
 
 -- an accepted encoding has no node that isn't good
 no_first_bad : (mode : Mode) (root text : List ℕ) (nodes : List TreeNode) (place : ℕ × TreeNode) → IsFirstBad mode root text (places_of nodes) place → IsAccepted mode root text nodes → ⊥
-no_first_bad mode root text nodes place bad accepted =
-    let P : ℕ × TreeNode → Type 0 = IsGoodNode mode root text (places_of nodes) in
-    let all : AllByRecursion P (bad.earlier ++ place ∷ bad.later) = subst (AllByRecursion P) bad.split accepted.good in
-    bad.bad (All-second P bad.earlier (place ∷ bad.later) all).0
+no_first_bad mode root text nodes place bad accepted = grind (arith, All-second)
 
 -- nor a first fault
 pub first_fault-not_accepted : (mode : Mode) (root text : List ℕ) (nodes : List TreeNode) (fault : CheckFault) → IsFirstFault mode root text nodes fault
@@ -50,3 +42,6 @@ first_fault-not_accepted mode root text nodes (Mismatch at) bad accepted = no_fi
 first_fault-not_accepted mode root text nodes (Trailing at) trailing accepted = omega (arith, trailing.2, trailing.3, accepted.ends)
 first_fault-not_accepted mode root text nodes Memory none accepted = none
 first_fault-not_accepted mode root text nodes Reader none accepted = none
+
+-- what has a fault is not accepted
+pub ruleset apart = (first_fault-not_accepted)

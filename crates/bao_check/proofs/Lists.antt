@@ -1,5 +1,5 @@
 -- Members of lists of places, and what holds of all of them.
-use Rattle.std.proofs.Common.{◌≡◌, ◌⊎◌, ℕ, zero, suc, ◌+◌, List, [], ◌∷◌, ◌++◌, refl, sym, ap, subst, ◌∙◌, arith, inl, inr, sum_by}
+use Rattle.std.proofs.Common.{◌≡◌, ◌⊎◌, ℕ, zero, suc, ◌+◌, List, [], ◌∷◌, ◌++◌, refl, sym, ap, ◌∙◌, arith, inl, inr, sum_by}
 use Rattle.std.specs.List.{AllByRecursion, Contains}
 use Rattle.std.proofs.lemmas.List.Sums.{sum_by-append}
 use Rattle.bao_text.specs.Nodes.{TreeNode, placed_nodes, size}
@@ -16,10 +16,7 @@ Contains-cons_cases xs y x (suc k, within, is) = inr (k, omega arith, is)
 
 pub All-member : {X : Type 0} (P : X → Type 0) (xs : List X) → AllByRecursion P xs → (x : X) → Contains xs x → P x
 All-member P [] all x (k, within, is) = absurd (omega arith)
-All-member P (y ∷ xs) all x h = elim (Contains-cons_cases xs y x h) [
-  | inl same ↦ subst P (sym same) all.0
-  | inr rest ↦ All-member P xs all.1 x rest
-]
+All-member P (y ∷ xs) all x h = grind (arith, Contains-cons_cases, All-member P xs all.1 x)
 
 pub All-from_members : {X : Type 0} (P : X → Type 0) (xs : List X) → ((x : X) → Contains xs x → P x) → AllByRecursion P xs
 All-from_members P [] each = tt
@@ -46,6 +43,4 @@ nodes_size-cons node nodes = sum_by-append size (node ∷ []) nodes ∙ omega ar
 
 pub placed_nodes-append : (at : ℕ) (xs ys : List TreeNode) → placed_nodes at (xs ++ ys) ≡ placed_nodes at xs ++ placed_nodes (at + nodes_size xs) ys
 placed_nodes-append at [] ys = let e : at ≡ at + 0 = omega arith in ap (λ (k : ℕ). placed_nodes k ys) e
-placed_nodes-append at (x ∷ xs) ys =
-    let e : at + size x + nodes_size xs ≡ at + nodes_size (x ∷ xs) = omega (arith, nodes_size-cons x xs) in
-    ap (λ (ps : List (ℕ × TreeNode)). (at, x) ∷ ps) (placed_nodes-append (at + size x) xs ys ∙ ap (λ (k : ℕ). placed_nodes (at + size x) xs ++ placed_nodes k ys) e)
+placed_nodes-append at (x ∷ xs) ys = grind (arith, nodes_size-cons, placed_nodes-append (at + size x) xs ys)

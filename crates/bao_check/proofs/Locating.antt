@@ -1,18 +1,19 @@
 -- Where the nodes of a subtree have a chunk, and how many bytes they are.
-use Rattle.std.proofs.Common.{◌≡◌, ◌≢◌, ℕ, ◌+◌, ◌-◌, ◌*◌, ◌/◌, ◌<◌, ◌≤◌, List, [], ◌∷◌, ◌++◌, take, drop, Bool, true, false, None, Some, IfSome, refl, ap, ◌∙◌, arith, inl, inr}
+use Rattle.std.proofs.Common.{◌≡◌, ◌≢◌, ℕ, ◌+◌, ◌-◌, ◌*◌, ◌/◌, ◌<◌, ◌≤◌, List, [], ◌∷◌, ◌++◌, length, take, drop, Bool, true, false, None, Some, IfSome, refl, ap, ◌∙◌, arith}
 use Rattle.std.specs.List.{AllByRecursion}
 use Rattle.std.specs.Option.{option_map}
-use Rattle.std.specs.Prelude.{◌&&◌, ◌==◌}
+use Rattle.std.specs.Prelude.{◌&&◌}
 use Rattle.std.proofs.lemmas.Bool.{cases_Bool}
 use Rattle.std.proofs.lemmas.Bool.Decides.{eqb_tells}
 use Rattle.b3tree.specs.Tree.{left_len}
+use Rattle.b3tree.specs.declared.mode.Mode.{Mode}
 use Rattle.bao_text.specs.declared.choice.Choice.{Choice}
 use Rattle.bao_text.specs.Choice.{chunk_count, wants}
 use Rattle.bao_text.specs.NodeNames.{boundary}
 use Rattle.bao_text.specs.Nodes.{TreeNode, Side, left, placed_nodes, right, size, subtree_nodes, subtree_size}
 use Rattle.bao_text.proofs.SubtreeNodes.{subtree_nodes-unwanted}
 use Rattle.bao_text.proofs.SubtreeText.{Parts, left_len-Parts}
-use Rattle.bao_check.specs.Accepted.{end_of}
+use Rattle.bao_check.specs.Accepted.{IsAccepted, IsGoodNode, end_of, places_of}
 use Rattle.bao_check.specs.Pieces.{chunk_in}
 use Rattle.bao_check.specs.Spans.{chunk_place}
 use Rattle.bao_check.proofs.Lists.{All-from_members, All-member, nodes_size}
@@ -22,6 +23,9 @@ use Rattle.bao_check.proofs.EachNode.{each_node, leaf_nodes, leaf_without}
 -- the chunks of the two parts
 pub count_left : (n : ℕ) → 1024 < n → chunk_count (left_len n) ≡ left_len n / 1024
 count_left n more = let parts : Parts n (left_len n) = left_len-Parts n more in omega (arith, parts.whole, parts.some)
+
+pub left_whole : (n : ℕ) → 1024 < n → 1024 * (left_len n / 1024) ≡ left_len n
+left_whole n more = let parts : Parts n (left_len n) = left_len-Parts n more in parts.whole
 
 pub count_parts : (n : ℕ) → 1024 < n → chunk_count n ≡ left_len n / 1024 + chunk_count (n - left_len n)
 count_parts n more = let parts : Parts n (left_len n) = left_len-Parts n more in omega (arith, parts.whole, parts.some, parts.below)
@@ -56,40 +60,21 @@ boundaries_inside choice number n sides source =
     let nodes : List TreeNode = subtree_nodes choice number n sides source in
     All-from_members (IsInside number (chunk_count n)) nodes (λ x h. (All-member (IsAmong number (chunk_count n)) nodes (among choice number n sides source) x h).1)
 
--- a chunk that isn't among the places
-not_same : (a b : ℕ) → a ≢ b → (a == b) ≡ false
-not_same a b differ = elim (eqb_tells a b) [
-  | inl same ↦ absurd (differ same.1)
-  | inr other ↦ other.0
-]
-
-same_is : (a : ℕ) → (a == a) ≡ true
-same_is a = elim (eqb_tells a a) [
-  | inl same ↦ same.0
-  | inr other ↦ absurd (other.1 refl)
-]
-
 pub and_false : (b : Bool) → (b && false) ≡ false
 and_false true = refl
 and_false false = refl
 
-skip_place : (place : ℕ × TreeNode) (places : List (ℕ × TreeNode)) (i : ℕ) → place.1.number ≢ i → chunk_place (place ∷ places) i ≡ chunk_place places i
-skip_place place places i differ = rw (not_same place.1.number i differ, and_false place.1.is_chunk) refl
-
 pub chunk_place-none : (places : List (ℕ × TreeNode)) (i : ℕ) → AllByRecursion (λ place. place.1.number ≢ i) places → chunk_place places i ≡ None
 chunk_place-none [] i all = refl
-chunk_place-none (place ∷ places) i all = skip_place place places i all.0 ∙ chunk_place-none places i all.1
+chunk_place-none (place ∷ places) i all = grind (arith, eqb_tells, cases_Bool, chunk_place-none places i all.1)
 
 pub chunk_place-first : (xs ys : List (ℕ × TreeNode)) (i : ℕ) → AllByRecursion (λ place. place.1.number ≢ i) ys → chunk_place (xs ++ ys) i ≡ chunk_place xs i
 chunk_place-first [] ys i all = chunk_place-none ys i all
-chunk_place-first (x ∷ xs) ys i all = elim (cases_Bool (x.1.is_chunk && (x.1.number == i))) [
-  | inl here ↦ rw here refl
-  | inr other ↦ rw other (chunk_place-first xs ys i all)
-]
+chunk_place-first (x ∷ xs) ys i all = grind (arith, cases_Bool, chunk_place-first xs ys i all)
 
 pub chunk_place-second : (xs ys : List (ℕ × TreeNode)) (i : ℕ) → AllByRecursion (λ place. place.1.number ≢ i) xs → chunk_place (xs ++ ys) i ≡ chunk_place ys i
 chunk_place-second [] ys i all = refl
-chunk_place-second (x ∷ xs) ys i all = skip_place x (xs ++ ys) i all.0 ∙ chunk_place-second xs ys i all.1
+chunk_place-second (x ∷ xs) ys i all = grind (arith, eqb_tells, cases_Bool, chunk_place-second xs ys i all.1)
 
 -- no chunk outside a subtree is among its places
 others : (choice : Choice) (number n i at source : ℕ) (sides : List Side) → ((number ≤ i) × (i < number + chunk_count n) → ⊥)
@@ -104,8 +89,7 @@ others choice number n i at source sides outside =
 
 pub chunk_place-outside : (choice : Choice) (number n : ℕ) (sides : List Side) (source at i : ℕ) → ((number ≤ i) × (i < number + chunk_count n) → ⊥)
     → chunk_place (placed_nodes at (subtree_nodes choice number n sides source)) i ≡ None
-chunk_place-outside choice number n sides source at i outside =
-    chunk_place-none (placed_nodes at (subtree_nodes choice number n sides source)) i (others choice number n i at source sides outside)
+chunk_place-outside choice number n sides source at i outside = search (arith, chunk_place-none, others)
 
 -- chunk i in a subtree of more than one chunk: in its left part, or in its right part
 module _ (choice : Choice) (number n : ℕ) (sides : List Side) (source at i : ℕ) (wanted : wants choice (1024 * number) n ≡ true) (more : 1024 < n) where
@@ -133,42 +117,28 @@ module _ (choice : Choice) (number n : ℕ) (sides : List Side) (source at i : �
 
 pub chunk_place-unwanted : (choice : Choice) (number n : ℕ) (sides : List Side) (source at i : ℕ) → wants choice (1024 * number) n ≡ false
     → chunk_place (placed_nodes at (subtree_nodes choice number n sides source)) i ≡ None
-chunk_place-unwanted choice number n sides source at i skipped =
-    ap (λ (nodes : List TreeNode). chunk_place (placed_nodes at nodes) i) (subtree_nodes-unwanted choice number n sides source skipped)
+chunk_place-unwanted choice number n sides source at i skipped = grind (arith, subtree_nodes-unwanted)
 
 pub chunk_place-leaf : (choice : Choice) (number n : ℕ) (sides : List Side) (source at : ℕ) → wants choice (1024 * number) n ≡ true → n ≤ 1024 → choice.chunks ≡ true
     → chunk_place (placed_nodes at (subtree_nodes choice number n sides source)) number ≡ Some (record { at = at; len = n })
-chunk_place-leaf choice number n sides source at wanted one there =
-    ap (λ (nodes : List TreeNode). chunk_place (placed_nodes at nodes) number) (leaf_nodes choice number n sides source wanted one there) ∙ rw (same_is number) refl
+chunk_place-leaf choice number n sides source at wanted one there = grind (arith, leaf_nodes, eqb_tells)
 
 pub chunk_place-without : (choice : Choice) (number n : ℕ) (sides : List Side) (source at i : ℕ) → wants choice (1024 * number) n ≡ true → n ≤ 1024 → choice.chunks ≡ false
     → chunk_place (placed_nodes at (subtree_nodes choice number n sides source)) i ≡ None
-chunk_place-without choice number n sides source at i wanted one gone =
-    ap (λ (nodes : List TreeNode). chunk_place (placed_nodes at nodes) i) (leaf_without choice number n sides source wanted one gone)
+chunk_place-without choice number n sides source at i wanted one gone = grind (arith, leaf_without)
 
 -- the bytes of a chunk are those at its place
 pub chunk_in-place : (text : List ℕ) (places : List (ℕ × TreeNode)) (i : ℕ) → chunk_in text places i ≡ option_map (λ span. take span.len (drop span.at text)) (chunk_place places i)
 chunk_in-place text [] i = refl
-chunk_in-place text (place ∷ places) i = elim (cases_Bool place.1.is_chunk) [
-  | inr other ↦ rw other (chunk_in-place text places i)
-  | inl chunk ↦
-      elim (cases_Bool (place.1.number == i)) [
-        | inl here ↦ rw (chunk, here) refl
-        | inr differ ↦ rw (chunk, differ) (chunk_in-place text places i)
-      ]
-]
+chunk_in-place text (place ∷ places) i = grind (arith, cases_Bool, chunk_in-place text places i, chunk_in-place text places i)
+
+-- the nodes of an accepted encoding lie within it
+pub accepted_within : {mode : Mode} {root text : List ℕ} {nodes : List TreeNode} → IsAccepted mode root text nodes → AllByRecursion (λ place. end_of place ≤ length text) (places_of nodes)
+accepted_within {mode} {root} {text} {nodes} accepted =
+    All-from_members _ (places_of nodes) (λ place there. (All-member (IsGoodNode mode root text (places_of nodes)) (places_of nodes) accepted.good place there).0)
 
 -- a chunk of an accepted encoding lies within it
 pub chunk_place-within : (size : ℕ) (places : List (ℕ × TreeNode)) (i : ℕ) → AllByRecursion (λ place. end_of place ≤ size) places
     → IfSome (chunk_place places i) (λ span. span.at + span.len ≤ size)
 chunk_place-within size [] i all = tt
-chunk_place-within size (place ∷ places) i all = elim (cases_Bool place.1.is_chunk) [
-  | inr other ↦ rw other (chunk_place-within size places i all.1)
-  | inl chunk ↦
-      elim (cases_Bool (place.1.number == i)) [
-        | inl here ↦
-            let fits : place.0 + place.1.len ≤ size = rw chunk at all.0 in
-            rw (chunk, here) fits
-        | inr differ ↦ rw (chunk, differ) (chunk_place-within size places i all.1)
-      ]
-]
+chunk_place-within size (place ∷ places) i all = grind (arith, cases_Bool, chunk_place-within size places i all.1, chunk_place-within size places i all.1)

@@ -1,5 +1,5 @@
 -- An encoding that is made of its nodes' bytes, one after another, is good where each node's bytes are what is asked of it.
-use Rattle.std.proofs.Common.{◌≡◌, ◌⊎◌, ℕ, ◌+◌, ◌-◌, ◌*◌, ◌<◌, ◌≤◌, List, [], ◌∷◌, ◌++◌, length, take, drop, true, refl, sym, ap, subst, ◌∙◌, arith, inl, inr, length-append}
+use Rattle.std.proofs.Common.{◌≡◌, ◌⊎◌, ℕ, ◌+◌, ◌*◌, ◌<◌, ◌≤◌, List, [], ◌∷◌, ◌++◌, length, take, drop, true, refl, sym, ap, subst, ◌∙◌, arith, inl, inr, length-append}
 use Rattle.std.specs.List.{flat_map}
 use Rattle.std.proofs.lemmas.Bool.{cases_Bool}
 use Rattle.std.proofs.lemmas.List.{append-nil, drop_at, length_push, take_at}
@@ -24,16 +24,10 @@ use Rattle.bao_check.proofs.Sizes.{nodes_size-parent}
 
 -- the encoding is there, and is what is taken from its place
 pub At_fits : (text : List ℕ) (at n : ℕ) (x : List ℕ) → length x ≡ n → At text at x → at + n ≤ length text
-At_fits text at n x len h =
-    let all : length text ≡ length h.before + (length x + length h.after) =
-    ap length h.whole ∙ length-append h.before (x ++ h.after) ∙ ap (λ (k : ℕ). length h.before + k) (length-append x h.after) in
-    omega (arith, h.place)
+At_fits text at n x len h = grind (arith, length-append)
 
 pub At_bytes : (text : List ℕ) (at n : ℕ) (x : List ℕ) → length x ≡ n → At text at x → take n (drop at text) ≡ x
-At_bytes text at n x len h =
-    (λ i. take n (drop at (h.whole i)))
-    ∙ ap (take n) (drop_at h.before (x ++ h.after) at h.place)
-    ∙ take_at x h.after n len
+At_bytes text at n x len h = grind (arith, drop_at, take_at)
 
 -- a node by itself
 pub one_good : (asked : Asked) (mode : Mode) (text : List ℕ) (at number n : ℕ) (sides : List Side) (source : ℕ) → at + n ≤ length text

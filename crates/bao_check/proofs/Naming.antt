@@ -29,9 +29,7 @@ same_or_named ours theirs x y our their same = elim (same_input x y) [
 -- those that are named in lists are named in larger ones
 pub Named-within : (ours theirs more others : List Input) → ((x : Input) → Contains ours x → Contains more x) → ((y : Input) → Contains theirs y → Contains others y)
     → Named ours theirs → Named more others
-Named-within ours theirs more others left right named =
-    let names : Names ours theirs named.0 named.1.0 = named.1.1 in
-    (named.0, (named.1.0, record { our = left named.0 names.our; their = right named.1.0 names.their; differ = names.differ; same = names.same }))
+Named-within ours theirs more others left right named = search arith
 
 -- the inputs before the last of a chunk
 pub earlier_there : (top : Bool) (mode : Mode) (i : ℕ) (s : List ℕ) (k : ℕ) → suc k < block_count (length s) → Contains (whole_chunk top mode i s) (chunk_input mode i s k)

@@ -58,8 +58,7 @@ Good top mode choice blob text at number n sides source =
 
 bound_none : (top : Bool) (mode : Mode) (choice : Choice) (blob s text : List ℕ) (at number n : ℕ) (sides : List Side) (source : ℕ) → subtree_nodes choice number n sides source ≡ []
     → Bound top mode blob s number text (placed_nodes at (subtree_nodes choice number n sides source))
-bound_none top mode choice blob s text at number n sides source none =
-    inl (subst (λ (nodes : List TreeNode). AreBlobs mode blob text (placed_nodes at nodes)) (sym none) tt)
+bound_none top mode choice blob s text at number n sides source none = grind arith
 
 -- a chunk alone
 bound_chunk : (top : Bool) (mode : Mode) (blob text : List ℕ) (at number n : ℕ) (sides : List Side) (source : ℕ) → top ≡ is_top sides → AreBytes blob → AreBytes text

@@ -1,5 +1,5 @@
 -- In the parents of a tree each chunk has one value.
-use Rattle.std.proofs.Common.{◌≡◌, ℕ, zero, suc, ◌+◌, ◌-◌, ◌*◌, ◌/◌, ◌<◌, ◌≤◌, List, [], ◌∷◌, ◌++◌, length, take, drop, false, if◌then◌else◌, refl, sym, ap, subst, ◌∙◌, arith, inl, inr}
+use Rattle.std.proofs.Common.{◌≡◌, ℕ, zero, suc, ◌+◌, ◌-◌, ◌*◌, ◌/◌, ◌<◌, ◌≤◌, List, [], ◌∷◌, ◌++◌, length, take, drop, false, if◌then◌else◌, refl, sym, subst, ◌∙◌, arith, inl, inr}
 use Rattle.std.specs.Prelude.{nat_le, nat_lt}
 use Rattle.std.specs.List.{Contains}
 use Rattle.std.proofs.lemmas.Bool.{cases_Bool, cases_lt, le-leb, le-ltb, lt-leb, lt-ltb}
@@ -7,7 +7,7 @@ use Rattle.std.proofs.lemmas.List.Elements.{Contains-append_cases, Contains-appe
 use Rattle.b3tree.specs.declared.mode.Mode.{Mode}
 use Rattle.b3tree.specs.Tree.{left_len}
 use Rattle.bao_text.specs.declared.choice.Choice.{Choice}
-use Rattle.bao_text.specs.Choice.{chunk_count, of_outboard, wants}
+use Rattle.bao_text.specs.Choice.{chunk_count, of_outboard}
 use Rattle.bao_text.specs.Cut.{claimed}
 use Rattle.bao_text.specs.Nodes.{TreeNode, Side, left, placed_nodes, right, subtree_nodes, subtree_size}
 use Rattle.bao_text.proofs.Halves.{far_nodes, near_nodes}
@@ -28,31 +28,19 @@ near-WantsParents choice number n more all =
     record { start = all.start; end = omega (arith, parts.below, all.end); without = all.without }
 
 pub far-WantsParents : (choice : Choice) (number n : ℕ) → 1024 < n → WantsParents choice number n → WantsParents choice (number + left_len n / 1024) (n - left_len n)
-far-WantsParents choice number n more all =
-    let parts : Parts n (left_len n) = left_len-Parts n more in
-    record { start = omega (arith, all.start); end = omega (arith, parts.below, parts.whole, all.end); without = all.without }
+far-WantsParents choice number n more all = search (arith, left_len-Parts, more)
 
 -- how many bytes they are
 pub near-size : (choice : Choice) (number n : ℕ) (sides : List Side) (source : ℕ) → 1024 < n → WantsParents choice number n
     → nodes_size (near_nodes choice number n sides source) + 64 ≡ 64 * (left_len n / 1024)
-near-size choice number n sides source more all =
-    let l : ℕ = left_len n in
-    let parts : Parts n l = left_len-Parts n more in
-    let size : nodes_size (near_nodes choice number n sides source) ≡ 64 * (chunk_count l - 1) =
-    nodes_size-without_chunks choice number l (sides ++ left ∷ []) (source + 64) all.start (omega (arith, parts.below, parts.some, all.end)) all.without in
-    omega (arith, parts.whole, parts.some)
+near-size choice number n sides source more all = grind (arith, left_len-Parts, more, nodes_size-without_chunks)
 
 -- the places of a subtree of more than one chunk: its parent's, and those of its two parts
 parent-places : (choice : Choice) (number n : ℕ) (sides : List Side) (source at : ℕ) → 1024 < n → WantsParents choice number n
     → placed_nodes at (subtree_nodes choice number n sides source)
     ≡ (at, parent_node number n sides source)
     ∷ (placed_nodes (at + 64) (near_nodes choice number n sides source) ++ placed_nodes (at + 64 * (left_len n / 1024)) (far_nodes choice number n sides source))
-parent-places choice number n sides source at more all =
-    let near : List TreeNode = near_nodes choice number n sides source in
-    let size : nodes_size near + 64 ≡ 64 * (left_len n / 1024) = near-size choice number n sides source more all in
-    let e : at + 64 + nodes_size near ≡ at + 64 * (left_len n / 1024) = omega arith in
-    placed_nodes-parent choice number n sides source at (wants_whole choice (1024 * number) n all.start (omega (arith, all.end))) more
-    ∙ ap (λ (k : ℕ). (at, parent_node number n sides source) ∷ (placed_nodes (at + 64) near ++ placed_nodes k (far_nodes choice number n sides source))) e
+parent-places choice number n sides source at more all = grind (arith, near-size, more, placed_nodes-parent, wants_whole)
 
 -- the parent at the top has a chunk's value on a side
 pub leaf-top : (text : List ℕ) (i : ℕ) (choice : Choice) (number n : ℕ) (sides : List Side) (source at : ℕ) (side : Side) → 1024 < n → WantsParents choice number n
@@ -72,22 +60,12 @@ leaf-among text i value own all more h = record { parent = h.parent; side = h.si
 pub leaf-near : (text : List ℕ) (i : ℕ) (value : List ℕ) (choice : Choice) (number n : ℕ) (sides : List Side) (source at : ℕ) → 1024 < n → WantsParents choice number n
     → IsLeafValue text (placed_nodes (at + 64) (near_nodes choice number n sides source)) i value
     → IsLeafValue text (placed_nodes at (subtree_nodes choice number n sides source)) i value
-leaf-near text i value choice number n sides source at more all =
-    let near : List (ℕ × TreeNode) = placed_nodes (at + 64) (near_nodes choice number n sides source) in
-    let far : List (ℕ × TreeNode) = placed_nodes (at + 64 * (left_len n / 1024)) (far_nodes choice number n sides source) in
-    leaf-among text i value near (placed_nodes at (subtree_nodes choice number n sides source)) (λ p h.
-    subst (λ (ps : List (ℕ × TreeNode)). Contains ps p) (sym (parent-places choice number n sides source at more all))
-    (Contains-tail (near ++ far) (at, parent_node number n sides source) p (Contains-append_left near far p h)))
+leaf-near text i value choice number n sides source at more all = search (arith, leaf-among, parent-places, more, Contains-tail, Contains-append_left)
 
 pub leaf-far : (text : List ℕ) (i : ℕ) (value : List ℕ) (choice : Choice) (number n : ℕ) (sides : List Side) (source at : ℕ) → 1024 < n → WantsParents choice number n
     → IsLeafValue text (placed_nodes (at + 64 * (left_len n / 1024)) (far_nodes choice number n sides source)) i value
     → IsLeafValue text (placed_nodes at (subtree_nodes choice number n sides source)) i value
-leaf-far text i value choice number n sides source at more all =
-    let near : List (ℕ × TreeNode) = placed_nodes (at + 64) (near_nodes choice number n sides source) in
-    let far : List (ℕ × TreeNode) = placed_nodes (at + 64 * (left_len n / 1024)) (far_nodes choice number n sides source) in
-    leaf-among text i value far (placed_nodes at (subtree_nodes choice number n sides source)) (λ p h.
-    subst (λ (ps : List (ℕ × TreeNode)). Contains ps p) (sym (parent-places choice number n sides source at more all))
-    (Contains-tail (near ++ far) (at, parent_node number n sides source) p (Contains-append_right near far p h)))
+leaf-far text i value choice number n sides source at more all = search (arith, leaf-among, parent-places, more, Contains-tail, Contains-append_right)
 
 -- the value of chunk i in a subtree of at most so many levels of parents
 leaf_within : ℕ → List ℕ → ℕ → ℕ → ℕ → ℕ → List ℕ
@@ -157,26 +135,16 @@ within-far levels text i number n at value more h =
       is = rw (le-ltb i (number + left_len n / 1024) h.first, lt-leb (n - left_len n) 1024 h.more) h.is;
     }
 
--- one chunk has no parents
-no_parents : (choice : Choice) (number n : ℕ) (sides : List Side) (source : ℕ) → n ≤ 1024 → choice.chunks ≡ false → subtree_nodes choice number n sides source ≡ []
-no_parents choice number n sides source one without = elim (cases_Bool (wants choice (1024 * number) n)) [
-  | inr skipped ↦ subtree_nodes-unwanted choice number n sides source skipped
-  | inl wanted ↦ leaf_without choice number n sides source wanted one without
-]
-
 -- so no place is among them
 none_there : (choice : Choice) (number n : ℕ) (sides : List Side) (source at : ℕ) (place : ℕ × TreeNode) → n ≤ 1024 → choice.chunks ≡ false
     → Contains (placed_nodes at (subtree_nodes choice number n sides source)) place → ⊥
-none_there choice number n sides source at place one without there =
-    let none : Contains [] place = subst (λ (nodes : List TreeNode). Contains (placed_nodes at nodes) place) (no_parents choice number n sides source one without) there in
-    omega (arith, none.1)
+none_there choice number n sides source at place one without there = grind (arith, cases_Bool, subtree_nodes-unwanted, leaf_without)
 
 -- a parent of the subtree has no other value for chunk i
 leaf-is : (levels : ℕ) (text : List ℕ) (i : ℕ) (choice : Choice) (number n : ℕ) (sides : List Side) (source at : ℕ) (place : ℕ × TreeNode) (side : Side) → n ≤ 1024 * levels + 1024
     → WantsParents choice number n → Contains (placed_nodes at (subtree_nodes choice number n sides source)) place → HasLeaf side place.1 i
     → IsWithin levels text i number n at (part_value side (bytes_at text place))
-leaf-is zero text i choice number n sides source at place side hn all there over =
-    absurd (none_there choice number n sides source at place (omega arith) all.without there)
+leaf-is zero text i choice number n sides source at place side hn all there over = search (arith, none_there)
 leaf-is (suc levels) text i choice number n sides source at place side hn all there over = elim (cases_lt 1024 n) [
   | inr one ↦ absurd (none_there choice number n sides source at place one all.without there)
   | inl more ↦
@@ -220,8 +188,4 @@ leaf-unique text i v w h k =
 
 -- all parents of an accepted outboard encoding are there
 pub outboard-fits : (mode : Mode) (root text : List ℕ) → IsAccepted mode root text (outboard_nodes text) → 8 + 64 * (chunk_count (claimed text) - 1) ≤ length text
-outboard-fits mode root text accepted =
-    let total : ℕ = claimed text in
-    let size : nodes_size (outboard_nodes text) ≡ 64 * (chunk_count total - 1) =
-    nodes_size-without_chunks (of_outboard total) 0 total [] 8 (omega arith) (omega arith) refl in
-    omega (arith, accepted.ends)
+outboard-fits mode root text accepted = grind (arith, nodes_size-without_chunks)

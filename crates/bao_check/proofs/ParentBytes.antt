@@ -14,20 +14,6 @@ use Rattle.bao_text.specs.Nodes.{left, right}
 abbrev four : List ℕ → ℕ → List ℕ
 four xs k = get_or xs k 0 ∷ get_or xs (k + 1) 0 ∷ get_or xs (k + 2) 0 ∷ get_or xs (k + 3) 0 ∷ []
 
-drop-four : (xs : List ℕ) (k : ℕ) → k + 4 ≤ length xs → drop k xs ≡ four xs k ++ drop (k + 4) xs
-drop-four xs k fits =
-    let a : drop k xs ≡ get_or xs k 0 ∷ drop (k + 1) xs = drop_more xs k 0 (omega arith) in
-    let b : drop (k + 1) xs ≡ get_or xs (k + 1) 0 ∷ drop (k + 1 + 1) xs = drop_more xs (k + 1) 0 (omega arith) in
-    let c : drop (k + 2) xs ≡ get_or xs (k + 2) 0 ∷ drop (k + 2 + 1) xs = drop_more xs (k + 2) 0 (omega arith) in
-    let d : drop (k + 3) xs ≡ get_or xs (k + 3) 0 ∷ drop (k + 3 + 1) xs = drop_more xs (k + 3) 0 (omega arith) in
-    let two : k + 1 + 1 ≡ k + 2 = omega arith in
-    let three : k + 2 + 1 ≡ k + 3 = omega arith in
-    let last : k + 3 + 1 ≡ k + 4 = omega arith in
-    a
-    ∙ ap (λ (ys : List ℕ). get_or xs k 0 ∷ ys) (b ∙ ap (λ (n : ℕ). get_or xs (k + 1) 0 ∷ drop n xs) two)
-    ∙ ap (λ (ys : List ℕ). get_or xs k 0 ∷ get_or xs (k + 1) 0 ∷ ys) (c ∙ ap (λ (n : ℕ). get_or xs (k + 2) 0 ∷ drop n xs) three)
-    ∙ ap (λ (ys : List ℕ). get_or xs k 0 ∷ get_or xs (k + 1) 0 ∷ get_or xs (k + 2) 0 ∷ ys) (d ∙ ap (λ (n : ℕ). get_or xs (k + 3) 0 ∷ drop n xs) last)
-
 four-AreBytes : (xs : List ℕ) (k : ℕ) → AreBytes xs → (i : ℕ) → get_or (four xs k) i 0 < 256
 four-AreBytes xs k bytes zero = bytes.at k
 four-AreBytes xs k bytes (suc zero) = bytes.at (k + 1)
@@ -45,7 +31,7 @@ words_bytes (suc n) k xs bytes fits =
     let next : 4 * k + 4 ≡ 4 * (k + 1) = omega arith in
     let more : 4 * suc n ≡ suc (suc (suc (suc (4 * n)))) = omega arith in
     let rest : bytes_of (map (word_at xs) (range_with_len (k + 1) n)) ≡ take (4 * n) (drop (4 * (k + 1)) xs) = words_bytes n (k + 1) xs bytes (omega arith) in
-    let cut : drop (4 * k) xs ≡ four xs (4 * k) ++ drop (4 * (k + 1)) xs = drop-four xs (4 * k) (omega arith) ∙ ap (λ (j : ℕ). four xs (4 * k) ++ drop j xs) next in
+    let cut : drop (4 * k) xs ≡ four xs (4 * k) ++ drop (4 * (k + 1)) xs = grind (arith, drop_more, next) in
     (λ i. word_bytes xs k bytes i ++ rest i)
     ∙ sym (ap (λ (j : ℕ). take j (four xs (4 * k) ++ drop (4 * (k + 1)) xs)) more)
     ∙ sym (ap (take (4 * suc n)) cut)

@@ -2,7 +2,6 @@
 use Rattle.std.proofs.Common.{◌≡◌, ◌≢◌, ℕ, ◌+◌, ◌-◌, ◌*◌, ◌/◌, ◌<◌, ◌≤◌, List, [], ◌∷◌, ◌++◌, take, drop, true, false, None, Some, Option, is_some, IfSome, refl, ap, ◌∙◌, arith, inl, inr}
 use Rattle.std.specs.List.{AllByRecursion}
 use Rattle.std.specs.Option.{option_map}
-use Rattle.std.specs.Prelude.{◌==◌}
 use Rattle.std.proofs.lemmas.Bool.{cases_Bool}
 use Rattle.std.proofs.lemmas.Bool.Decides.{eqb_tells}
 use Rattle.b3tree.specs.Tree.{left_len}
@@ -20,14 +19,7 @@ use Rattle.bao_check.proofs.Parts.{placed_nodes-All, placed_nodes-parent}
 
 -- a node that isn't that parent
 pub not_parent_at : (m : ℕ) (node : TreeNode) → (node.is_chunk ≡ false → boundary node ≢ m) → is_parent_at m node ≡ false
-not_parent_at m node differ = elim (cases_Bool node.is_chunk) [
-  | inl chunk ↦ rw chunk refl
-  | inr parent ↦
-      elim (eqb_tells (boundary node) m) [
-        | inl same ↦ absurd (differ parent same.1)
-        | inr other ↦ rw parent other.0
-      ]
-]
+not_parent_at m node differ = grind (arith, cases_Bool, eqb_tells)
 
 -- a subtree without it
 abbrev Lacks : ℕ → List (ℕ × TreeNode) → Type 0
@@ -51,10 +43,7 @@ parent_place-none (place ∷ places) m all = rw all.0 (parent_place-none places 
 
 parent_place-first : (xs ys : List (ℕ × TreeNode)) (m : ℕ) → Lacks m ys → parent_place (xs ++ ys) m ≡ parent_place xs m
 parent_place-first [] ys m all = parent_place-none ys m all
-parent_place-first (x ∷ xs) ys m all = elim (cases_Bool (is_parent_at m x.1)) [
-  | inl here ↦ rw here refl
-  | inr other ↦ rw other (parent_place-first xs ys m all)
-]
+parent_place-first (x ∷ xs) ys m all = grind (arith, cases_Bool, parent_place-first xs ys m all)
 
 parent_place-second : (xs ys : List (ℕ × TreeNode)) (m : ℕ) → Lacks m xs → parent_place (xs ++ ys) m ≡ parent_place ys m
 parent_place-second [] ys m all = refl
@@ -75,10 +64,7 @@ module _ (choice : Choice) (number n : ℕ) (sides : List Side) (source at m : �
 
   -- the subtree's own parent
   pub parent_place-here : number + left_len n / 1024 ≡ m → parent_place all_places m ≡ Some at
-  parent_place-here same = elim (eqb_tells (number + left_len n / 1024) m) [
-    | inl hit ↦ ap (λ (ps : List (ℕ × TreeNode)). parent_place ps m) (placed_nodes-parent choice number n sides source at wanted more) ∙ rw hit.0 refl
-    | inr other ↦ absurd (other.1 same)
-  ]
+  parent_place-here same = grind (arith, eqb_tells, placed_nodes-parent)
 
   -- one of its left part, or of its right part
   pub parent_place-near : m < number + left_len n / 1024 → parent_place all_places m ≡ parent_place (placed_nodes (at + 64) near_nodes) m
@@ -103,41 +89,26 @@ module _ (choice : Choice) (number n : ℕ) (sides : List Side) (source at m : �
 
 pub parent_place-unwanted : (choice : Choice) (number n : ℕ) (sides : List Side) (source at m : ℕ) → wants choice (1024 * number) n ≡ false
     → parent_place (placed_nodes at (subtree_nodes choice number n sides source)) m ≡ None
-parent_place-unwanted choice number n sides source at m skipped =
-    ap (λ (nodes : List TreeNode). parent_place (placed_nodes at nodes) m) (subtree_nodes-unwanted choice number n sides source skipped)
+parent_place-unwanted choice number n sides source at m skipped = grind (arith, subtree_nodes-unwanted)
 
 -- the bytes of a parent are those at its place
 pub parent_in-place : (text : List ℕ) (places : List (ℕ × TreeNode)) (m : ℕ) → parent_in text places m ≡ option_map (λ at. take 64 (drop at text)) (parent_place places m)
 parent_in-place text [] m = refl
-parent_in-place text (place ∷ places) m = elim (cases_Bool place.1.is_chunk) [
-  | inl chunk ↦ rw chunk (parent_in-place text places m)
-  | inr parent ↦
-      elim (cases_Bool (boundary place.1 == m)) [
-        | inl here ↦ rw (parent, here) refl
-        | inr other ↦ rw (parent, other) (parent_in-place text places m)
-      ]
-]
+parent_in-place text (place ∷ places) m = grind (arith, cases_Bool, parent_in-place text places m, parent_in-place text places m)
 
-some_too : (f : ℕ → List ℕ) (place : Option ℕ) → is_some (option_map f place) ≡ is_some place
+pub some_too : {X Y : Type 0} (f : X → Y) (place : Option X) → is_some (option_map f place) ≡ is_some place
 some_too f None = refl
 some_too f (Some at) = refl
 
 -- so it has bytes where it has a place
 pub parent_in-some : (text : List ℕ) (places : List (ℕ × TreeNode)) (m : ℕ) → is_some (parent_in text places m) ≡ is_some (parent_place places m)
-parent_in-some text places m =
-    ap (λ (bytes : Option (List ℕ)). is_some bytes) (parent_in-place text places m) ∙ some_too (λ at. take 64 (drop at text)) (parent_place places m)
+parent_in-some text places m = grind (arith, parent_in-place, some_too)
 
 -- a parent of an accepted encoding lies within it
 pub parent_place-within : (size : ℕ) (places : List (ℕ × TreeNode)) (m : ℕ) → AllByRecursion (λ place. end_of place ≤ size) places
     → IfSome (parent_place places m) (λ at. at + 64 ≤ size)
 parent_place-within size [] m all = tt
-parent_place-within size (place ∷ places) m all = elim (cases_Bool place.1.is_chunk) [
-  | inl chunk ↦ rw chunk (parent_place-within size places m all.1)
-  | inr parent ↦
-      elim (cases_Bool (boundary place.1 == m)) [
-        | inl here ↦
-            let fits : place.0 + 64 ≤ size = rw parent at all.0 in
-            rw (parent, here) fits
-        | inr other ↦ rw (parent, other) (parent_place-within size places m all.1)
-      ]
-]
+parent_place-within size (place ∷ places) m all = grind (arith, cases_Bool, parent_place-within size places m all.1, parent_place-within size places m all.1)
+
+-- where parents are read
+pub ruleset parents_read = (parent_in-place, parent_in-some, parent_place-within)

@@ -29,18 +29,14 @@ Extends-further sides d more h = record { tail = d ∷ h.tail; is = h.is ∙ app
 
 -- one more side
 Extends-longer : (sides : List Side) (d : Side) (more : List Side) → Extends (sides ++ d ∷ []) more → length sides < length more
-Extends-longer sides d more h =
-    let a : length more ≡ length (sides ++ d ∷ []) + length h.tail = ap length h.is ∙ length-append (sides ++ d ∷ []) h.tail in
-    omega (arith, length-append sides (d ∷ []))
+Extends-longer sides d more h = grind (arith, length-append)
 
 -- the nodes of a subtree go on from its way
 Extends-same : (sides : List Side) → Extends sides sides
 Extends-same sides = record { tail = []; is = sym (append-nil sides) }
 
 nodes-Extends : (choice : Choice) (number n : ℕ) (sides : List Side) (source : ℕ) → AllByRecursion (λ node. Extends sides node.sides) (subtree_nodes choice number n sides source)
-nodes-Extends choice = each_node choice (λ number n sides source node. Extends sides node.sides)
-    (λ number n sides source wanted one kept. Extends-same sides) (λ number n sides source wanted more parts. Extends-same sides)
-    (λ number n sides source wanted more parts x member h. Extends-further sides left x.sides h) (λ number n sides source wanted more parts x member h. Extends-further sides right x.sides h)
+nodes-Extends choice = search (arith, each_node, Extends-same, Extends-further)
 
 pub placed_nodes-All : (P : TreeNode → Type 0) (at : ℕ) (nodes : List TreeNode) → AllByRecursion P nodes → AllByRecursion (λ place. P place.1) (placed_nodes at nodes)
 placed_nodes-All P at [] all = tt
@@ -57,26 +53,15 @@ pub record IsPart (sides : List Side) (d : Side) (ps : List (ℕ × TreeNode)) (
 -- what a place of the part asks for, seen from the whole and seen from the part
 down : (asked : Asked) (sides : List Side) (d : Side) (mode : Mode) (text : List ℕ) (ps own : List (ℕ × TreeNode)) (q p : ℕ × TreeNode) → IsPart sides d ps q own
     → IsAskedIn asked sides mode text ps p → IsAskedIn (below d (bytes_at text q)) (sides ++ d ∷ []) mode text own p
-down asked sides d mode text ps own q p part h = (
-  λ top. h.1 q d part.parent_there (top ∙ ap (λ (s : List Side). s ++ d ∷ []) (sym part.parent_sides)),
-  λ above side there. h.1 above side (part.own_there above there),
-)
+down asked sides d mode text ps own q p part h = grind (arith)
 
 -- the node below a parent is the top of one of its parts
 only_below : (sides : List Side) (d side : Side) (more : List Side) → Extends (sides ++ d ∷ []) more → more ≡ sides ++ side ∷ [] → d ≡ side
-only_below sides d side more h is =
-    let same : (d ∷ []) ++ h.tail ≡ side ∷ [] = append_cancel_left sides ((d ∷ []) ++ h.tail) (side ∷ []) (sym (append_assoc sides (d ∷ []) h.tail) ∙ sym h.is ∙ is) in
-    cc
+only_below sides d side more h is = grind (arith, append_cancel_left, append_assoc, is)
 
 -- no node of one part is below one of the other
 pub apart : (sides : List Side) (d e side : Side) (more upper : List Side) → Extends (sides ++ d ∷ []) more → Extends (sides ++ e ∷ []) upper → more ≡ upper ++ side ∷ [] → d ≡ e
-apart sides d e side more upper h k is =
-    let upper_is : upper ++ side ∷ [] ≡ sides ++ ((e ∷ []) ++ (k.tail ++ side ∷ [])) =
-    ap (λ (s : List Side). s ++ side ∷ []) k.is ∙ append_assoc (sides ++ e ∷ []) k.tail (side ∷ []) ∙ append_assoc sides (e ∷ []) (k.tail ++ side ∷ []) in
-    let more_is : more ≡ sides ++ ((d ∷ []) ++ h.tail) = h.is ∙ append_assoc sides (d ∷ []) h.tail in
-    let same : (d ∷ []) ++ h.tail ≡ (e ∷ []) ++ (k.tail ++ side ∷ []) =
-    append_cancel_left sides ((d ∷ []) ++ h.tail) ((e ∷ []) ++ (k.tail ++ side ∷ [])) (sym more_is ∙ is ∙ upper_is) in
-    cc
+apart sides d e side more upper h k is = grind (arith, append_assoc, append_cancel_left, is)
 
 up : (asked : Asked) (sides : List Side) (d : Side) (mode : Mode) (text : List ℕ) (ps own : List (ℕ × TreeNode)) (q p : ℕ × TreeNode) → IsPart sides d ps q own
     → Extends (sides ++ d ∷ []) p.1.sides → IsAskedIn (below d (bytes_at text q)) (sides ++ d ∷ []) mode text own p → IsAskedIn asked sides mode text ps p
@@ -180,8 +165,7 @@ module _ (asked : Asked) (sides : List Side) (d : Side) (mode : Mode) (text : Li
 -- the top is good where it is there and has the value asked for, and isn't where it hasn't
 pub top_good : (asked : Asked) (sides : List Side) (mode : Mode) (text : List ℕ) (q : ℕ × TreeNode) (near far : List (ℕ × TreeNode)) → Tree sides q near far
     → end_of q ≤ length text → Meets asked (input_at mode text q) → IsGoodIn asked sides mode text (q ∷ (near ++ far)) q
-top_good asked sides mode text q near far tree there meets =
-    (there, top_up asked sides mode text (q ∷ (near ++ far)) q tree.top (all_on sides q near far tree) meets)
+top_good asked sides mode text q near far tree there meets = search (arith, there, top_up, all_on, meets)
 
 pub top_bad : (asked : Asked) (sides : List Side) (mode : Mode) (text : List ℕ) (q : ℕ × TreeNode) (ps : List (ℕ × TreeNode)) → q.1.sides ≡ sides
     → ¬ Meets asked (input_at mode text q) → ¬ IsAskedIn asked sides mode text ps q
@@ -211,11 +195,7 @@ pub placed_nodes-parent : (choice : Choice) (number n : ℕ) (sides : List Side)
     ∷ (placed_nodes (at + 64) (subtree_nodes choice number (left_len n) (sides ++ left ∷ []) (source + 64))
     ++ placed_nodes (at + 64 + nodes_size (subtree_nodes choice number (left_len n) (sides ++ left ∷ []) (source + 64)))
     (subtree_nodes choice (number + left_len n / 1024) (n - left_len n) (sides ++ right ∷ []) (source + 64 + subtree_size (left_len n))))
-placed_nodes-parent choice number n sides source at wanted more =
-    ap (placed_nodes at) (subtree_nodes-parent choice number n sides source wanted more)
-    ∙ ap (λ (ps : List (ℕ × TreeNode)). (at, parent_node number n sides source) ∷ ps)
-    (placed_nodes-append (at + 64) (subtree_nodes choice number (left_len n) (sides ++ left ∷ []) (source + 64))
-    (subtree_nodes choice (number + left_len n / 1024) (n - left_len n) (sides ++ right ∷ []) (source + 64 + subtree_size (left_len n))))
+placed_nodes-parent choice number n sides source at wanted more = grind (arith, subtree_nodes-parent, placed_nodes-append)
 
 -- they are a tree
 pub subtree_Tree : (choice : Choice) (number n : ℕ) (sides : List Side) (source at at_far : ℕ)
@@ -263,12 +243,4 @@ pub AreGood-join : (asked : Asked) (choice : Choice) (mode : Mode) (text : List 
     → PartsGood asked sides mode text at (subtree_nodes choice number (left_len n) (sides ++ left ∷ []) (source + 64))
     (subtree_nodes choice (number + left_len n / 1024) (n - left_len n) (sides ++ right ∷ []) (source + 64 + subtree_size (left_len n)))
     → AreGood asked sides mode text at (subtree_nodes choice number n sides source)
-AreGood-join asked choice mode text at number n sides source wanted more parts =
-    let q : ℕ × TreeNode = (at, parent_node number n sides source) in
-    let near_nodes : List TreeNode = subtree_nodes choice number (left_len n) (sides ++ left ∷ []) (source + 64) in
-    let far_nodes : List TreeNode = subtree_nodes choice (number + left_len n / 1024) (n - left_len n) (sides ++ right ∷ []) (source + 64 + subtree_size (left_len n)) in
-    let near : List (ℕ × TreeNode) = placed_nodes (at + 64) near_nodes in
-    let far : List (ℕ × TreeNode) = placed_nodes (at + 64 + nodes_size near_nodes) far_nodes in
-    let tree : Tree sides q near far = subtree_Tree choice number n sides source at (at + 64 + nodes_size near_nodes) in
-    subst (λ (ps : List (ℕ × TreeNode)). AllByRecursion (IsGoodIn asked sides mode text ps) ps) (sym (placed_nodes-parent choice number n sides source at wanted more))
-    (whole_good asked sides mode text q near far tree parts.there parts.meets parts.near_good parts.far_good)
+AreGood-join asked choice mode text at number n sides source wanted more parts = grind (arith, subtree_Tree, placed_nodes-parent, whole_good)

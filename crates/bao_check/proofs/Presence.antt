@@ -11,8 +11,8 @@ use Rattle.bao_check.specs.Parents.{parent_place}
 use Rattle.bao_check.specs.Spans.{chunk_place}
 use Rattle.bao_check.proofs.Lists.{nodes_size}
 use Rattle.bao_text.proofs.Halves.{by_halves}
-use Rattle.bao_check.proofs.Locating.{chunk_place-far, chunk_place-leaf, chunk_place-near, chunk_place-outside, chunk_place-unwanted, count_parts}
-use Rattle.bao_check.proofs.Parenting.{parent_place-far, parent_place-near, parent_place-unwanted}
+use Rattle.bao_check.proofs.Locating.{chunk_in-place, chunk_place-far, chunk_place-leaf, chunk_place-near, chunk_place-outside, chunk_place-unwanted, chunk_place-without, count_parts, left_whole}
+use Rattle.bao_check.proofs.Parenting.{parent_place-far, parent_place-near, parent_place-unwanted, some_too}
 
 -- some bytes of the n from `at` on are wanted
 pub record Meets (choice : Choice) (at n : ℕ) : Type 0 where
@@ -39,13 +39,7 @@ wants-from_Meets choice at n h = and_from _ _ (lt-ltb at choice.end h.before) (l
 -- a subtree that isn't wanted has no part that is
 unwanted_part : (choice : Choice) (number n part len : ℕ) → wants choice (1024 * number) n ≡ false → number ≤ part → 1024 * part + max len 1 ≤ 1024 * number + max n 1
     → wants choice (1024 * part) len ≡ false
-unwanted_part choice number n part len skipped first within = elim (cases_Bool (wants choice (1024 * part) len)) [
-  | inr lacks ↦ lacks
-  | inl wanted ↦
-      let meets : Meets choice (1024 * part) len = Meets-from_wants choice (1024 * part) len wanted in
-      let whole : wants choice (1024 * number) n ≡ true = wants-from_Meets choice (1024 * number) n (record { before = omega (arith, meets.before); after = omega (arith, meets.after) }) in
-      let bad : false ≡ true = sym skipped ∙ whole in cc
-]
+unwanted_part choice number n part len skipped first within = grind (arith, cases_Bool, wants-from_Meets, Meets-from_wants)
 
 -- The two parts of a subtree of more than one chunk, whether it is wanted or not: what is looked for in one of them stands where that
 -- part has it.
@@ -61,42 +55,21 @@ module _ (choice : Choice) (number n : ℕ) (sides : List Side) (source at : ℕ
       unwanted_part choice number n number (left_len n) skipped (omega arith) (omega (arith, parts.some, parts.below))
 
   pub far_unwanted : wants choice (1024 * number) n ≡ false → wants choice (1024 * (number + left_len n / 1024)) (n - left_len n) ≡ false
-  far_unwanted skipped = let parts : Parts n (left_len n) = left_len-Parts n more in
-      unwanted_part choice number n (number + left_len n / 1024) (n - left_len n) skipped (omega arith) (omega (arith, parts.whole, parts.below))
+  far_unwanted skipped = grind (arith, left_len-Parts, unwanted_part)
 
   pub chunk_near : (i : ℕ) → i < number + left_len n / 1024 → chunk_place (placed_nodes at (subtree_nodes choice number n sides source)) i ≡ chunk_place (placed_nodes (at + 64) near) i
-  chunk_near i before = elim (cases_Bool (wants choice (1024 * number) n)) [
-    | inl wanted ↦ chunk_place-near choice number n sides source at i wanted more before
-    | inr skipped ↦
-        chunk_place-unwanted choice number n sides source at i skipped
-        ∙ sym (chunk_place-unwanted choice number (left_len n) (sides ++ left ∷ []) (source + 64) (at + 64) i (near_unwanted skipped))
-  ]
+  chunk_near i before = grind (arith, cases_Bool, chunk_place-near, chunk_place-unwanted, near_unwanted)
 
   pub chunk_far : (i : ℕ) → number + left_len n / 1024 ≤ i
       → chunk_place (placed_nodes at (subtree_nodes choice number n sides source)) i ≡ chunk_place (placed_nodes (at + 64 + nodes_size near) far) i
-  chunk_far i after = elim (cases_Bool (wants choice (1024 * number) n)) [
-    | inl wanted ↦ chunk_place-far choice number n sides source at i wanted more after
-    | inr skipped ↦
-        chunk_place-unwanted choice number n sides source at i skipped
-        ∙ sym (chunk_place-unwanted choice (number + left_len n / 1024) (n - left_len n) (sides ++ right ∷ []) (source + 64 + subtree_size (left_len n)) (at + 64 + nodes_size near) i (far_unwanted skipped))
-  ]
+  chunk_far i after = grind (arith, cases_Bool, chunk_place-far, chunk_place-unwanted, far_unwanted)
 
   pub parent_near : (m : ℕ) → m < number + left_len n / 1024 → parent_place (placed_nodes at (subtree_nodes choice number n sides source)) m ≡ parent_place (placed_nodes (at + 64) near) m
-  parent_near m before = elim (cases_Bool (wants choice (1024 * number) n)) [
-    | inl wanted ↦ parent_place-near choice number n sides source at m wanted more before
-    | inr skipped ↦
-        parent_place-unwanted choice number n sides source at m skipped
-        ∙ sym (parent_place-unwanted choice number (left_len n) (sides ++ left ∷ []) (source + 64) (at + 64) m (near_unwanted skipped))
-  ]
+  parent_near m before = grind (arith, cases_Bool, parent_place-near, parent_place-unwanted, near_unwanted)
 
   pub parent_far : (m : ℕ) → number + left_len n / 1024 < m
       → parent_place (placed_nodes at (subtree_nodes choice number n sides source)) m ≡ parent_place (placed_nodes (at + 64 + nodes_size near) far) m
-  parent_far m after = elim (cases_Bool (wants choice (1024 * number) n)) [
-    | inl wanted ↦ parent_place-far choice number n sides source at m wanted more after
-    | inr skipped ↦
-        parent_place-unwanted choice number n sides source at m skipped
-        ∙ sym (parent_place-unwanted choice (number + left_len n / 1024) (n - left_len n) (sides ++ right ∷ []) (source + 64 + subtree_size (left_len n)) (at + 64 + nodes_size near) m (far_unwanted skipped))
-  ]
+  parent_far m after = grind (arith, cases_Bool, parent_place-far, parent_place-unwanted, far_unwanted)
 
 -- how many bytes chunk i has, of a subtree of n bytes from chunk `number` on
 abbrev chunk_len : ℕ → ℕ → ℕ → ℕ
@@ -107,16 +80,7 @@ abbrev IsPresent : Choice → ℕ → ℕ → List Side → ℕ → ℕ → ℕ 
 IsPresent choice number n sides source at i = is_some (chunk_place (placed_nodes at (subtree_nodes choice number n sides source)) i) ≡ wants choice (1024 * i) (chunk_len number n i)
 
 present_alone : (choice : Choice) (number n : ℕ) (sides : List Side) (source at i : ℕ) → choice.chunks ≡ true → n ≤ 1024 → number ≡ i → IsPresent choice number n sides source at i
-present_alone choice number n sides source at i chunks one same =
-    let len : n ≡ chunk_len number n i = omega (arith, one, same) in
-    let asked : wants choice (1024 * number) n ≡ wants choice (1024 * i) (chunk_len number n i) = (λ j. wants choice (1024 * same j) (len j)) in
-    let there : Option Span → Bool = λ o. is_some o in
-    elim (cases_Bool (wants choice (1024 * number) n)) [
-      | inr skipped ↦ ap there (chunk_place-unwanted choice number n sides source at i skipped) ∙ sym (sym asked ∙ skipped)
-      | inl wanted ↦
-          ap (λ (k : ℕ). there (chunk_place (placed_nodes at (subtree_nodes choice number n sides source)) k)) (sym same)
-          ∙ ap there (chunk_place-leaf choice number n sides source at wanted one chunks) ∙ sym (sym asked ∙ wanted)
-    ]
+present_alone choice number n sides source at i chunks one same = grind (arith, cases_Bool, chunk_place-leaf, chunk_place-unwanted)
 
 present : (choice : Choice) → choice.chunks ≡ true → (i number n : ℕ) (sides : List Side) (source at : ℕ) → number ≤ i → i < number + chunk_count n → IsPresent choice number n sides source at i
 present choice chunks i = by_halves (λ number n sides source. (at : ℕ) → number ≤ i → i < number + chunk_count n → IsPresent choice number n sides source at i)
@@ -159,3 +123,9 @@ slice_present total start len at i =
           let inside : i < chunk_count total = omega (arith, h.1, high) in
           own inside ∙ wants-from_Meets choice (1024 * i) (chunk_len 0 total i) (record { before = omega (arith, h.1); after = omega (arith, h.0, h.1, inside) }),
     )
+
+-- where a chunk is found
+pub ruleset chunks_found = (chunk_place-outside, chunk_place-unwanted, chunk_place-leaf, chunk_place-without, chunk_near, chunk_far, left_whole)
+
+-- which chunks a piece has
+pub ruleset chunks_present = (slice_present, chunk_in-place, some_too)

@@ -1,7 +1,6 @@
 -- The parents of an encoding over a chunk are those of the parts that the chunk is in.
-use Rattle.std.proofs.Common.{◌≡◌, ℕ, ◌+◌, ◌-◌, ◌<◌, ◌≤◌, List, [], ◌∷◌, ◌++◌, true, false, ◌&&◌, not, refl, arith, inl, inr}
+use Rattle.std.proofs.Common.{◌≡◌, ℕ, ◌+◌, ◌<◌, ◌≤◌, List, [], ◌∷◌, ◌++◌, true, false, refl, arith}
 use Rattle.std.specs.List.{AllByRecursion}
-use Rattle.std.specs.Prelude.{nat_le, nat_lt}
 use Rattle.std.proofs.lemmas.Bool.{and_parts, cases_Bool, le-leb, leb-true, lt-ltb, ltb-true}
 use Rattle.bao_text.specs.declared.choice.Choice.{Choice}
 use Rattle.bao_text.specs.Choice.{chunk_count}
@@ -25,17 +24,7 @@ spanned choice = each_node choice (λ number n sides source node. IsSpanned numb
 
 -- a chunk that is none of a node's
 not_over : (number count k : ℕ) (node : TreeNode) → IsSpanned number count node → ((number ≤ k) × (k < number + count) → ⊥) → is_over k node ≡ false
-not_over number count k node spanned outside = elim (cases_Bool (is_over k node)) [
-  | inr other ↦ other
-  | inl over ↦
-      let within : (nat_le node.number k && nat_lt k (node.number + chunk_count node.len)) ≡ true = (and_parts (not node.is_chunk) _ over).1 in
-      let both = and_parts (nat_le node.number k) (nat_lt k (node.number + chunk_count node.len)) within in
-      let low : node.number ≤ k = leb-true node.number k both.0 in
-      let high : k < node.number + chunk_count node.len = ltb-true k (node.number + chunk_count node.len) both.1 in
-      let from : number ≤ node.number = spanned.0 in
-      let to : node.number + chunk_count node.len ≤ number + count = spanned.1 in
-      absurd (outside (omega (arith, low, from), omega (arith, high, to)))
-]
+not_over number count k node spanned outside = grind (arith, cases_Bool, and_parts, leb-true, ltb-true)
 
 steps_none : (text : List ℕ) (places : List (ℕ × TreeNode)) (k : ℕ) → AllByRecursion (λ place. is_over k place.1 ≡ false) places → steps_to text places k ≡ []
 steps_none text [] k all = refl
@@ -54,10 +43,7 @@ steps_outside choice text number n at k source sides outside =
 
 pub steps_to-append : (text : List ℕ) (xs ys : List (ℕ × TreeNode)) (k : ℕ) → steps_to text (xs ++ ys) k ≡ steps_to text xs k ++ steps_to text ys k
 steps_to-append text [] ys k = refl
-steps_to-append text (x ∷ xs) ys k = elim (cases_Bool (is_over k x.1)) [
-  | inl over ↦ let rest : steps_to text (xs ++ ys) k ≡ steps_to text xs k ++ steps_to text ys k = steps_to-append text xs ys k in rw (over, rest) refl
-  | inr other ↦ rw other (steps_to-append text xs ys k)
-]
+steps_to-append text (x ∷ xs) ys k = grind (arith, cases_Bool, steps_to-append text xs ys k)
 
 -- the parent over a subtree that has the chunk
 pub is_over-parent : (number n k : ℕ) (sides : List Side) (source : ℕ) → number ≤ k → k < number + chunk_count n → is_over k (parent_node number n sides source) ≡ true

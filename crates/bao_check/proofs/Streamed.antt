@@ -8,7 +8,7 @@ use Rattle.b3tree.specs.declared.mode.Mode.{Mode}
 use Rattle.b3tree.specs.Hashing.{rooted}
 use Rattle.bao_text.specs.declared.choice.Choice.{Choice}
 use Rattle.bao_text.specs.Cut.{claimed}
-use Rattle.bao_text.specs.Nodes.{TreeNode, nodes, size}
+use Rattle.bao_text.specs.Nodes.{TreeNode, nodes}
 use Rattle.bao_check.specs.declared.fault.CheckFault.{CheckFault}
 use Rattle.bao_check.specs.declared.fault.CheckFault.TheVariants.{Short, Mismatch, Trailing, Memory, Reader}
 use Rattle.bao_check.specs.declared.part.Part.{Part}
@@ -26,12 +26,8 @@ Consumes-then (Some a) None c xs ys h k = absurd h
 Consumes-then (Some a) (Some b) None xs ys h k = absurd k
 Consumes-then (Some a) (Some b) (Some c) xs ys h k = h ∙ ap (λ (s : List ℕ). xs ++ s) k ∙ sym (append_assoc xs ys c)
 
-pub Reads-then : (a b c : List ℕ) (x y z : Option (List ℕ)) → Reads a b x y → Reads b c y z → Reads a c x z
-Reads-then a b c x y z h k = record {
-  bytes = h.bytes ++ k.bytes;
-  grown = k.grown ∙ ap (λ (s : List ℕ). s ++ k.bytes) h.grown ∙ append_assoc a h.bytes k.bytes;
-  consumed = Consumes-then x y z h.bytes k.bytes h.consumed k.consumed;
-}
+pub Reads-then : {a b c : List ℕ} {x y z : Option (List ℕ)} → Reads a b x y → Reads b c y z → Reads a c x z
+Reads-then h k = search (arith, append_assoc, Consumes-then)
 
 pub Reads-nothing : (a : List ℕ) (x : Option (List ℕ)) → Reads a a x x
 Reads-nothing a None = record { bytes = []; grown = sym (append-nil a); consumed = tt }
@@ -39,14 +35,11 @@ Reads-nothing a (Some x) = record { bytes = []; grown = sym (append-nil a); cons
 
 -- the node that was read
 pub node_of : (taken new bytes slice : List ℕ) (at : ℕ) → new ≡ taken ++ bytes → slice ≡ new → at ≡ length taken → take (length slice - at) (drop at slice) ≡ bytes
-node_of taken new bytes slice at grown is at_is =
-    let all : slice ≡ taken ++ bytes = is ∙ grown in
-    let rest : drop at slice ≡ bytes = ap (drop at) all ∙ drop_at taken bytes at (sym at_is) in
-    ap (take (length slice - at)) rest ∙ take_all (length slice - at) bytes (omega (arith, ap length all, length-append taken bytes, at_is))
+node_of taken new bytes slice at grown is at_is = grind (arith, drop_at, take_all, length-append)
 
 -- what is read from nothing on is all that was read
-pub all_read : (old new : List ℕ) (before after : Option (List ℕ)) → old ≡ [] → Reads old new before after → Consumes before after new
-all_read old new before after none h = subst (Consumes before after) (sym (h.grown ∙ ap (λ (s : List ℕ). s ++ h.bytes) none)) h.consumed
+pub all_read : {old new : List ℕ} {before after : Option (List ℕ)} → old ≡ [] → Reads old new before after → Consumes before after new
+all_read {before = before} {after = after} none h = subst (Consumes before after) (sym (h.grown ∙ ap (λ (s : List ℕ). s ++ h.bytes) none)) h.consumed
 
 module _ (mode : Mode) (root : List ℕ) (start len : ℕ) where
   abbrev task : CheckTask
@@ -54,13 +47,11 @@ module _ (mode : Mode) (root : List ℕ) (start len : ℕ) where
 
   -- the node that comes next isn't
   within_node : (taken more : List ℕ) (n : ℕ) → IsStopAs task (taken ++ more) (Short (length taken)) (length taken + n) → EndsWithin mode root (taken ++ more) (slice_nodes (taken ++ more) start len)
-  within_node taken more n stop =
-      inr (stop.long, (stop.place, record { earlier = stop.bad.earlier; later = stop.bad.later; split = stop.bad.split; good = stop.bad.good; within = omega (arith, stop.is.1) }))
+  within_node taken more n stop = search (arith)
 
   cut_at : (taken more : List ℕ) (n : ℕ) (after : Option (List ℕ)) (fault : CheckFault) → IsCutShort n taken (taken ++ more) after fault
       → IsStopAs task (taken ++ more) (Short (length taken)) (length taken + n) → IsReadStop mode root start len (taken ++ more) after fault
-  cut_at taken more n after (Short at) h stop =
-      (inr (stop.long, (stop.place, stop.bad, h.0 ∙ stop.is.0, stop.is.1)), h.2)
+  cut_at taken more n after (Short at) h stop = grind arith
   cut_at taken more n after (Mismatch at) h stop = absurd h
   cut_at taken more n after (Trailing at) h stop = absurd h
   cut_at taken more n after Memory h stop = within_node taken more n stop
@@ -124,9 +115,7 @@ stream_fault mode root start len new rest all Reader is h = tt
 
 -- the bytes of a node that is there, whatever follows
 bytes_at-append : (text rest : List ℕ) (place : ℕ × TreeNode) → end_of place ≤ length text → bytes_at (text ++ rest) place ≡ bytes_at text place
-bytes_at-append text rest place there =
-    ap (take (size place.1)) (drop-append-le place.0 text rest (omega arith))
-    ∙ take-append-le (size place.1) (drop place.0 text) rest (omega (arith, length-drop place.0 text))
+bytes_at-append text rest place there = grind (arith, drop-append-le, take-append-le, length-drop)
 
 -- the nodes of an accepted encoding are good, whatever follows
 good-append : (mode : Mode) (root text rest : List ℕ) (nodes : List TreeNode) → IsAccepted mode root text nodes
@@ -165,10 +154,8 @@ none_bad mode root all places place good bad =
 pub fault-not_begun : (mode : Mode) (root : List ℕ) (start len : ℕ) (all : List ℕ) (fault : CheckFault) → IsStreamFault mode root start len all fault → IsOfBytes fault
     → BeginsAccepted mode root start len all → ⊥
 fault-not_begun mode root start len all (Short at) (inl short) own h = absurd (omega (arith, short.0, h.accepted.long, ap length h.split, length-append h.text h.rest))
-fault-not_begun mode root start len all (Short at) (inr bad) own h =
-    none_bad mode root all (places_of (slice_nodes all start len)) bad.1.0 (begun_good mode root start len all h) bad.1.1
-fault-not_begun mode root start len all (Mismatch at) bad own h =
-    none_bad mode root all (places_of (slice_nodes all start len)) bad.1.0 (begun_good mode root start len all h) bad.1.1
+fault-not_begun mode root start len all (Short at) (inr bad) own h = search (arith, none_bad, begun_good)
+fault-not_begun mode root start len all (Mismatch at) bad own h = search (arith, none_bad, begun_good)
 fault-not_begun mode root start len all (Trailing at) bad own h = bad
 fault-not_begun mode root start len all Memory bad own h = own
 fault-not_begun mode root start len all Reader bad own h = own

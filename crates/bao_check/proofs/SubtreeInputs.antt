@@ -40,10 +40,8 @@ inputs_within-parent levels top mode first s more = rw (lt-leb _ _ more) refl
 -- enough levels are as good as more
 inputs_within-levels : (f g : ℕ) (top : Bool) (mode : Mode) (first : ℕ) (s : List ℕ) → length s ≤ 1024 * f + 1024 → length s ≤ 1024 * g + 1024
     → inputs_within f top mode first s ≡ inputs_within g top mode first s
-inputs_within-levels zero g top mode first s hf hg =
-    inputs_within-chunk 0 top mode first s (omega arith) ∙ sym (inputs_within-chunk g top mode first s (omega arith))
-inputs_within-levels (suc f) zero top mode first s hf hg =
-    inputs_within-chunk (suc f) top mode first s (omega arith) ∙ sym (inputs_within-chunk 0 top mode first s (omega arith))
+inputs_within-levels zero g top mode first s hf hg = grind (arith, inputs_within-chunk)
+inputs_within-levels (suc f) zero top mode first s hf hg = grind (arith, inputs_within-chunk)
 inputs_within-levels (suc f) (suc g) top mode first s hf hg = elim (cases_lt 1024 (length s)) [
   | inr one ↦ inputs_within-chunk (suc f) top mode first s one ∙ sym (inputs_within-chunk (suc g) top mode first s one)
   | inl more ↦

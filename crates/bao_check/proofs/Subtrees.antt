@@ -36,10 +36,7 @@ module _ (asked : Asked) (mode : Mode) (choice : Choice) (number n : ℕ) (text 
   module _ (wanted : wants choice (1024 * number) n ≡ true) where
     -- a chunk
     pub pass_chunk : n ≤ 1024 → choice.chunks ≡ true → at + n ≤ length text → Meets asked (chunk_at mode number n text at) → PassesIn asked mode choice number n text at (at + n)
-    pass_chunk one kept there meets = record {
-      within = there;
-      passes = λ sides source. chunk_passes asked choice mode text at number n sides source wanted one kept there meets;
-    }
+    pass_chunk one kept there meets = search (arith, chunk_passes)
 
     pub stop_chunk : n ≤ 1024 → choice.chunks ≡ true → (fault : CheckFault) → IsTopStop asked (chunk_at mode number n text at) text at (at + n) fault
         → StopsIn asked mode choice number n text at fault (at + n)
@@ -54,8 +51,7 @@ module _ (asked : Asked) (mode : Mode) (choice : Choice) (number n : ℕ) (text 
           (is_near : asked_near ≡ below left (take 64 (drop at text))) (is_far : asked_far ≡ below right (take 64 (drop at text))) where
         near_walk : (middle : ℕ) → PassesIn asked_near mode choice number l text (at + 64) middle → (sides : List Side) (source : ℕ)
             → Passes (below left (take 64 (drop at text))) sides mode text (at + 64) middle (subtree_nodes choice number (left_len n) sides source)
-        near_walk middle near sides source =
-            subst (λ (T : Type 0). T) (λ i. Passes (is_near i) sides mode text (at + 64) middle (subtree_nodes choice number (parted i) sides source)) (near.passes sides source)
+        near_walk middle near sides source = grind arith
 
         pub both_pass : (middle end : ℕ) → PassesIn asked_near mode choice number l text (at + 64) middle
             → PassesIn asked_far mode choice (number + l / 1024) (n - l) text middle end → PassesIn asked mode choice number n text at end
@@ -70,21 +66,11 @@ module _ (asked : Asked) (mode : Mode) (choice : Choice) (number n : ℕ) (text 
         }
 
         pub near_part_stops : (fault : CheckFault) (end : ℕ) → StopsIn asked_near mode choice number l text (at + 64) fault end → StopsIn asked mode choice number n text at fault end
-        near_part_stops fault end near = λ sides source.
-            near_stops asked choice mode text at number n sides source wanted more there meets fault end
-            (subst (λ (T : Type 0). T)
-            (λ i. Stops (is_near i) (sides ++ left ∷ []) mode text (placed_nodes (at + 64) (subtree_nodes choice number (parted i) (sides ++ left ∷ []) (source + 64))) fault end)
-            (near (sides ++ left ∷ []) (source + 64)))
+        near_part_stops fault end near = grind (arith, near_stops)
 
         pub far_part_stops : (middle : ℕ) (fault : CheckFault) (end : ℕ) → PassesIn asked_near mode choice number l text (at + 64) middle
             → StopsIn asked_far mode choice (number + l / 1024) (n - l) text middle fault end → StopsIn asked mode choice number n text at fault end
-        far_part_stops middle fault end near far = λ sides source.
-            let first = near_walk middle near (sides ++ left ∷ []) (source + 64) in
-            far_stops asked choice mode text at number n sides source wanted more there meets fault end first.good
-            (subst (λ (T : Type 0). T)
-            (λ i. Stops (is_far i) (sides ++ right ∷ []) mode text
-            (placed_nodes (first.ends i) (subtree_nodes choice (number + parted i / 1024) (n - parted i) (sides ++ right ∷ []) (source + 64 + subtree_size (left_len n)))) fault end)
-            (far (sides ++ right ∷ []) (source + 64 + subtree_size (left_len n))))
+        far_part_stops middle fault end near far = grind (arith, near_walk, far_stops)
 
 -- what follows the first 8 bytes doesn't change the claimed length
 pub claimed-append : (text more : List ℕ) → 8 ≤ length text → claimed (text ++ more) ≡ claimed text
@@ -136,12 +122,3 @@ first_fault mode root text nodes (Mismatch at) end h = (h.long, (h.place, h.bad,
 first_fault mode root text nodes (Trailing at) end h = absurd h.is
 first_fault mode root text nodes Memory end h = absurd h.is
 first_fault mode root text nodes Reader end h = absurd h.is
-
--- a parent that is there and has its value has no fault
-pub bad_parent : (asked : Asked) (mode : Mode) (text : List ℕ) (at : ℕ) (fault : CheckFault) → IsTopStop asked (parent_at mode text at) text at (at + 64) fault
-    → (at + 64 ≤ length text) × Meets asked (parent_at mode text at) → ⊥
-bad_parent asked mode text at (Short k) h good = omega (arith, h.1, good.0)
-bad_parent asked mode text at (Mismatch k) h good = h.2 good.1
-bad_parent asked mode text at (Trailing k) h good = h
-bad_parent asked mode text at Memory h good = h
-bad_parent asked mode text at Reader h good = h

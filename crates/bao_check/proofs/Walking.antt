@@ -3,13 +3,12 @@ use Rattle.std.proofs.Common.{◌≡◌, ℕ, ◌+◌, ◌-◌, ◌*◌, ◌/◌
 use Rattle.std.specs.List.{Contains}
 use Rattle.std.proofs.lemmas.List.Elements.{Contains-append_left}
 use Rattle.std.proofs.lemmas.List.{append_assoc}
-use Rattle.std.proofs.lemmas.List.Sums.{sum_by-append}
 use Rattle.b3tree.specs.declared.mode.Mode.{Mode}
 use Rattle.b3tree.specs.Tree.{left_len}
 use Rattle.bao_text.specs.declared.choice.Choice.{Choice}
 use Rattle.bao_text.specs.Choice.{wants}
-use Rattle.bao_text.specs.Nodes.{TreeNode, Side, left, placed_nodes, right, size, subtree_nodes, subtree_size}
-use Rattle.bao_text.proofs.SubtreeNodes.{parent_node, subtree_nodes-parent}
+use Rattle.bao_text.specs.Nodes.{TreeNode, Side, left, placed_nodes, right, subtree_nodes, subtree_size}
+use Rattle.bao_text.proofs.SubtreeNodes.{parent_node}
 use Rattle.bao_check.specs.declared.asked.Asked.{Asked}
 use Rattle.bao_check.specs.declared.fault.CheckFault.{CheckFault}
 use Rattle.bao_check.specs.declared.fault.CheckFault.TheVariants.{Short, Mismatch, Trailing, Memory, Reader}
@@ -17,6 +16,7 @@ use Rattle.bao_check.specs.Accepted.{bytes_at, end_of, input_at}
 use Rattle.bao_check.specs.Walk.{AreGood, IsGoodIn, IsStop, IsTopStop, Meets, Passes, Stops, chunk_at, parent_at}
 use Rattle.bao_check.proofs.EachNode.{chunk_node, leaf_nodes}
 use Rattle.bao_check.proofs.Lists.{All-append, All-from_members, All-member, nodes_size, nodes_size-cons}
+use Rattle.bao_check.proofs.Sizes.{nodes_size-parts}
 use Rattle.bao_check.proofs.Parts.{AreGood-join, IsPart, Tree, below, far_part, near_part, part_bad, part_good, placed_nodes-parent, subtree_Tree, top_bad, top_good}
 
 -- a walk that ends at the first place
@@ -59,10 +59,7 @@ module _ (asked : Asked) (choice : Choice) (mode : Mode) (text : List ℕ) (at n
 
     pub chunk_stops : (fault : CheckFault) → IsTopStop asked (chunk_at mode number n text at) text at (at + n) fault
         → Stops asked sides mode text (placed_nodes at (subtree_nodes choice number n sides source)) fault (at + n)
-    chunk_stops fault h =
-        let node : TreeNode = chunk_node number n sides source in
-        subst (λ (nodes : List TreeNode). Stops asked sides mode text (placed_nodes at nodes) fault (at + n)) (sym (leaf_nodes choice number n sides source wanted one kept))
-        (top_stops asked sides mode text (at, node) [] refl fault h)
+    chunk_stops fault h = search (arith, leaf_nodes, top_stops)
 
   module _ (more : 1024 < n) where
     abbrev parent : ℕ × TreeNode
@@ -97,8 +94,7 @@ module _ (asked : Asked) (choice : Choice) (mode : Mode) (text : List ℕ) (at n
 
     whole_stops : (fault : CheckFault) (end : ℕ) → Stops asked sides mode text (parent ∷ (near ++ far)) fault end
         → Stops asked sides mode text (placed_nodes at (subtree_nodes choice number n sides source)) fault end
-    whole_stops fault end h =
-        subst (λ (ps : List (ℕ × TreeNode)). Stops asked sides mode text ps fault end) (sym (placed_nodes-parent choice number n sides source at wanted more)) h
+    whole_stops fault end h = grind (arith, placed_nodes-parent)
 
     pub parent_stops : (fault : CheckFault) → IsTopStop asked (parent_at mode text at) text at (at + 64) fault
         → Stops asked sides mode text (placed_nodes at (subtree_nodes choice number n sides source)) fault (at + 64)
@@ -165,20 +161,7 @@ module _ (asked : Asked) (choice : Choice) (mode : Mode) (text : List ℕ) (at n
 
       pub both_passes : (middle end : ℕ) → Passes (below left bytes) (sides ++ left ∷ []) mode text (at + 64) middle near_nodes
           → Passes (below right bytes) (sides ++ right ∷ []) mode text middle end far_nodes → Passes asked sides mode text at end (subtree_nodes choice number n sides source)
-      both_passes middle end first second =
-          let sum : nodes_size (subtree_nodes choice number n sides source) ≡ 64 + (nodes_size near_nodes + nodes_size far_nodes) =
-          ap nodes_size (subtree_nodes-parent choice number n sides source wanted more) ∙ nodes_size-cons (parent_node number n sides source) (near_nodes ++ far_nodes)
-          ∙ ap (λ (k : ℕ). 64 + k) (sum_by-append size near_nodes far_nodes) in
-          record {
-            ends = omega (arith, first.ends, second.ends, sum);
-            good = AreGood-join asked choice mode text at number n sides source wanted more
-                (record {
-                  there = there;
-                  meets = meets;
-                  near_good = first.good;
-                  far_good = subst (λ (k : ℕ). AreGood (below right bytes) (sides ++ right ∷ []) mode text k far_nodes) first.ends second.good;
-                });
-          }
+      both_passes middle end first second = search (arith, nodes_size-parts, AreGood-join)
 
 -- no nodes
 pub none_passes : (asked : Asked) (sides : List Side) (mode : Mode) (text : List ℕ) (at : ℕ) (nodes : List TreeNode) → nodes ≡ [] → Passes asked sides mode text at at nodes

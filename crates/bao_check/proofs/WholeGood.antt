@@ -15,7 +15,7 @@ use Rattle.b3tree.proofs.Pieces.{IsPowerOfTwo_double, length-piece, piece-append
 use Rattle.bao_text.proofs.EightChunks.{left_len-double}
 use Rattle.bao_text.specs.declared.choice.Choice.{Choice}
 use Rattle.bao_text.specs.Choice.{wants}
-use Rattle.bao_text.specs.Nodes.{TreeNode, left, right, subtree_nodes, subtree_size}
+use Rattle.bao_text.specs.Nodes.{left, right, subtree_nodes, subtree_size}
 use Rattle.bao_check.specs.declared.asked.Asked.{Asked}
 use Rattle.bao_check.specs.Accepted.{part_value}
 use Rattle.bao_check.specs.Walk.{Meets, Passes}
@@ -25,8 +25,7 @@ use Rattle.bao_check.proofs.EachNode.{leaf_without}
 use Rattle.bao_check.proofs.Walking.{both_passes, chunk_passes, none_passes}
 
 wants_whole : (kept : Bool) (choice : Choice) (number chunks : ℕ) → 0 < chunks → HasWhole kept choice number chunks → wants choice (1024 * number) (1024 * chunks) ≡ true
-wants_whole kept choice number chunks some has =
-    and_from _ _ (lt-ltb (1024 * number) choice.end (omega (arith, has.end))) (lt-ltb choice.start (1024 * number + max (1024 * chunks) 1) (omega (arith, has.start)))
+wants_whole kept choice number chunks some has = grind (arith, and_from, lt-ltb)
 
 -- the encoding of two parts and of the parent before them
 pub whole_len-double : (kept : Bool) (n : ℕ) → 0 < n → whole_len kept (n + n) ≡ 64 + (whole_len kept n + whole_len kept n)
@@ -69,15 +68,7 @@ chunk_whole mode number text size = record {
 
 -- without chunks nothing stands there, whatever the value
 pub no_chunk_whole : (mode : Mode) (number : ℕ) (value text : List ℕ) → text ≡ [] → IsWholeOf false mode number 1 value text
-no_chunk_whole mode number value text none = record {
-  size = ap length none;
-  passes = λ choice all at sides from has here.
-      let asked : Asked = record { top = false; value = record { 0 = value } } in
-      let nodes : List TreeNode = subtree_nodes choice number 1024 sides from in
-      let same : at ≡ at + length text = omega (arith, ap length none) in
-      subst (λ (k : ℕ). Passes asked sides mode all at k nodes) same
-      (none_passes asked sides mode all at nodes (leaf_without choice number 1024 sides from (wants_whole false choice number 1 (omega arith) has) (omega arith) has.with_chunks));
-}
+no_chunk_whole mode number value text none = search (arith, none_passes, leaf_without, wants_whole)
 
 -- two whole subtrees side by side, and the parent before them
 pub parent_whole : (kept : Bool) (mode : Mode) (number n : ℕ) (p l r lv rv : List ℕ) → IsPowerOfTwo n → length p ≡ 64
@@ -153,9 +144,7 @@ pub joined_of : (kept : Bool) (mode : Mode) (text : List ℕ) (number n at near 
     → IsWholeOf kept mode number n lv (piece text near (whole_len kept n)) → IsWholeOf kept mode next n rv (piece text far (whole_len kept n))
     → value ≡ cv (parent_input mode lv rv)
     → IsWholeOf kept mode number (n + n) value (piece text at (whole_len kept (n + n)))
-joined_of kept mode text number n at near far next lv rv value power fits is_near is_far is_next pl pr l r is =
-    of_text kept mode number (n + n) (parent_input mode lv rv) value (piece text at (whole_len kept (n + n))) is
-    (joined_whole kept mode text number n at near far next lv rv power fits is_near is_far is_next pl pr l r)
+joined_of kept mode text number n at near far next lv rv value power fits is_near is_far is_next pl pr l r is = search (arith, of_text, joined_whole)
 
 -- where the second half's first pair stands, and its second
 at_second : (s : ℕ) → 320 + s * 4 ≡ 256 + s * 4 + 64

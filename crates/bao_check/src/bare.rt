@@ -9,7 +9,7 @@ ghost use Rattle.bao_check.specs.Walk.{Meets};
 
 use crate::asked::{Asked, meets};
 use crate::fault::CheckFault;
-use crate::walk::part_values;
+use crate::walk::halves;
 use b3tree::{CHUNK_LEN, Cv, Mode, eight_values, left_len, top_input};
 use bao_text::{EIGHT_LEN, PARENT_LEN};
 
@@ -143,20 +143,12 @@ impl Bare<'_> {
             Some(eight) => Some(eight),
             None => known,
         };
-        let (left, right) = part_values(&self.outline[at..at + PARENT_LEN]);
+        let (left, right) = halves(&self.outline[at..at + PARENT_LEN]);
         let left_len = left_len(n);
-        let left_asked = Asked {
-            top: false,
-            value: left,
-        };
-        self.check_part(&left_asked, number, left_len, at + PARENT_LEN, known)?;
-        let right_asked = Asked {
-            top: false,
-            value: right,
-        };
+        self.check_part(&left, number, left_len, at + PARENT_LEN, known)?;
         let left_chunks = left_len / chunk_len;
         self.check_part(
-            &right_asked,
+            &right,
             number + left_chunks,
             n - left_len,
             at + PARENT_LEN * left_chunks as usize,

@@ -150,6 +150,7 @@ impl<'a> Checked<'a> {
 
     /// The number of the first chunk that the piece holds, and the number after the last. It holds those
     /// between, at least one.
+    #[tactic(auto, using(crate::proofs::Presence::chunks_present))]
     pub fn chunks(&self) -> (u64, u64)
         ensures some { result.0 < result.1 }
         ensures spans { (i : ℕ) → IsSome (chunk_in (piece_text self.now) (piece_places self.now) i) ↔ ((result.0 ≤ i) × (i < result.1)) }
@@ -176,6 +177,7 @@ impl<'a> Checked<'a> {
     }
 
     // The bytes of chunk `i`, where they stand.
+    #[tactic(auto, using(crate::proofs::BesidePieces::chunks_read))]
     fn bytes(&self, i: u64) -> Option<&'a [u8]>
         ensures { option_copied result ≡ chunk_in (piece_text self.now) (piece_places self.now) i }
     {

@@ -9,7 +9,7 @@ use crate::decoding::take_nodes;
 use crate::fault::CheckFault;
 use crate::waiting::{Waiting, is_chunk_next, node_size, push_wanted, take_node};
 use arrayvec::ArrayVec;
-use b3tree::{Cv, Hash, Mode, top_input};
+use b3tree::{Hash, Mode, top_input};
 use bao_text::{Choice, LENGTH_LEN, claimed};
 
 // Verifies an encoding's length, and answers what the encoding is of and the parts that come after the length. An empty
@@ -32,10 +32,7 @@ pub(crate) fn begin(
 {
     let total = claimed(header);
     let choice = Choice::of_slice(total, start, len);
-    let asked = Asked {
-        top: true,
-        value: Cv::from_bytes(&root.0),
-    };
+    let asked = Asked::of_root(root);
     let mut waiting = ArrayVec::new();
     if total > 0 {
         push_wanted(&choice, &mut waiting, &asked, 0, total);

@@ -37,6 +37,7 @@ fn check_bytes(mode: &Mode, root: &Hash, form: &Form, text: &[u8]) -> Result<(),
 /// and nothing else. Otherwise its first fault is answered: a node is read whole, then verified, before
 /// the next. 501 `Short`, 502 `Mismatch`, 503 `Trailing`. No memory is taken, so 504 never comes, and no
 /// byte is copied. A claimed length is never refused for its size. (Bao specification, on decoding.)
+#[tactic(auto, using(crate::proofs::Laws::apart))]
 pub fn check_slice<'a>(
     _alloc: Global,
     mode: &Mode,
@@ -76,6 +77,7 @@ pub fn check_combined<'a>(
 /// eight bytes alone are accepted under every root. Otherwise the first fault is answered, as by
 /// `check_slice`. No memory is taken, so 504 never comes, and no byte is copied. (Bao specification, on
 /// outboard encodings.)
+#[tactic(auto, using(crate::proofs::Laws::apart))]
 pub fn check_outboard<'a>(
     _alloc: Global,
     mode: &Mode,
@@ -118,10 +120,7 @@ fn check_chunks(
         after: first + count,
         chunks,
     };
-    let asked = Asked {
-        top: true,
-        value: Cv::from_bytes(&outline.root().0),
-    };
+    let asked = Asked::of_root(&outline.root());
     bare.check_part(&asked, 0, total, LENGTH_LEN, None)?;
     let start = CHUNK_LEN as u64 * first;
     let at = start

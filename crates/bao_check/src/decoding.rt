@@ -14,6 +14,7 @@ use bao_text::{Choice, PARENT_LEN};
 
 // Copies the chunks of a subtree, whose wanted nodes stand in `text` from place `at` on, into the room from `filled` on.
 // Answers the places after both.
+#[tactic(auto, using(crate::proofs::ChunkBytes::copied_sizes))]
 fn copy_chunks(
     choice: &Choice,
     number: u64,
@@ -101,48 +102,6 @@ fn take_first(
     Ok(Some((len, filled + len)))
 }
 
-// Does so from place `used` of the bytes on, where the values of some chunks are known.
-fn take_next(
-    choice: &Choice,
-    waiting: &mut Waiting,
-    mode: &Mode,
-    at: u64,
-    bytes: &[u8],
-    used: usize,
-    known: &mut Known,
-    room: &mut [u8],
-    filled: usize,
-) -> Result<Option<(usize, usize)>, CheckFault>
-    requires chunks { choice.now.chunks ≡ true }
-    requires parts { AreParts choice.now waiting.old.items }
-    requires within { used ≤ length bytes.now }
-    requires known { AreKnown mode.now bytes.now known.old }
-    requires room { filled + (length bytes.now - used) ≤ length room.old }
-    ensures known { AreKnown mode.now bytes.now known.new }
-    ensures parts { AreParts choice.now waiting.new.items }
-    ensures size { length room.new ≡ length room.old }
-    ensures taken { IfOk result (λ step. IfSome step (λ r. (1 ≤ r.0) × (r.0 ≤ length (drop used bytes.now)) × (filled ≤ r.1) × (r.1 ≤ filled + r.0))) }
-    ensures nodes { IfOk result (λ step. IfSome step (λ r. HasTaken mode.now choice.now waiting.old.items waiting.new.items (take r.0 (drop used bytes.now)))) }
-    ensures chunks { IfOk result (λ step. IfSome step (λ r. (part : List ℕ) × (take r.1 room.new ≡ take filled room.old ++ part)
-        × Decodes choice.now waiting.old.items waiting.new.items (take r.0 (drop used bytes.now)) part)) }
-    ensures none { IfOk result (λ step. step ≡ None → (waiting.new ≡ waiting.old) × (room.new ≡ room.old)
-        × IfSome (next_size waiting.old.items) (λ size. length (drop used bytes.now) < size)) }
-    ensures err { IfErr result (λ fault. (size : ℕ) × HasRefused mode.now choice.now waiting.old.items at size (drop used bytes.now) fault) }
-    ensures same { IsErr result → waiting.new ≡ waiting.old }
-{
-    let value = known.next_value(mode, waiting, bytes, used);
-    take_first(
-        choice,
-        waiting,
-        mode,
-        at,
-        &bytes[used..],
-        value,
-        room,
-        filled,
-    )
-}
-
 // Takes as many whole nodes as the bytes begin with, the first of them at place `at` of the encoding, and puts the chunks' bytes to
 // the front of the room. Answers how many bytes of it are filled. The place moves on by as many bytes as were taken; where a node
 // is refused, to that node.
@@ -169,12 +128,23 @@ pub(crate) fn take_nodes(
     let mut known = Known::none();
     let mut used = 0;
     let mut filled = 0;
-    'nodes: while let Some((len, free)) = take_next(
-        choice, waiting, mode, *at, bytes, used, &mut known, room, filled,
-    )? {
+    'nodes: loop {
+        let value = known.next_value(mode, waiting, bytes, used);
+        let step = take_first(
+            choice,
+            waiting,
+            mode,
+            *at,
+            &bytes[used..],
+            value,
+            room,
+            filled,
+        )?;
+        let Some((len, free)) = step else {
+            return Ok(filled);
+        };
         used += len;
         filled = free;
         *at += len as u64;
     }
-    Ok(filled)
 }

@@ -37,6 +37,7 @@ pub fn parent_binds()
 
 /// The length of a blob, and then of each node of a slice the blob's bytes there, are the slice's encoding. A law:
 /// nothing runs.
+#[tactic(auto, using(crate::proofs::BlobNodes::nodes_make_slice))]
 pub fn nodes_make_slice()
     ensures { NodesMakeSlice }
 {}

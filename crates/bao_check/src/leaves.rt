@@ -5,7 +5,7 @@ ghost use Rattle.bao_text.specs.Nodes.{Side, placed_nodes, subtree_nodes};
 ghost use Rattle.bao_check.specs.Leaves.{WantsParents};
 ghost use Rattle.bao_check.specs.Pieces.{IsLeafValue};
 
-use crate::walk::part_values;
+use crate::walk::halves;
 use b3tree::{CHUNK_LEN, Cv, left_len};
 use bao_text::PARENT_LEN;
 
@@ -25,12 +25,12 @@ pub(crate) fn leaf_below(text: &[u8], i: u64, number: u64, n: u64, at: usize) ->
     let left_chunks = left_len / CHUNK_LEN as u64;
     if i < number + left_chunks {
         if left_chunks == 1 {
-            part_values(parent).0
+            halves(parent).0.value
         } else {
             leaf_below(text, i, number, left_len, at + PARENT_LEN)
         }
     } else if n - left_len <= CHUNK_LEN as u64 {
-        part_values(parent).1
+        halves(parent).1.value
     } else {
         // After this parent come those of the left part, one fewer than it has chunks.
         leaf_below(

@@ -31,6 +31,7 @@ pub(crate) fn bytes_from(text: &[u8], at: u128, len: u64) -> &[u8]
 
 // How many bytes of an encoding the wanted nodes of the subtree over `n` bytes from chunk `number` on are. It
 // goes down only where a subtree is wanted in part, so along the two edges of the wanted positions.
+#[tactic(auto, using(crate::proofs::Sizes::sizes_told))]
 pub(crate) fn nodes_size(choice: &Choice, number: u64, n: u64) -> u128
     requires { 1024 * number + n ≤ 2 ^ 64 - 1 }
     ensures value { (sides : List Side) (from : ℕ) → result ≡ sum_by size (subtree_nodes choice.now number n sides from) }
@@ -61,6 +62,7 @@ pub(crate) fn nodes_size(choice: &Choice, number: u64, n: u64) -> u128
 }
 
 // The same, sooner told where none of them is wanted: so it is of most parts on the way to a slice.
+#[tactic(auto, using(crate::proofs::Sizes::sizes_told))]
 pub(crate) fn size_before(choice: &Choice, number: u64, n: u64) -> u128
     requires { 1024 * number + n ≤ 2 ^ 64 - 1 }
     ensures value { (sides : List Side) (from : ℕ) → result ≡ sum_by size (subtree_nodes choice.now number n sides from) }
@@ -96,6 +98,7 @@ fn chunk_of_left(choice: &Choice, number: u64, count: u64, at: u128, i: u64) -> 
 // Where chunk `i`, which isn't before chunk `number`, is in an encoding, of which the wanted nodes of the subtree over `n` bytes
 // from chunk `number` on begin at `at`. It goes down to the first parent in whose left part the chunk is, and all of that part is
 // wanted before it.
+#[tactic(auto, using(crate::proofs::Presence::chunks_found))]
 pub(crate) fn find_chunk(choice: &Choice, number: u64, n: u64, at: u128, i: u64) -> Option<Span>
     requires range { 1024 * number + n ≤ 2 ^ 64 - 1 }
     requires room { at + subtree_size n < 2 ^ 128 }

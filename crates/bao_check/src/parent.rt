@@ -45,6 +45,7 @@ fn parent_of_left(choice: &Choice, number: u64, count: u64, at: u128, m: u64) ->
 
 // Where the parent whose right part begins at chunk `m` is in an encoding, of which the wanted nodes of the subtree over `n` bytes
 // from chunk `number` on begin at `at`. It goes down as `find_chunk` does.
+#[tactic(auto, using(crate::proofs::Descents::parents_found))]
 fn find_parent(choice: &Choice, number: u64, n: u64, at: u128, m: u64) -> Option<u128>
     requires range { 1024 * number + n ≤ 2 ^ 64 - 1 }
     requires room { at + subtree_size n < 2 ^ 128 }
@@ -70,6 +71,7 @@ fn find_parent(choice: &Choice, number: u64, n: u64, at: u128, m: u64) -> Option
 }
 
 // The mask of a group's boundaries at which the wanted nodes of the subtree over `n` bytes from chunk `number` on have a parent.
+#[tactic(auto, using(crate::proofs::Descents::parents_grouped))]
 fn parents_in(choice: &Choice, number: u64, n: u64, group: u64) -> u64
     requires { 1024 * number + n ≤ 2 ^ 64 - 1 }
     ensures { (sides : List Side) (from at : ℕ) → IsBoundaryMask (placed_nodes at (subtree_nodes choice.now number n sides from)) group result }
@@ -102,6 +104,7 @@ impl<'a> Checked<'a> {
     }
 
     /// Whether the piece has a parent whose right part begins at chunk `m`: sooner told than `parent`.
+    #[tactic(auto, using(crate::proofs::Parenting::parents_read))]
     pub fn has_parent(&self, m: u64) -> bool
         ensures { result ≡ is_some (parent_in (piece_text self.now) (piece_places self.now) m) }
     {
@@ -110,6 +113,7 @@ impl<'a> Checked<'a> {
 
     /// The mask of a group's boundaries at which the piece has a parent: bit i is set exactly where it has the parent whose
     /// right part begins at chunk 64 * group + i. Sooner told than by `has_parent` of each. 0 for a group past the last.
+    #[tactic(auto, using(crate::proofs::Parenting::parents_read))]
     pub fn parents_of(&self, group: u64) -> u64
         ensures { IsParentMask (piece_text self.now) (piece_places self.now) group result }
     {
@@ -119,6 +123,7 @@ impl<'a> Checked<'a> {
     /// The 64 bytes of the parent whose right part begins at chunk `m`, where they stand: the chaining
     /// values of its left and of its right part, 32 bytes each. There exactly where the piece has such a
     /// parent; no tree has two of them.
+    #[tactic(auto, using(crate::proofs::Parenting::parents_read))]
     pub fn parent(&self, m: u64) -> Option<&'a [u8]>
         ensures value { option_copied result ≡ parent_in (piece_text self.now) (piece_places self.now) m }
         ensures len { IfSome result (λ bytes. length bytes.now ≡ 64) }
@@ -152,6 +157,7 @@ impl<'a> Outline<'a> {
     }
 
     // The 64 bytes of the parent whose right part begins at chunk `m`, in the encoding itself.
+    #[tactic(auto, using(crate::proofs::Parenting::parents_read))]
     pub(crate) fn parent(&self, m: u64) -> Option<&'a [u8]>
         ensures value { option_copied result ≡ parent_in (outline_text self.now) (places_of (outboard_nodes (outline_text self.now))) m }
         ensures len { IfSome result (λ bytes. length bytes.now ≡ 64) }

@@ -9,7 +9,7 @@ use crate::fault::CheckFault;
 use crate::form::Form;
 use crate::locate::nodes_size;
 use crate::walk::{check_parent, check_subtree};
-use b3tree::{CHUNK_LEN, Cv, Hash, Mode, left_len};
+use b3tree::{CHUNK_LEN, Hash, Mode, left_len};
 use bao_text::{Choice, LENGTH_LEN, PARENT_LEN, claimed};
 
 /// A part of the check of an encoding: the wanted nodes of a subtree, the place at which they begin in the encoding, and
@@ -36,6 +36,7 @@ impl Subtree {
     /// The encoding is accepted where this subtree passes up to the encoding's end. Where it passes up to a place before
     /// that, something is trailing there (503), and else its first fault is the encoding's. Refused: 501 `Short` at 0
     /// exactly where the encoding ends within its length.
+    #[tactic(auto, using(crate::proofs::Laws::apart))]
     pub fn of_slice(
         mode: &Mode,
         root: &Hash,
@@ -72,10 +73,7 @@ impl Subtree {
         Ok(Subtree {
             mode: *mode,
             choice: form.choice(total),
-            asked: Asked {
-                top: true,
-                value: Cv::from_bytes(&root.0),
-            },
+            asked: Asked::of_root(root),
             number: 0,
             len: total,
             at: LENGTH_LEN,
@@ -109,7 +107,7 @@ impl Subtree {
         ensures parts { MatchResult result (λ parts. IsSplit self.now parts.0 parts.1 text.now) (StopsWith self.now text.now) }
         ensures refused { IsErr result ↔ (¬ HasGoodParent self.now text.now) }
     {
-        let (left_value, right_value) = check_parent(text, self.at, &self.mode, &self.asked)?;
+        let (left_asked, right_asked) = check_parent(text, self.at, &self.mode, &self.asked)?;
         let left_at = self.at + PARENT_LEN;
         let left_len = left_len(self.len);
         let left_size = nodes_size(&self.choice, self.number, left_len);
@@ -118,10 +116,7 @@ impl Subtree {
         let left = Subtree {
             mode: self.mode,
             choice: self.choice,
-            asked: Asked {
-                top: false,
-                value: left_value,
-            },
+            asked: left_asked,
             number: self.number,
             len: left_len,
             at: left_at,
@@ -129,10 +124,7 @@ impl Subtree {
         let right = Subtree {
             mode: self.mode,
             choice: self.choice,
-            asked: Asked {
-                top: false,
-                value: right_value,
-            },
+            asked: right_asked,
             number: self.number + left_len / CHUNK_LEN as u64,
             len: self.len - left_len,
             at: right_at as usize,

@@ -51,6 +51,7 @@ fn is_zero(a: u32x8) -> bool
 }
 
 // Whether the parent in each lane, that of lane 0 from place `at` on, has these values.
+#[tactic(auto, using(crate::proofs::Differences::or_both))]
 #[inline(always)]
 fn says(text: &[u8], at: usize, step: usize, left: &[u32x8; 8], right: &[u32x8; 8]) -> bool
     requires { at + step * 7 + 320 ≤ length text.now }

@@ -6,12 +6,12 @@ ghost use Rattle.bao_check.specs.declared.part.Part.{Part};
 ghost use Rattle.bao_check.specs.Decoded.{Decodes, subtree_kinds, waiting_kinds};
 ghost use Rattle.bao_check.specs.Known.{KnowsNext};
 ghost use Rattle.bao_check.specs.Walk.{Meets};
-ghost use Rattle.bao_check.specs.Waiting.{AreParts, HasRefused, HasTaken, IsBefore, below_parent, chunk_waits, last_part, next_size, part_size};
+ghost use Rattle.bao_check.specs.Waiting.{AreParts, HasRefused, HasTaken, IsBefore, chunk_waits, last_part, next_size, part_size};
 
 use crate::asked::{Asked, meets};
 use crate::fault::CheckFault;
 use crate::part::Part;
-use crate::walk::part_values;
+use crate::walk::halves;
 use arrayvec::ArrayVec;
 use b3tree::{CHUNK_LEN, Cv, Mode, left_len, parent_input, top_input};
 use bao_text::{Choice, PARENT_LEN, WAITING_LEN};
@@ -57,6 +57,7 @@ pub(crate) fn is_chunk_next(waiting: &Waiting) -> bool
 }
 
 // Puts the subtree over `len` bytes from chunk `number` on before all that waits, if it is wanted.
+#[tactic(auto, using(crate::proofs::ChunkBytes::pushed))]
 pub(crate) fn push_wanted(
     choice: &Choice,
     waiting: &mut Waiting,
@@ -81,34 +82,27 @@ pub(crate) fn push_wanted(
     }
 }
 
-// Puts the two parts below a parent, which has these values for them, before all that waits: the left one first.
-fn push_halves(choice: &Choice, waiting: &mut Waiting, parent: &Part, left: Cv, right: Cv)
+// Puts the two parts below a parent, which asks this of them, before all that waits: the left one first.
+#[tactic(auto, using(crate::proofs::Feeding::part_parted))]
+fn push_halves(choice: &Choice, waiting: &mut Waiting, parent: &Part, left: &Asked, right: &Asked)
     requires parent { 1024 < parent.now.len }
     requires parts { AreParts choice.now (waiting.old.items ++ parent.now ∷ []) }
     ensures parts { AreParts choice.now waiting.new.items }
     ensures before { (middle : List Part)
-        × IsBefore choice.now (below_parent left) parent.now.number (left_len parent.now.len) middle waiting.new.items
-        × IsBefore choice.now (below_parent right) (parent.now.number + left_len parent.now.len / 1024) (parent.now.len - left_len parent.now.len) waiting.old.items middle }
+        × IsBefore choice.now left.now parent.now.number (left_len parent.now.len) middle waiting.new.items
+        × IsBefore choice.now right.now (parent.now.number + left_len parent.now.len / 1024) (parent.now.len - left_len parent.now.len) waiting.old.items middle }
     ensures kinds { waiting_kinds choice.now waiting.new.items ≡ (subtree_kinds choice.now parent.now.number (left_len parent.now.len)
         ++ subtree_kinds choice.now (parent.now.number + left_len parent.now.len / 1024) (parent.now.len - left_len parent.now.len)) ++ waiting_kinds choice.now waiting.old.items }
 {
     let left_len = left_len(parent.len);
-    let left_asked = Asked {
-        top: false,
-        value: left,
-    };
-    let right_asked = Asked {
-        top: false,
-        value: right,
-    };
     push_wanted(
         choice,
         waiting,
-        &right_asked,
+        right,
         parent.number + left_len / CHUNK_LEN as u64,
         parent.len - left_len,
     );
-    push_wanted(choice, waiting, &left_asked, parent.number, left_len);
+    push_wanted(choice, waiting, left, parent.number, left_len);
 }
 
 // Whether the chunk with this number has the value that is asked for. Its own may be known, where it is a whole one below a parent.
@@ -158,11 +152,11 @@ pub(crate) fn take_node(
         let _taken = waiting.pop();
         return Ok(());
     }
-    let (left, right) = part_values(node);
-    if !meets(&part.asked, &parent_input(mode, &left, &right)) {
+    let (left, right) = halves(node);
+    if !meets(&part.asked, &parent_input(mode, &left.value, &right.value)) {
         return Err(CheckFault::Mismatch { at });
     }
     let _taken = waiting.pop();
-    push_halves(choice, waiting, &part, left, right);
+    push_halves(choice, waiting, &part, &left, &right);
     Ok(())
 }

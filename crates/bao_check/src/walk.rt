@@ -3,6 +3,7 @@ ghost use Rattle.bao_text.specs.Nodes.{left, right};
 ghost use Rattle.bao_check.specs.declared.fault.CheckFault.{CheckFault};
 ghost use Rattle.bao_check.specs.Accepted.{part_value};
 ghost use Rattle.bao_check.specs.Subtree.{PassesIn, StopsIn};
+ghost use Rattle.bao_check.specs.Waiting.{below_parent};
 ghost use Rattle.bao_check.specs.Whole.{HasWholeAhead};
 ghost use Rattle.bao_check.specs.Walk.{IsTopStop, Meets, chunk_at, parent_at};
 
@@ -37,36 +38,39 @@ fn check_chunk(
     }
 }
 
-// The chaining values that a parent's 64 bytes have for its left and its right part.
+// What a parent's 64 bytes ask of its left and its right part.
 #[tactic(auto, unfolding(crate::specs::Accepted::part_value))]
-pub(crate) fn part_values(parent: &[u8]) -> (Cv, Cv)
+pub(crate) fn halves(parent: &[u8]) -> (Asked, Asked)
     requires { length parent.now ≡ 64 }
-    ensures left { result.0.0 ≡ part_value left parent.now }
-    ensures right { result.1.0 ≡ part_value right parent.now }
+    ensures left { result.0 ≡ below_parent (record { 0 = part_value left parent.now }) }
+    ensures right { result.1 ≡ below_parent (record { 0 = part_value right parent.now }) }
 {
     let (left, right) = parent.split_at(CV_LEN);
-    (Cv::from_bytes(left), Cv::from_bytes(right))
+    (
+        Asked::below(Cv::from_bytes(left)),
+        Asked::below(Cv::from_bytes(right)),
+    )
 }
 
-// Verifies the parent at place `at` of the encoding, and answers the values of its left and its right part.
+// Verifies the parent at place `at` of the encoding, and answers what it asks of its left and its right part.
 pub(crate) fn check_parent(
     text: &[u8],
     at: usize,
     mode: &Mode,
     asked: &Asked,
-) -> Result<(Cv, Cv), CheckFault>
+) -> Result<(Asked, Asked), CheckFault>
     requires { at ≤ length text.now }
     ensures there { IfOk result (λ _. at + 64 ≤ length text.now) }
     ensures meets { IfOk result (λ _. Meets asked.now (parent_at mode.now text.now at)) }
-    ensures left { IfOk result (λ r. r.0.0 ≡ part_value left (take 64 (drop at text.now))) }
-    ensures right { IfOk result (λ r. r.1.0 ≡ part_value right (take 64 (drop at text.now))) }
+    ensures left { IfOk result (λ r. r.0 ≡ below_parent (record { 0 = part_value left (take 64 (drop at text.now)) })) }
+    ensures right { IfOk result (λ r. r.1 ≡ below_parent (record { 0 = part_value right (take 64 (drop at text.now)) })) }
     ensures err { IfErr result (λ fault. IsTopStop asked.now (parent_at mode.now text.now at) text.now at (at + 64) fault) }
 {
     if text.len() - at < PARENT_LEN {
         return Err(CheckFault::Short { at: at as u64 });
     }
-    let (left, right) = part_values(&text[at..at + PARENT_LEN]);
-    if meets(asked, &parent_input(mode, &left, &right)) {
+    let (left, right) = halves(&text[at..at + PARENT_LEN]);
+    if meets(asked, &parent_input(mode, &left.value, &right.value)) {
         Ok((left, right))
     } else {
         Err(CheckFault::Mismatch { at: at as u64 })
@@ -137,29 +141,13 @@ pub(crate) fn check_subtree(
     }
     let (left, right) = check_parent(text, at, mode, asked)?;
     let left_len = left_len(n);
-    let left_asked = Asked {
-        top: false,
-        value: left,
-    };
-    let middle = check_subtree(
-        text,
-        at + PARENT_LEN,
-        choice,
-        mode,
-        &left_asked,
-        number,
-        left_len,
-    )?;
-    let right_asked = Asked {
-        top: false,
-        value: right,
-    };
+    let middle = check_subtree(text, at + PARENT_LEN, choice, mode, &left, number, left_len)?;
     check_subtree(
         text,
         middle,
         choice,
         mode,
-        &right_asked,
+        &right,
         number + left_len / CHUNK_LEN as u64,
         n - left_len,
     )

@@ -9,7 +9,7 @@ ghost use Rattle.bao_check.specs.Whole.{HasEight, HasFour, HasParentAt, IsWholeA
 
 use crate::asked::{Asked, meets};
 use crate::text_lanes::{outline_lanes, text_lanes};
-use crate::walk::part_values;
+use crate::walk::halves;
 use b3tree::{CHUNK_LEN, EightParents, FourParents, Mode, Parts, lane_parents, parent_input};
 use bao_text::PARENT_LEN;
 use std::simd::u32x8;
@@ -19,8 +19,8 @@ fn has_parts(text: &[u8], at: usize, parent: &Parts) -> bool
     requires { at + 64 ≤ length text.now }
     ensures { IsTrue result → HasParentAt text.now at parent.now }
 {
-    let (left, right) = part_values(&text[at..at + PARENT_LEN]);
-    left == parent.left && right == parent.right
+    let (left, right) = halves(&text[at..at + PARENT_LEN]);
+    left.value == parent.left && right.value == parent.right
 }
 
 // Whether the encoding from place `at` on has these upper parents, of four parts of `step` bytes.

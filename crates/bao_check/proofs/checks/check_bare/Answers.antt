@@ -1,6 +1,5 @@
-use Rattle.std.proofs.Common.{◌≡◌, ℕ, ◌*◌, ◌^◌, ◌<◌, List, false, true, sym, subst, arith}
+use Rattle.std.proofs.Common.{◌≡◌, ℕ, ◌*◌, List, false, true, sym, subst, arith}
 use Rattle.std.proofs.lemmas.Result.{err_from_is_err_and}
-use Rattle.bao_text.specs.Cut.{claimed}
 use Rattle.b3tree.specs.declared.mode.Mode.{Mode}
 use Rattle.bao_check.specs.declared.outline.Outline.{Outline}
 use Rattle.bao_check.specs.Accepted.{IsAccepted, slice_nodes}
@@ -26,9 +25,7 @@ returns-in_err-check_chunks-clause-slice c =
     )
 
 pub overflow_mul-chunk_len : goal.overflow_mul-chunk_len
-overflow_mul-chunk_len c =
-    let small : claimed (outline_text c.args.outline.now) < 2 ^ 64 = claimed-small (outline_text c.args.outline.now) c.is_of_bytes.ensures in
-    omega (arith, small, c.requires.0, c.requires.1)
+overflow_mul-chunk_len c = grind (arith, claimed-small)
 
 pub beside-requires-clause-accepted : goal.beside-requires-clause-accepted
 beside-requires-clause-accepted c =

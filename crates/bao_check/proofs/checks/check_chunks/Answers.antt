@@ -1,10 +1,6 @@
-use Rattle.std.proofs.Common.{◌≡◌, ℕ, ◌+◌, ◌-◌, ◌*◌, ◌<◌, ◌≤◌, min, List, true, length, refl, ap, ◌∙◌, arith}
+use Rattle.std.proofs.Common.{rules, ◌≡◌, ℕ, ◌+◌, ◌-◌, ◌*◌, ◌<◌, ◌≤◌, min, length, refl, ap, ◌∙◌, arith}
 use Rattle.std.proofs.lemmas.Result.{err_from_is_err_and}
-use Rattle.b3tree.specs.Bytes.{words_of}
-use Rattle.bao_text.specs.Choice.{chunk_count}
 use Rattle.bao_text.specs.Cut.{claimed}
-use Rattle.bao_check.specs.declared.asked.Asked.{Asked}
-use Rattle.bao_check.specs.declared.bare.Bare.{Bare}
 use Rattle.bao_check.specs.declared.outline.Outline.{Outline}
 use Rattle.bao_check.specs.Bare.{AreGoodBare}
 use Rattle.bao_check.specs.Beside.{bare_len}
@@ -23,34 +19,24 @@ both_ways : {a b m : ℕ} → m ≤ a → a ≤ b → b ≡ m → a ≡ m
 both_ways low high same = omega arith
 
 pub check_part-requires-clause-fits : goal.check_part-requires-clause-fits
-check_part-requires-clause-fits c =
-    let text : List ℕ = outline_text c.args.outline.now in
-    let fits : 8 + 64 * (chunk_count (claimed text) - 1) ≤ length text = outboard-fits (outline_mode c.args.outline.now) (outline_root c.args.outline.now) text c.args.outline.now.accepted in
-    let total : c.claimed-total.result ≡ claimed text = c.claimed-total.ensures in
-    omega arith
+check_part-requires-clause-fits c = search (rules, arith, outboard-fits)
 
 pub returns-in_err-check_part : goal.returns-in_err-check_part
 returns-in_err-check_part c =
     let p = err_from_is_err_and c.from_residual.result c.from_residual.ensures.1 in
     let outline : Outline = c.args.outline.now in
-    let asked : Asked = record { top = true; value = c.from_bytes.result } in
-    let value_is = c.from_bytes.ensures ∙ ap (words_of 8) c.root.ensures in
-    let asked_is : asked ≡ asked_root (outline_root outline) = (λ i. record { top = true; value = record { 0 = value_is i } }) in
-    let bare : Bare = record { mode = c.mode.result; outline = outline.text; first = c.args.first; after = c.args.first + c.args.count; chunks = c.args.chunks } in
+    let asked_is = c.of_root-asked.ensures ∙ ap asked_root c.root.ensures in
     rw (p.1, p.2)
-    (walked_fault bare asked c.claimed-total.result c.args.count (outline_mode outline) (outline_root outline) c.mode.ensures asked_is c.claimed-total.ensures refl c.requires.1
+    (walked_fault _ c.of_root-asked.result c.claimed-total.result c.args.count (outline_mode outline) (outline_root outline) c.mode.ensures asked_is c.claimed-total.ensures refl c.requires.1
     c.in_err-check_part.field-0.0 c.in_err-check_part.ensures.err)
 
 pub returns-then-at-chunks : goal.returns-then-at-chunks
 returns-then-at-chunks c =
     let outline : Outline = c.args.outline.now in
-    let asked : Asked = record { top = true; value = c.from_bytes.result } in
-    let value_is = c.from_bytes.ensures ∙ ap (words_of 8) c.root.ensures in
-    let asked_is : asked ≡ asked_root (outline_root outline) = (λ i. record { top = true; value = record { 0 = value_is i } }) in
-    let bare : Bare = record { mode = c.mode.result; outline = outline.text; first = c.args.first; after = c.args.first + c.args.count; chunks = c.args.chunks } in
+    let asked_is = c.of_root-asked.ensures ∙ ap asked_root c.root.ensures in
     let total : c.claimed-total.result ≡ claimed (outline_text outline) = c.claimed-total.ensures in
     let good : AreGoodBare (outline_mode outline) (outline_root outline) (outline_text outline) c.args.first c.args.chunks.now (c.args.first + c.args.count) =
-    walked_good bare asked c.claimed-total.result c.args.count (outline_mode outline) (outline_root outline) c.mode.ensures asked_is c.claimed-total.ensures refl c.requires.1
+    walked_good _ c.of_root-asked.result c.claimed-total.result c.args.count (outline_mode outline) (outline_root outline) c.mode.ensures asked_is c.claimed-total.ensures refl c.requires.1
     c.in_ok-check_part.ensures.ok in (
       good,
       at_is c.args.first c.args.count (claimed (outline_text outline)) c.claimed-total.result c.saturating_mul.result c.saturating_add.result c.min.result total c.claimed-total.type_inv c.requires.0
@@ -61,13 +47,10 @@ returns-then-at-chunks c =
 pub returns : goal.returns
 returns c =
     let outline : Outline = c.args.outline.now in
-    let asked : Asked = record { top = true; value = c.from_bytes.result } in
-    let value_is = c.from_bytes.ensures ∙ ap (words_of 8) c.root.ensures in
-    let asked_is : asked ≡ asked_root (outline_root outline) = (λ i. record { top = true; value = record { 0 = value_is i } }) in
-    let bare : Bare = record { mode = c.mode.result; outline = outline.text; first = c.args.first; after = c.args.first + c.args.count; chunks = c.args.chunks } in
+    let asked_is = c.of_root-asked.ensures ∙ ap asked_root c.root.ensures in
     let total : c.claimed-total.result ≡ claimed (outline_text outline) = c.claimed-total.ensures in
     let good : AreGoodBare (outline_mode outline) (outline_root outline) (outline_text outline) c.args.first c.args.chunks.now (c.args.first + c.args.count) =
-    walked_good bare asked c.claimed-total.result c.args.count (outline_mode outline) (outline_root outline) c.mode.ensures asked_is c.claimed-total.ensures refl c.requires.1
+    walked_good _ c.of_root-asked.result c.claimed-total.result c.args.count (outline_mode outline) (outline_root outline) c.mode.ensures asked_is c.claimed-total.ensures refl c.requires.1
     c.in_ok-check_part.ensures.ok in
     let long : bare_len (claimed (outline_text outline)) (1024 * c.args.first) (1024 * c.args.count) ≤ length c.args.chunks.now =
     bare_long (outline_mode outline) (outline_root outline) (outline_text outline) c.args.first c.args.count c.args.chunks.now c.requires.0 c.requires.1 good in

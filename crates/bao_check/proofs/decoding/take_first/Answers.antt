@@ -1,4 +1,4 @@
-use Rattle.std.proofs.Common.{◌≡◌, ◌+◌, ◌-◌, nat_le, if◌then◌else◌, List, [], ◌∷◌, ◌++◌, ℕ, length, take, Some, refl, sym, ap, ◌∙◌, arith}
+use Rattle.std.proofs.Common.{◌≡◌, ◌+◌, ◌-◌, nat_le, if◌then◌else◌, List, [], ◌∷◌, ◌++◌, ℕ, length, take, Some, sym, ap, ◌∙◌, arith}
 use Rattle.std.proofs.lemmas.List.{length-take-le, take-take}
 use Rattle.std.proofs.lemmas.Result.{err_from_is_err_and}
 use Rattle.std.proofs.lemmas.Slice.{take-put_mid}
@@ -9,19 +9,17 @@ use Rattle.bao_check.specs.declared.part.Part.{Part}
 use Rattle.bao_check.specs.Decoded.{chunk_bytes, subtree_kinds}
 use Rattle.bao_check.specs.Waiting.{last_part, part_size}
 use Rattle.bao_check.proofs.ChunkBytes.{kinds_size-some, refused_front, same_part, some_weaker, whole_decodes, whole_size, whole_taken_from}
-use Rattle.bao_check.proofs.Feeding.{first_of, part_taken}
+use Rattle.bao_check.proofs.Feeding.{first_next, part_taken}
 use Rattle.bao_check.proofs.decoding.take_first.Goals as goal
 
 pub whole_at_hand-requires : goal.whole_at_hand-requires
 whole_at_hand-requires c =
-    let last : last_part c.args.waiting.now.items ≡ Some c.in-Some.part = sym c.next_part.ensures ∙ c.in-Some.is in
-    let first = first_of c.args.choice.now c.args.waiting.now.items c.in-Some.part (part_size c.in-Some.part) c.requires.parts last refl in
+    let first = first_next c.args.choice.now c.args.waiting.now.items c.requires.parts c.next_part.ensures c.in-Some.is in
     first.within
 
 pub copy_chunks-free-requires-clause-range : goal.copy_chunks-free-requires-clause-range
 copy_chunks-free-requires-clause-range c =
-    let last : last_part c.args.waiting.now.items ≡ Some c.in-Some.part = sym c.next_part.ensures ∙ c.in-Some.is in
-    let first = first_of c.args.choice.now c.args.waiting.now.items c.in-Some.part (part_size c.in-Some.part) c.requires.parts last refl in
+    let first = first_next c.args.choice.now c.args.waiting.now.items c.requires.parts c.next_part.ensures c.in-Some.is in
     first.within
 
 pub copy_chunks-free-requires-clause-there : goal.copy_chunks-free-requires-clause-there
@@ -38,15 +36,13 @@ copy_chunks-free-requires-clause-room c =
 
 pub returns-in-Some-whole_at_hand-clause-parts : goal.returns-in-Some-whole_at_hand-clause-parts
 returns-in-Some-whole_at_hand-clause-parts c =
-    let last : last_part c.args.waiting.now.items ≡ Some c.in-Some.part = sym c.next_part.ensures ∙ c.in-Some.is in
-    let first = first_of c.args.choice.now c.args.waiting.now.items c.in-Some.part (part_size c.in-Some.part) c.requires.parts last refl in
+    let first = first_next c.args.choice.now c.args.waiting.now.items c.requires.parts c.next_part.ensures c.in-Some.is in
     (part_taken c.args.choice.now c.args.waiting.now.items c.pop-taken.new.self.items c.in-Some.part c.requires.parts
     (first.is ∙ ap (λ (s : List Part). s ++ c.in-Some.part ∷ []) (sym c.pop-taken.ensures.rest))).waiting
 
 pub returns-in-Some-whole_at_hand-clause-taken : goal.returns-in-Some-whole_at_hand-clause-taken
 returns-in-Some-whole_at_hand-clause-taken c =
-    let last : last_part c.args.waiting.now.items ≡ Some c.in-Some.part = sym c.next_part.ensures ∙ c.in-Some.is in
-    let first = first_of c.args.choice.now c.args.waiting.now.items c.in-Some.part (part_size c.in-Some.part) c.requires.parts last refl in
+    let first = first_next c.args.choice.now c.args.waiting.now.items c.requires.parts c.next_part.ensures c.in-Some.is in
     let whole = c.in-Some-whole_at_hand.ensures in
     let size = whole_size c.in-Some.part c.args.choice.now c.args.mode.now c.in-Some-whole_at_hand.len c.args.bytes.now whole in
     let some = kinds_size-some c.args.choice.now c.in-Some.part.number c.in-Some.part.len first.wanted c.requires.chunks c.in-Some.part.some in (
@@ -57,17 +53,11 @@ returns-in-Some-whole_at_hand-clause-taken c =
     )
 
 pub returns-in-Some-whole_at_hand-clause-nodes : goal.returns-in-Some-whole_at_hand-clause-nodes
-returns-in-Some-whole_at_hand-clause-nodes c =
-    let last : last_part c.args.waiting.now.items ≡ Some c.in-Some.part = sym c.next_part.ensures ∙ c.in-Some.is in
-    let first = first_of c.args.choice.now c.args.waiting.now.items c.in-Some.part (part_size c.in-Some.part) c.requires.parts last refl in
-    let whole = c.in-Some-whole_at_hand.ensures in
-    whole_taken_from c.args.mode.now c.args.choice.now c.args.waiting.now.items c.pop-taken.new.self.items c.in-Some.part c.in-Some-whole_at_hand.len c.args.bytes.now
-    (first.is ∙ ap (λ (s : List Part). s ++ c.in-Some.part ∷ []) (sym c.pop-taken.ensures.rest)) first.wanted whole
+returns-in-Some-whole_at_hand-clause-nodes c = grind (arith, first_next, whole_taken_from)
 
 pub returns-in-Some-whole_at_hand-clause-chunks : goal.returns-in-Some-whole_at_hand-clause-chunks
 returns-in-Some-whole_at_hand-clause-chunks c =
-    let last : last_part c.args.waiting.now.items ≡ Some c.in-Some.part = sym c.next_part.ensures ∙ c.in-Some.is in
-    let first = first_of c.args.choice.now c.args.waiting.now.items c.in-Some.part (part_size c.in-Some.part) c.requires.parts last refl in
+    let first = first_next c.args.choice.now c.args.waiting.now.items c.requires.parts c.next_part.ensures c.in-Some.is in
     let whole = c.in-Some-whole_at_hand.ensures in (
       chunk_bytes (subtree_kinds c.args.choice.now c.in-Some.part.number c.in-Some.part.len) c.args.bytes.now,
       c.copy_chunks-free.ensures.bytes,

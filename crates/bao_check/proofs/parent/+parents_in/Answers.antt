@@ -1,44 +1,16 @@
 use Rattle.std.proofs.Common.{◌≡◌, ℕ, zero, suc, ◌+◌, ◌-◌, ◌*◌, ◌/◌, ◌%◌, ◌^◌, ◌<◌, ◌==◌, max, [], ◌∷◌, ◌++◌, false, Option, is_some, w64, bit_or, sym, ap, ◌∙◌, arith, inl, inr}
 use Rattle.std.specs.Int.{bit_at}
 use Rattle.std.proofs.lemmas.Bool.{cases_eq, cases_lt}
-use Rattle.std.proofs.lemmas.Nat.Bits.{bit_at-lt, bit_at-zero, bit_at_or, bit_at_set_other, bit_at_set_same}
+use Rattle.std.proofs.lemmas.Nat.Bits.{bit_at-lt, bit_at_or, bit_at_set_other, bit_at_set_same}
 use Rattle.b3tree.specs.Tree.{left_len}
 use Rattle.bao_text.specs.Nodes.{left, placed_nodes, right, subtree_nodes, subtree_size}
 use Rattle.bao_text.proofs.SubtreeText.{Parts, left_len-Parts}
 use Rattle.bao_check.specs.Parents.{parent_place}
 use Rattle.bao_check.proofs.Descents.{parent_outside}
 use Rattle.bao_check.proofs.Lists.{nodes_size}
-use Rattle.bao_check.proofs.Parenting.{parent_place-here, parent_place-unwanted}
+use Rattle.bao_check.proofs.Parenting.{parent_place-here}
 use Rattle.bao_check.proofs.Presence.{near, parent_far, parent_near}
 use Rattle.bao_check.proofs.parent.+parents_in.Goals as goal
-use Rattle.bao_check.proofs.parent.+parents_in.Goals.{then-n-via-then-n, then-n-via-else-n+then-not-wants}
-
-pub returns-then-n : goal.returns-then-n
-returns-then-n t c = λ sides from at i few.
-    ap (λ (b : ℕ). b == 1) (bit_at-zero i)
-    ∙ ap (λ (o : Option ℕ). is_some o) (elim c.then-n.branch [
-      | then-n-via-then-n w ↦ sym (parent_outside c.args.choice.now c.args.number c.args.n sides from at (64 * c.args.group + i) (λ h. omega (arith, h.0, h.1, w.if-n.true)))
-      | then-n-via-else-n+then-not-wants w ↦ sym (parent_place-unwanted c.args.choice.now c.args.number c.args.n sides from at (64 * c.args.group + i) (sym w.wants.ensures ∙ w.if-not-wants.true))
-    ])
-
-pub returns-then-middle-group : goal.returns-then-middle-group
-returns-then-middle-group t c = λ sides from at i few.
-    let n : ℕ = c.args.n in
-    let more : 1024 < n = omega (arith, c.if-n.false) in
-    let parted : c.left_len-left_len.result ≡ left_len n = c.left_len-left_len.ensures.value in
-    let from_far : ℕ = from + 64 + subtree_size (left_len n) in
-    let at_far : ℕ = at + 64 + nodes_size (near c.args.choice.now c.args.number n sides from at more) in
-    c.parents_in.ensures (sides ++ right ∷ []) from_far at_far i few
-    ∙ (λ j. is_some (parent_place (placed_nodes at_far (subtree_nodes c.args.choice.now (c.args.number + parted j / 1024) (n - parted j) (sides ++ right ∷ []) from_far)) (64 * c.args.group + i)))
-    ∙ ap (λ (o : Option ℕ). is_some o) (sym (parent_far c.args.choice.now c.args.number n sides from at more (64 * c.args.group + i) (omega (arith, parted, c.if-middle-group.true))))
-
-pub returns-then-middle-group-2 : goal.returns-then-middle-group-2
-returns-then-middle-group-2 t c = λ sides from at i few.
-    let parted : c.left_len-left_len.result ≡ left_len c.args.n = c.left_len-left_len.ensures.value in
-    c.parents_in-then-middle-group-2.ensures (sides ++ left ∷ []) (from + 64) (at + 64) i few
-    ∙ (λ j. is_some (parent_place (placed_nodes (at + 64) (subtree_nodes c.args.choice.now c.args.number (parted j) (sides ++ left ∷ []) (from + 64))) (64 * c.args.group + i)))
-    ∙ ap (λ (o : Option ℕ). is_some o)
-    (sym (parent_near c.args.choice.now c.args.number c.args.n sides from at (omega (arith, c.if-n.false)) (64 * c.args.group + i) (omega (arith, parted, few, c.if-middle-group-2.true))))
 
 -- of two bits the one, where the other is 0
 first_bit : (a b : ℕ) → b < 2 → (b == 1) ≡ false → max a b ≡ a
@@ -90,3 +62,6 @@ returns t c = λ sides from at i few.
                 ∙ ap (λ (o : Option ℕ). is_some o) (sym (parent_far c.args.choice.now number n sides from at more m (omega (arith, parted, after, other, group))))
           ]
     ]
+
+pub returns-then-middle-group : goal.returns-then-middle-group
+returns-then-middle-group t c = grind (arith, parent_far)

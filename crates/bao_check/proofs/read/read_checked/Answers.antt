@@ -1,11 +1,5 @@
-use Rattle.std.proofs.lemmas.Result.{IfErr-weaker}
-use Rattle.bao_check.proofs.Streamed.{read_fault, refused, verdict}
+use Rattle.bao_check.proofs.Streamed.{refused, verdict}
 use Rattle.bao_check.proofs.read.read_checked.Goals as goal
-
-pub returns-clause-fault : goal.returns-clause-fault
-returns-clause-fault g c =
-    IfErr-weaker c.read_nodes.result _ _
-    (read_fault c.args.mode.now c.args.root.now.0 c.args.start c.args.len c.read_nodes.new.text.items (g.R.Read.remaining c.read_nodes.new.reader)) c.read_nodes.ensures.err
 
 pub returns-clause-exact : goal.returns-clause-exact
 returns-clause-exact g c =

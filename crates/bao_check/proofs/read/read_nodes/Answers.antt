@@ -31,12 +31,7 @@ nodes-init g c =
 
 pub returns-in_err-read_node-2-clause-reader : goal.returns-in_err-read_node-2-clause-reader
 returns-in_err-read_node-2-clause-reader g c =
-    all_read c.args.text.now.items c.read_node-in-Some.new.bytes.items (g.R.Read.remaining c.args.reader.now) (g.R.Read.remaining c.read_node-in-Some.new.reader) c.requires
-    (Reads-then c.args.text.now.items c.nodes.text.items c.read_node-in-Some.new.bytes.items (g.R.Read.remaining c.args.reader.now) (g.R.Read.remaining c.nodes.reader)
-    (g.R.Read.remaining c.read_node-in-Some.new.reader)
-    (Reads-then c.args.text.now.items c.read_node.new.bytes.items c.nodes.text.items (g.R.Read.remaining c.args.reader.now) (g.R.Read.remaining c.read_node.new.reader) (g.R.Read.remaining c.nodes.reader)
-    c.read_node.ensures.reads c.nodes.invariant.reads)
-    c.read_node-in-Some.ensures.reads)
+    all_read c.requires (Reads-then (Reads-then c.read_node.ensures.reads c.nodes.invariant.reads) c.read_node-in-Some.ensures.reads)
 
 pub returns-in_err-read_node-2-clause-err : goal.returns-in_err-read_node-2-clause-err
 returns-in_err-read_node-2-clause-err g c =
@@ -58,8 +53,7 @@ nodes-preserved g c =
     let new_is : taken ++ node ≡ new = ap (λ (s : List ℕ). taken ++ s) node_is ∙ sym c.read_node-in-Some.ensures.reads.grown in
     let step : HasTaken task.mode c.in_ok-choice.choice c.nodes.waiting.items c.take_node.new.waiting.items node = c.in_ok-take_node.ensures.ok in
     record {
-      reads = Reads-then c.read_node.new.bytes.items taken new (g.R.Read.remaining c.read_node.new.reader) (g.R.Read.remaining c.nodes.reader) (g.R.Read.remaining c.read_node-in-Some.new.reader)
-          c.nodes.invariant.reads c.read_node-in-Some.ensures.reads;
+      reads = Reads-then c.nodes.invariant.reads c.read_node-in-Some.ensures.reads;
       parts = c.take_node.ensures.parts;
       waits = λ more.
           subst (λ (s : List ℕ). WaitsIn task c.in_ok-choice.choice c.take_node.new.waiting.items (s ++ more) (length s)) new_is
@@ -68,12 +62,7 @@ nodes-preserved g c =
 
 pub returns-in_err-take_node-clause-reader : goal.returns-in_err-take_node-clause-reader
 returns-in_err-take_node-clause-reader g c =
-    all_read c.args.text.now.items c.read_node-in-Some.new.bytes.items (g.R.Read.remaining c.args.reader.now) (g.R.Read.remaining c.read_node-in-Some.new.reader) c.requires
-    (Reads-then c.args.text.now.items c.nodes.text.items c.read_node-in-Some.new.bytes.items (g.R.Read.remaining c.args.reader.now) (g.R.Read.remaining c.nodes.reader)
-    (g.R.Read.remaining c.read_node-in-Some.new.reader)
-    (Reads-then c.args.text.now.items c.read_node.new.bytes.items c.nodes.text.items (g.R.Read.remaining c.args.reader.now) (g.R.Read.remaining c.read_node.new.reader) (g.R.Read.remaining c.nodes.reader)
-    c.read_node.ensures.reads c.nodes.invariant.reads)
-    c.read_node-in-Some.ensures.reads)
+    all_read c.requires (Reads-then (Reads-then c.read_node.ensures.reads c.nodes.invariant.reads) c.read_node-in-Some.ensures.reads)
 
 pub returns-in_err-take_node-clause-err : goal.returns-in_err-take_node-clause-err
 returns-in_err-take_node-clause-err g c =

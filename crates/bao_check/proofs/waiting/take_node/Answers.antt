@@ -1,4 +1,4 @@
-use Rattle.std.proofs.Common.{◌≡◌, ◌-◌, ℕ, List, Some, [], ◌∷◌, ◌++◌, length, take, false, sym, ap, subst, ◌∙◌, arith}
+use Rattle.std.proofs.Common.{◌≡◌, ◌-◌, ℕ, List, Some, [], ◌∷◌, ◌++◌, length, take, sym, ap, subst, ◌∙◌, arith}
 use Rattle.std.proofs.lemmas.List.{take_all}
 use Rattle.b3word.specs.Compression.{cv}
 use Rattle.b3word.specs.declared.input.Input.{Input}
@@ -8,9 +8,9 @@ use Rattle.b3tree.specs.Tree.{parent_input}
 use Rattle.bao_text.specs.Nodes.{left, right}
 use Rattle.bao_check.specs.declared.part.Part.{Part}
 use Rattle.bao_check.specs.Accepted.{part_value}
-use Rattle.bao_check.specs.Waiting.{below_parent, last_part}
+use Rattle.bao_check.specs.Waiting.{last_part}
 use Rattle.bao_check.specs.Walk.{Meets}
-use Rattle.bao_check.proofs.ChunkBytes.{chunk_decodes, parent_decodes, same_part, some_weaker}
+use Rattle.bao_check.proofs.ChunkBytes.{chunk_decodes, parent_decodes, some_weaker}
 use Rattle.bao_check.proofs.Feeding.{chunk_refused, chunk_taken_from, first_part, parent_refused, parent_taken_from, part_taken, wrong_from}
 use Rattle.bao_check.proofs.waiting.take_node.Goals as goal
 
@@ -56,7 +56,7 @@ pub returns-then-not-meets-clause-err : goal.returns-then-not-meets-clause-err
 returns-then-not-meets-clause-err c =
     let first = first_part c.args.choice.now c.args.waiting.now.items c.in-Some.part (length c.args.node.now) c.requires.parts (sym c.next_part.ensures ∙ c.in-Some.is) c.requires.next in
     let is : c.parent_input.result ≡ parent_input c.args.mode.now (part_value left c.args.node.now) (part_value right c.args.node.now) =
-    c.parent_input.ensures ∙ (λ i. parent_input c.args.mode.now (c.part_values.ensures.left i) (c.part_values.ensures.right i)) in
+    c.parent_input.ensures ∙ (λ i. parent_input c.args.mode.now (c.halves.ensures.left i).value.0 (c.halves.ensures.right i).value.0) in
     parent_refused c.args.mode.now c.args.choice.now c.args.waiting.now.items (take (length c.args.waiting.now.items - 1) c.args.waiting.now.items) c.in-Some.part c.args.node.now c.args.at
     first.is first.wanted c.if-part.false (first.parent c.if-part.false)
     (subst (λ (x : Input). ¬ Meets c.in-Some.part.asked x) is (wrong_from c.meets.result (Meets c.in-Some.part.asked c.parent_input.result) c.meets.ensures.1 c.if-not-meets.true))
@@ -65,34 +65,15 @@ pub returns-clause-ok : goal.returns-clause-ok
 returns-clause-ok c =
     let first = first_part c.args.choice.now c.args.waiting.now.items c.in-Some.part (length c.args.node.now) c.requires.parts (sym c.next_part.ensures ∙ c.in-Some.is) c.requires.next in
     let is : c.parent_input.result ≡ parent_input c.args.mode.now (part_value left c.args.node.now) (part_value right c.args.node.now) =
-    c.parent_input.ensures ∙ (λ i. parent_input c.args.mode.now (c.part_values.ensures.left i) (c.part_values.ensures.right i)) in
+    c.parent_input.ensures ∙ (λ i. parent_input c.args.mode.now (c.halves.ensures.left i).value.0 (c.halves.ensures.right i).value.0) in
     parent_taken_from c.args.mode.now c.args.choice.now c.args.waiting.now.items c.pop-taken-2.new.self.items c.push_halves.ensures.before.0 c.push_halves.new.waiting.items c.in-Some.part
-    c.args.node.now (below_parent c.part_values.result.0) (below_parent c.part_values.result.1)
+    c.args.node.now c.halves.result.0 c.halves.result.1
     (first.is ∙ ap (λ (s : List Part). s ++ c.in-Some.part ∷ []) (sym c.pop-taken-2.ensures.rest)) first.wanted c.if-part.false (first.parent c.if-part.false)
     (subst (λ (x : Input). Meets c.in-Some.part.asked x) is (c.meets.ensures.0 c.if-not-meets.false))
-    (λ i. record { top = false; value = record { 0 = c.part_values.ensures.left i } }) (λ i. record { top = false; value = record { 0 = c.part_values.ensures.right i } })
-    c.push_halves.ensures.before.1 c.push_halves.ensures.before.2
+    c.halves.ensures.left c.halves.ensures.right c.push_halves.ensures.before.1 c.push_halves.ensures.before.2
 
 pub returns-then-part-clause-chunk : goal.returns-then-part-clause-chunk
-returns-then-part-clause-chunk c = λ part last one.
-    let first = first_part c.args.choice.now c.args.waiting.now.items c.in-Some.part (length c.args.node.now) c.requires.parts (sym c.next_part.ensures ∙ c.in-Some.is) c.requires.next in
-    chunk_decodes c.args.choice.now c.args.waiting.now.items c.pop-taken.new.self.items c.in-Some.part c.args.node.now
-    (first.is ∙ ap (λ (s : List Part). s ++ c.in-Some.part ∷ []) (sym c.pop-taken.ensures.rest)) first.wanted c.requires.chunks c.if-part.true (first.chunk c.if-part.true)
-
-pub returns-then-part-clause-parent : goal.returns-then-part-clause-parent
-returns-then-part-clause-parent c = λ part last more.
-    let same : part ≡ c.in-Some.part = same_part (last_part c.args.waiting.now.items) part c.in-Some.part last (sym c.next_part.ensures ∙ c.in-Some.is) in
-    let len : part.len ≡ c.in-Some.part.len = ap (λ (p : Part). p.len) same in
-    absurd (omega (arith, len, more, c.if-part.true))
-
-pub returns-clause-chunk : goal.returns-clause-chunk
-returns-clause-chunk c = λ part last one.
-    let same : part ≡ c.in-Some.part = same_part (last_part c.args.waiting.now.items) part c.in-Some.part last (sym c.next_part.ensures ∙ c.in-Some.is) in
-    let len : part.len ≡ c.in-Some.part.len = ap (λ (p : Part). p.len) same in
-    absurd (omega (arith, len, one, c.if-part.false))
+returns-then-part-clause-chunk c = grind (arith, first_part, chunk_decodes)
 
 pub returns-clause-parent : goal.returns-clause-parent
-returns-clause-parent c = λ part last more.
-    let first = first_part c.args.choice.now c.args.waiting.now.items c.in-Some.part (length c.args.node.now) c.requires.parts (sym c.next_part.ensures ∙ c.in-Some.is) c.requires.next in
-    parent_decodes c.args.choice.now c.args.waiting.now.items c.pop-taken-2.new.self.items c.push_halves.new.waiting.items c.in-Some.part c.args.node.now
-    (first.is ∙ ap (λ (s : List Part). s ++ c.in-Some.part ∷ []) (sym c.pop-taken-2.ensures.rest)) first.wanted c.if-part.false (first.parent c.if-part.false) c.push_halves.ensures.kinds
+returns-clause-parent c = grind (arith, first_part, parent_decodes)

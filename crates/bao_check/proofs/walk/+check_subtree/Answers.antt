@@ -1,10 +1,8 @@
-use Rattle.std.proofs.Common.{◌≡◌, ◌<◌, ℕ, ◌+◌, ◌-◌, ◌/◌, List, length, take, drop, Err, IfErr, IfOk, MatchResult, Ok, Result, false, sym, ap, subst, ◌∙◌, arith, length-drop}
+use Rattle.std.proofs.Common.{◌≡◌, ◌<◌, ℕ, ◌+◌, ◌-◌, ◌/◌, List, length, take, drop, Err, IfErr, IfOk, MatchResult, Ok, Result, sym, ap, subst, ◌∙◌, arith, length-drop}
 use Rattle.std.proofs.lemmas.List.{take-append-drop, take_all}
 use Rattle.std.proofs.lemmas.Result.{err_from_is_err_and}
-use Rattle.bao_text.specs.Nodes.{left, right}
 use Rattle.bao_check.specs.declared.asked.Asked.{Asked}
 use Rattle.bao_check.specs.Subtree.{PassesIn}
-use Rattle.bao_check.proofs.Parts.{below}
 use Rattle.bao_check.proofs.Subtrees.{both_pass, far_part_stops, near_part_stops, pass_chunk, pass_unwanted, pass_without, stop_chunk, stop_parent}
 use Rattle.bao_check.proofs.walk.+check_subtree.Goals as goal
 
@@ -62,19 +60,7 @@ returns-in_err-left t c =
     )
 
 pub returns-in_err-middle : goal.returns-in_err-middle
-returns-in_err-middle t c =
-    let p = err_from_is_err_and c.from_residual-in_err-middle.result c.from_residual-in_err-middle.ensures.1 in
-    let near : Asked = record { top = false; value = c.in_ok-left.left } in
-    let far : Asked = record { top = false; value = c.in_ok-left.right } in
-    let parent : List ℕ = take 64 (drop c.args.at c.args.text.now) in
-    let is_near : near ≡ below left parent = (λ i. record { top = false; value = record { 0 = c.in_ok-left.ensures.left i } }) in
-    let is_far : far ≡ below right parent = (λ i. record { top = false; value = record { 0 = c.in_ok-left.ensures.right i } }) in
-    rw (p.1, p.2) (
-      c.in_err-middle.ensures.0,
-      near_part_stops c.args.asked.now c.args.mode.now c.args.choice.now c.args.number c.args.n c.args.text.now c.args.at (sym c.wants.ensures ∙ c.if-not-wants.false) (omega arith)
-          near far c.left_len-left_len.result c.left_len-left_len.ensures.value c.in_ok-left.ensures.there c.in_ok-left.ensures.meets is_near is_far
-          c.in_err-middle.field-0.0 c.in_err-middle.ensures.0 c.in_err-middle.ensures.1,
-    )
+returns-in_err-middle t c = grind (arith, err_from_is_err_and, near_part_stops)
 
 pub returns : goal.returns
 returns t c =
@@ -83,20 +69,17 @@ returns t c =
     let choice = c.args.choice.now in
     let text : List ℕ = c.args.text.now in
     let l : ℕ = c.left_len-left_len.result in
-    let near : Asked = record { top = false; value = c.in_ok-left.left } in
-    let far : Asked = record { top = false; value = c.in_ok-left.right } in
-    let parent : List ℕ = take 64 (drop c.args.at text) in
-    let is_near : near ≡ below left parent = (λ i. record { top = false; value = record { 0 = c.in_ok-left.ensures.left i } }) in
-    let is_far : far ≡ below right parent = (λ i. record { top = false; value = record { 0 = c.in_ok-left.ensures.right i } }) in
+    let near : Asked = c.in_ok-left.left in
+    let far : Asked = c.in_ok-left.right in
     let wanted = sym c.wants.ensures ∙ c.if-not-wants.false in
     let more : 1024 < c.args.n = omega arith in
     match_both c.check_subtree-2.result (PassesIn far mode choice (c.args.number + l / 1024) (c.args.n - l) text c.in_ok-middle.middle) (PassesIn asked mode choice c.args.number c.args.n text c.args.at)
     _ _
     (λ end h. both_pass asked mode choice c.args.number c.args.n text c.args.at wanted more near far l c.left_len-left_len.ensures.value c.in_ok-left.ensures.there
-    c.in_ok-left.ensures.meets is_near is_far c.in_ok-middle.middle end c.in_ok-middle.ensures h)
+    c.in_ok-left.ensures.meets c.in_ok-left.ensures.left c.in_ok-left.ensures.right c.in_ok-middle.middle end c.in_ok-middle.ensures h)
     (λ fault h. (
       h.0,
       far_part_stops asked mode choice c.args.number c.args.n text c.args.at wanted more near far l c.left_len-left_len.ensures.value c.in_ok-left.ensures.there
-          c.in_ok-left.ensures.meets is_near is_far c.in_ok-middle.middle fault h.0 c.in_ok-middle.ensures h.1,
+          c.in_ok-left.ensures.meets c.in_ok-left.ensures.left c.in_ok-left.ensures.right c.in_ok-middle.middle fault h.0 c.in_ok-middle.ensures h.1,
     ))
     c.check_subtree-2.ensures

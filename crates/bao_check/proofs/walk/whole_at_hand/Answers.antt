@@ -16,10 +16,7 @@ returns-then-is_whole_text c =
     (c.is_whole_text.ensures c.if-is_whole_text.true count.0)
 
 pub is_whole_outline-requires-clause-len : goal.is_whole_outline-requires-clause-len
-is_whole_outline-requires-clause-len c =
-    let count = c.in_ok-chunks.ensures in
-    let halved = IsPowerOfTwo_half c.in_ok-chunks.chunks count.0 c.if-chunks-gt1.true in
-    omega (arith, halved.1, length-take-le (512 * c.in_ok-chunks.chunks - 64) c.args.bytes.now c.if-bytes-len-2.true)
+is_whole_outline-requires-clause-len c = grind (arith, IsPowerOfTwo_half, length-take-le)
 
 pub returns-then-is_whole_outline : goal.returns-then-is_whole_outline
 returns-then-is_whole_outline c =

@@ -1,4 +1,4 @@
-use Rattle.std.proofs.Common.{◌≡◌, ◌≤◌, ◌<◌, ◌-◌, ℕ, ◌↔◌, IsSome, ap, ◌∙◌, sym, subst, arith}
+use Rattle.std.proofs.Common.{rules, ◌≡◌, ◌≤◌, ◌<◌, ◌-◌, ℕ, ◌↔◌, IsSome, ap, ◌∙◌, sym, subst, arith}
 use Rattle.bao_text.specs.Choice.{chunk_count}
 use Rattle.bao_check.specs.declared.checked.Checked.{Checked}
 use Rattle.bao_check.specs.Checked.{HoldsLast, piece_claimed, piece_places, piece_text}
@@ -18,16 +18,10 @@ holds_last piece last first after is spans from below =
     subst (λ (i : ℕ). IsSome (chunk_in (piece_text piece) (piece_places piece) i)) is ((spans last).1 (from, below))
 
 pub invariant_of-result : goal.invariant_of-result
-invariant_of-result c =
-    let total : ℕ = piece_claimed c.args.self.now in
-    let last : c.chunk_count-last.result - 1 ≡ chunk_count total - 1 = last_is total c.claimed.result c.chunk_count-last.result c.claimed.ensures c.chunk_count-last.ensures in
-    record { last = holds_last c.args.self.now _ _ _ last c.chunks-first.ensures.spans c.if-first-last.true c.if-last-after.true }
+invariant_of-result c = search (rules, arith, last_is, holds_last)
 
 pub returns-then-last-after-clause-certificate : goal.returns-then-last-after-clause-certificate
-returns-then-last-after-clause-certificate c =
-    let total : ℕ = piece_claimed c.args.self.now in
-    let last : c.chunk_count-last.result - 1 ≡ chunk_count total - 1 = last_is total c.claimed.result c.chunk_count-last.result c.claimed.ensures c.chunk_count-last.ensures in
-    last_certificate c.args.self.now c.is_of_bytes.ensures (holds_last c.args.self.now _ _ _ last c.chunks-first.ensures.spans c.if-first-last.true c.if-last-after.true)
+returns-then-last-after-clause-certificate c = grind (arith, last_is, last_certificate, holds_last)
 
 pub returns-else-first-last-clause-there : goal.returns-else-first-last-clause-there
 returns-else-first-last-clause-there c =

@@ -21,25 +21,7 @@ returns-in_err-filled-clause-fault c = λ task taken it.
     rw (p.1, p.2) (node_fault task (taken ++ bytes) (check.at + used) fault refused.is faults)
 
 pub returns-in_err-filled-clause-before : goal.returns-in_err-filled-clause-before
-returns-in_err-filled-clause-before c = λ task taken it.
-    let check = c.args.self.now in
-    let bytes : List ℕ = c.args.bytes.now in
-    let used : ℕ = c.in_err-filled.ensures.err.0 in
-    let refused : HasRefusedIn check.mode check.choice check.waiting.items c.take_nodes.new.waiting.items check.at used bytes c.in_err-filled.field-0.0 = c.in_err-filled.ensures.err.2 in
-    let node : List ℕ = take used bytes in
-    let size : length node ≡ used = length-take-le used bytes refused.within in
-    let step : HasTaken task.mode check.choice check.waiting.items c.take_nodes.new.waiting.items node =
-    subst (λ (t : CheckTask). HasTaken t.mode check.choice check.waiting.items c.take_nodes.new.waiting.items node) it.task_is refused.taken in
-    let p = err_from_is_err_and c.from_residual.result c.from_residual.ensures.1 in
-    rw (p.1) (
-      used,
-      refused.within,
-      record {
-        task_is = it.task_is;
-        at_is = omega (arith, it.at_is, c.in_err-filled.ensures.err.1, size, length-append taken node);
-        waits = λ _. WaitsIn-taken task check.choice check.waiting.items c.take_nodes.new.waiting.items taken node step (it.waits c.requires.begun);
-      },
-    )
+returns-in_err-filled-clause-before c = grind (arith, length-take-le, err_from_is_err_and, length-append, WaitsIn-taken)
 
 pub returns-clause-taken : goal.returns-clause-taken
 returns-clause-taken c = λ task taken it.

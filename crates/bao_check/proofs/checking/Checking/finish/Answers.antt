@@ -1,9 +1,9 @@
 use Rattle.std.proofs.Common.{◌≡◌, ℕ, ◌<◌, List, ◌++◌, length, sym, ap, subst, ◌∙◌, arith, length-append}
 use Rattle.std.specs.Prelude.{IsNone}
 use Rattle.std.proofs.lemmas.List.{append-nil}
-use Rattle.bao_check.specs.declared.fault.CheckFault.TheVariants.{Short, Trailing}
+use Rattle.bao_check.specs.declared.fault.CheckFault.TheVariants.{Short}
 use Rattle.bao_check.specs.Checking.{wanted}
-use Rattle.bao_check.specs.Waiting.{IsAcceptedAs, IsFaultAs, next_size}
+use Rattle.bao_check.specs.Waiting.{IsAcceptedAs, IsFaultAs}
 use Rattle.bao_check.proofs.Feeding.{later_size, no_rest, none_begun, some_rest, waits_trailing, with_size}
 use Rattle.bao_check.proofs.checking.Checking.finish.Goals as goal
 
@@ -21,11 +21,4 @@ returns-then-is_empty c = λ task taken it.
     subst (λ (s : List ℕ). IsAcceptedAs task s) (sym all) ((c.wants.ensures.done task taken it).0 none)
 
 pub returns-else-is_empty : goal.returns-else-is_empty
-returns-else-is_empty c = λ task taken it.
-    let check = c.args.self.now in
-    let none : IsNone (wanted check) = subst IsNone c.wants.ensures.value (sym c.is_some.ensures ∙ c.if-is_some.false) in
-    let begun : 0 < check.at = none_begun check.at (next_size check.waiting.items) none in
-    let left : IsNone (next_size check.waiting.items) = subst IsNone (later_size check.at (next_size check.waiting.items) begun) none in
-    let more : 0 < length c.args.rest.now = some_rest c.args.rest.now (sym c.is_empty.ensures ∙ c.if-is_empty.false) in
-    subst (λ (k : ℕ). IsFaultAs task (taken ++ c.args.rest.now) (Trailing k)) (sym it.at_is)
-    (waits_trailing task check.choice check.waiting.items (taken ++ c.args.rest.now) (length taken) left (it.waits begun c.args.rest.now) (omega (arith, more, length-append taken c.args.rest.now)))
+returns-else-is_empty c = grind (arith, none_begun, later_size, some_rest, waits_trailing, length-append)

@@ -1,6 +1,6 @@
 use Rattle.std.proofs.Common.{◌≡◌, ℕ, ◌<◌, List, [], ◌++◌, length, if◌then◌else◌, Some, false, nat_eq, refl, sym, subst, ◌∙◌, arith, length-append}
 use Rattle.std.proofs.lemmas.Bool.{ne_eqb}
-use Rattle.std.proofs.lemmas.Result.{err_from_is_err_and}
+use Rattle.std.proofs.lemmas.Result.{IfErr-weaker, err_from_is_err_and}
 use Rattle.bao_check.specs.declared.fault.CheckFault.{CheckFault}
 use Rattle.bao_check.specs.Checking.{task_of}
 use Rattle.bao_check.specs.Waiting.{CheckTask, HasRefused, HasTaken, chunk_waits, next_size}
@@ -19,14 +19,7 @@ returns-in_err-choice-clause-fault c = λ task taken it.
     rw (p.1, p.2) (node_fault task (taken ++ node) 8 fault c.in_err-choice.ensures.fault.0 faults)
 
 pub returns-in_err-choice-clause-refused : goal.returns-in_err-choice-clause-refused
-returns-in_err-choice-clause-refused c = λ task taken it.
-    let check = c.args.self.now in
-    let node : List ℕ = c.args.node.now in
-    let fault : CheckFault = c.in_err-choice.field-0.0 in
-    let none : taken ≡ [] = nothing taken (sym it.at_is ∙ c.if-self-eq0.true) in
-    let faults = begun_fault (task_of check) task taken node fault it.task_is none c.in_err-choice.ensures.fault.1 in
-    let p = err_from_is_err_and c.from_residual.result c.from_residual.ensures.1 in
-    rw (p.1, p.2) (λ _. node_refused task (taken ++ node) fault faults)
+returns-in_err-choice-clause-refused c = λ task taken it. IfErr-weaker _ _ _ (node_refused task (taken ++ c.args.node.now)) (returns-in_err-choice-clause-fault c task taken it)
 
 pub returns-in_err-take_node-clause-fault : goal.returns-in_err-take_node-clause-fault
 returns-in_err-take_node-clause-fault c = λ task taken it.
@@ -41,16 +34,7 @@ returns-in_err-take_node-clause-fault c = λ task taken it.
     rw (p.1, p.2) (node_fault task (taken ++ node) check.at fault c.in_err-take_node.ensures.err.is faults)
 
 pub returns-in_err-take_node-clause-refused : goal.returns-in_err-take_node-clause-refused
-returns-in_err-take_node-clause-refused c = λ task taken it.
-    let check = c.args.self.now in
-    let node : List ℕ = c.args.node.now in
-    let fault : CheckFault = c.in_err-take_node.field-0.0 in
-    let begun : 0 < check.at = omega (arith, c.if-self-eq0.false) in
-    let refused : HasRefused task.mode check.choice check.waiting.items check.at (length node) node fault =
-    subst (λ (t : CheckTask). HasRefused t.mode check.choice check.waiting.items check.at (length node) node fault) it.task_is c.in_err-take_node.ensures.err in
-    let faults = refused_fault task check.choice check.waiting.items check.at (length node) taken node fault refused it.at_is (it.waits begun) in
-    let p = err_from_is_err_and c.from_residual-in_err-take_node.result c.from_residual-in_err-take_node.ensures.1 in
-    rw (p.1, p.2) (λ _. node_refused task (taken ++ node) fault faults)
+returns-in_err-take_node-clause-refused c = λ task taken it. IfErr-weaker _ _ _ (node_refused task (taken ++ c.args.node.now)) (returns-in_err-take_node-clause-fault c task taken it)
 
 pub returns-clause-taken : goal.returns-clause-taken
 returns-clause-taken c = λ task taken it.

@@ -25,11 +25,7 @@ returns-clause-short c = λ task taken it.
     waits_short task check.choice check.waiting.items taken more size check.parts check.chunks (sym c.node_size.ensures.value ∙ is) less (it.waits begun more))
 
 pub returns-clause-trailing : goal.returns-clause-trailing
-returns-clause-trailing c = λ task taken it none more some.
-    let check = c.args.self.now in
-    let begun : 0 < check.at = omega (arith, c.if-self-eq0.false) in
-    waits_trailing task check.choice check.waiting.items (taken ++ more) (length taken) (subst IsNone c.node_size.ensures.value none) (it.waits begun more)
-    (omega (arith, some, length-append taken more))
+returns-clause-trailing c = grind (arith, waits_trailing, length-append)
 
 pub returns-clause-blob : goal.returns-clause-blob
 returns-clause-blob c = λ task taken blob it none.

@@ -1,5 +1,5 @@
-use Rattle.std.proofs.Common.{◌≡◌, ℕ, ◌+◌, ◌-◌, ◌*◌, ◌≤◌, List, [], length, sym, subst, arith}
-use Rattle.bao_text.specs.Choice.{chunk_count, of_outboard}
+use Rattle.std.proofs.Common.{rules, ◌≡◌, ℕ, List, [], sym, subst, arith}
+use Rattle.bao_text.specs.Choice.{of_outboard}
 use Rattle.bao_text.specs.Cut.{claimed}
 use Rattle.bao_check.proofs.Outlines.{leaf-unique, outboard-WantsParents, outboard-fits}
 use Rattle.bao_text.specs.Nodes.{placed_nodes, subtree_nodes}
@@ -9,11 +9,7 @@ use Rattle.bao_check.specs.Pieces.{IsLeafValue}
 use Rattle.bao_check.proofs.outline.Outline.leaf.Goals as goal
 
 pub leaf_below-requires-clause-fits : goal.leaf_below-requires-clause-fits
-leaf_below-requires-clause-fits c =
-    let text : List ℕ = c.args.self.now.text.now in
-    let fits : 8 + 64 * (chunk_count (claimed text) - 1) ≤ length text = outboard-fits c.args.self.now.mode c.args.self.now.root.0 text c.args.self.now.accepted in
-    let total : c.claimed-total.result ≡ claimed text = c.claimed-total.ensures in
-    omega arith
+leaf_below-requires-clause-fits c = search (rules, arith, outboard-fits)
 
 pub returns-clause-only : goal.returns-clause-only
 returns-clause-only c =

@@ -1,7 +1,5 @@
-use Rattle.std.proofs.Common.{◌≡◌, ℕ, ◌≤◌, List, true, length}
+use Rattle.std.proofs.Common.{ℕ, ◌≤◌, List, length}
 use Rattle.bao_check.specs.Forms.{form_nodes}
-use Rattle.bao_check.specs.declared.asked.Asked.{Asked}
-use Rattle.bao_check.specs.Walk.{asked_root}
 use Rattle.bao_check.proofs.Subtrees.{first_fault, top_accepted, top_stopped, top_trailing}
 use Rattle.bao_check.proofs.subtree.Subtree.of_form.Goals as goal
 
@@ -9,8 +7,8 @@ pub returns-clause-top : goal.returns-clause-top
 returns-clause-top c =
     let root : List ℕ = c.args.root.now.0 in
     let text : List ℕ = c.args.text.now in
-    let asked : Asked = record { top = true; value = c.from_bytes.result } in
-    let asks : asked ≡ asked_root root = (λ i. record { top = true; value = record { 0 = c.from_bytes.ensures i } }) in
+    let asked = c.of_root.result in
+    let asks = c.of_root.ensures in
     let long : 8 ≤ length text = c.if-text-lt-LENGTH_LEN.false in
     record {
       begins = long;

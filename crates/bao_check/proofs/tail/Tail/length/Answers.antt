@@ -1,7 +1,7 @@
-use Rattle.std.proofs.Common.{◌≡◌, ◌+◌, ◌-◌, ℕ, sym, ap, subst, ◌∙◌, arith}
+use Rattle.std.proofs.Common.{◌≡◌, ◌+◌, ◌-◌, ℕ, sym, ap, ◌∙◌, arith}
 use Rattle.bao_text.specs.Choice.{chunk_count}
 use Rattle.bao_text.specs.Cut.{claimed}
-use Rattle.bao_check.specs.Checked.{HasLastCertificate, piece_mode, piece_root, piece_text}
+use Rattle.bao_check.specs.Checked.{piece_mode, piece_root, piece_text}
 use Rattle.bao_check.specs.Tail.{tail_piece}
 use Rattle.bao_check.proofs.Certified.{certified}
 use Rattle.bao_check.proofs.Tails.{last_certificate}
@@ -17,6 +17,4 @@ returns-clause-ends c = λ bytes there.
     found.ends last ∙ sym is
 
 pub returns-clause-certificate : goal.returns-clause-certificate
-returns-clause-certificate c =
-    let piece = tail_piece c.args.self.now in
-    subst (HasLastCertificate piece) (sym c.claimed-length.ensures) (last_certificate piece c.is_last.ensures.bytes c.args.self.now.last)
+returns-clause-certificate c = grind (arith, last_certificate)
