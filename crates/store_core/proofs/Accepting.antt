@@ -1,9 +1,9 @@
 -- An encoding that a store serves is accepted under its root, or two pieces that it is made of clash.
+use Rattle.std.proofs.lemmas.Bool.Decides.{nat_tests, eqb_tells}
 use Rattle.std.proofs.Common.{◌≡◌, ◌⊎◌, ℕ, ◌+◌, ◌-◌, ◌*◌, ◌/◌, ◌^◌, ◌<◌, ◌≤◌, Bool, true, false, List, [], ◌∷◌, ◌++◌, length, map, take, drop, Option, None, Some, refl, sym, ap, subst, ◌∙◌, arith, inl, inr}
 use Rattle.std.specs.Prelude.{Contains}
 use Rattle.std.specs.Int.{w64, from_le_bytes}
 use Rattle.std.specs.List.{flat_map}
-use Rattle.std.proofs.lemmas.Bool.Decides.{eqb_tells}
 use Rattle.std.proofs.lemmas.List.{drop_at, take_at}
 use Rattle.std.proofs.lemmas.List.Elements.{Contains-append_left, Contains-append_right}
 use Rattle.std.proofs.lemmas.Nat.{from_le_bytes-to_le_bytes_8}
@@ -41,7 +41,7 @@ use Rattle.store_core.specs.declared.history.Piece.{Piece}
 use Rattle.store_core.specs.declared.history.Serving.TheVariants.{Text}
 use Rattle.store_core.specs.Histories.{IsLegal, state_after}
 use Rattle.store_core.specs.Laws.{IsCommitted, IsServed, IsSettled, IsStored, IsUsed, PiecesClash, ServedAccepted}
-use Rattle.store_core.specs.Laws.IsUsed.{of_chunk, of_length, of_parent}
+use Rattle.store_core.specs.Laws.IsUsed.{of_chunk, of_parent}
 use Rattle.store_core.specs.Laws.PiecesClash.{of_lengths, of_parents}
 use Rattle.store_core.specs.Pieces.{IsAcceptedPiece, length_of, places_in}
 use Rattle.store_core.specs.Serves.{node_and, node_held, served, serving_of}
@@ -53,9 +53,7 @@ use Rattle.store_core.proofs.ServingLaws.{after_text, name_there}
 
 -- a piece that a history used is accepted
 used_accepted : (fixed : Fixed) (history : List Event) (P : Node → Type 0) (piece : Piece) → IsUsed fixed history P piece → IsAcceptedPiece fixed piece
-used_accepted fixed history P piece (of_chunk c bytes from among is) = subst (IsAcceptedPiece fixed) is from.accepted
-used_accepted fixed history P piece (of_length l from recorded is) = subst (IsAcceptedPiece fixed) is from.accepted
-used_accepted fixed history P piece (of_parent m bytes from among is) = subst (IsAcceptedPiece fixed) is from.accepted
+used_accepted fixed history P piece h = grind (arith, nat_tests)
 
 -- parents with one input have the same two values
 record SameHalves (one other : List ℕ) : Type 0 where
@@ -93,18 +91,7 @@ module _ (s : State) where
 
   one_held : (node : TreeNode) (rest : List TreeNode) (text : List ℕ) (o : Option (List ℕ)) → node_held s (name node) ≡ o
       → ((more : List ℕ) → served s (map name rest) ≡ Text more → Holds rest more) → node_and (name node) o (served s (map name rest)) ≡ Text text → Holds (node ∷ rest) text
-  one_held node rest text None e further h = cc
-  one_held node rest text (Some own) e further h =
-      let w = after_text own text (served s (map name rest)) h in
-      let later : Holds rest w.0 = further w.0 w.1.0 in
-      let own_is : bytes node ≡ own = ap bytes_or e in
-      record {
-        text_is = w.1.1 ∙ (λ i. sym own_is i ++ later.text_is i);
-        held = λ x there. elim (Contains-cons_cases rest node x there) [
-          | inl same ↦ subst (λ (y : TreeNode). node_held s (name y) ≡ Some (bytes y)) (sym same) (e ∙ ap Some (sym own_is))
-          | inr inner ↦ later.held x inner
-        ];
-      }
+  one_held node rest text o e further h = grind (arith, nat_tests, after_text, Contains-cons_cases)
 
   all_held : (some : List TreeNode) (text : List ℕ) → served s (map name some) ≡ Text text → Holds some text
   all_held [] text h = record { text_is = cc; held = λ node there. absurd (omega (arith, there.1)) }

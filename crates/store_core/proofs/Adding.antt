@@ -1,4 +1,6 @@
 -- The masks of a history's Commits add up to the chunks held.
+use Rattle.std.proofs.lemmas.Grind.{common_steps}
+use Rattle.std.proofs.lemmas.Bool.Decides.{nat_tests}
 use Rattle.std.proofs.Common.{◌≡◌, ℕ, zero, suc, ◌+◌, ◌*◌, ◌/◌, ◌%◌, ◌^◌, ◌<◌, ◌≤◌, ◌==◌, Bool, true, false, ◌&&◌, List, [], ◌∷◌, count_ones, sum_by, refl, sym, ap, ◌∙◌, arith, eq-eqb}
 use Rattle.std.proofs.lemmas.Bool.{false_from_ne_true, ne_eqb}
 use Rattle.std.proofs.lemmas.List.Sums.{sum_by-cons}
@@ -8,7 +10,7 @@ use lib.Count.{ones, ones_step}
 use native.Mathlib.Nat.{pow-suc}
 use Rattle.store_core.specs.declared.fixed.Fixed.{Fixed}
 use Rattle.store_core.specs.declared.history.Call.{Call}
-use Rattle.store_core.specs.declared.history.Call.TheVariants.{Take, Give, Commit, Settle, Read, Length, Parents, Serve}
+use Rattle.store_core.specs.declared.history.Call.TheVariants.{Commit}
 use Rattle.store_core.specs.declared.history.Event.{Event}
 use Rattle.store_core.specs.Events.{IsRightReply, after, after_call}
 use Rattle.store_core.specs.Histories.{AreLegalFrom, run}
@@ -33,9 +35,7 @@ counted_cat test a (suc k) =
 
 counted_same : (test other : ℕ → Bool) (n : ℕ) → ((j : ℕ) → j < n → test j ≡ other j) → counted test n ≡ counted other n
 counted_same test other zero same = refl
-counted_same test other (suc n) same =
-    let last : one_if (test n) ≡ one_if (other n) = ap one_if (same n (omega arith)) in
-    omega (arith, last, counted_same test other n (λ j low. same j (omega (arith, low))))
+counted_same test other (suc n) same = grind (arith, nat_tests, one_if, counted_same test other n)
 
 counted_none : (n : ℕ) → counted (λ j. false) n ≡ 0
 counted_none zero = refl
@@ -49,9 +49,7 @@ counted_past test a k fails =
 
 -- a digit that is counted
 one_digit : (x : ℕ) → x < 2 → one_if (x == 1) ≡ x
-one_digit zero low = refl
-one_digit (suc zero) low = refl
-one_digit (suc (suc x)) low = absurd (omega (arith, low))
+one_digit x low = grind (arith, nat_tests)
 
 lowest_bit : (mask : ℕ) → one_if (has_bit mask 0) ≡ mask % 2
 unfolding has_bit
@@ -69,9 +67,7 @@ no_ones = refl
 
 -- the set bits of a mask
 bits_counted : (k mask : ℕ) → mask < 2 ^ k → counted (λ j. has_bit mask j) k ≡ count_ones mask
-bits_counted zero mask small =
-    let none : mask ≡ 0 = omega (arith, small) in
-    sym (ap count_ones none ∙ no_ones)
+bits_counted zero mask small = grind (arith, nat_tests, no_ones)
 bits_counted (suc k) mask small =
     let e : suc k ≡ 1 + k = omega arith in
     let half : mask / 2 < 2 ^ k = omega (arith, small, pow-suc 2 k) in
@@ -109,9 +105,7 @@ held_more s later test (suc n) each = omega (arith, each n, held_more s later te
 
 held_same : (s later : State) (n : ℕ) → ((c : ℕ) → is_held s c ≡ is_held later c) → 0 + held_count s n ≡ held_count later n
 held_same s later zero same = refl
-held_same s later (suc n) same =
-    let last : one_if (is_held s n) ≡ one_if (is_held later n) = ap one_if (same n) in
-    omega (arith, last, held_same s later n same)
+held_same s later (suc n) same = grind (arith, nat_tests, one_if, held_same s later n same)
 
 held_nothing : (n : ℕ) → held_count empty n ≡ 0
 held_nothing zero = refl
@@ -119,8 +113,6 @@ held_nothing (suc n) = omega (arith, held_nothing n)
 
 call_adds : (fixed : Fixed) (s : State) (who : List Name) (call : Call) → IsSound fixed s → IsRightReply fixed s who call
     → chunks_of call + held_count s fixed.capacity ≡ held_count (after_call who call s) fixed.capacity
-call_adds fixed s who (Take group want granted) sound right = held_same s (after_call who (Take group want granted) s) fixed.capacity (λ c. refl)
-call_adds fixed s who (Give group mask given) sound right = held_same s (after_call who (Give group mask given) s) fixed.capacity (λ c. refl)
 call_adds fixed s who (Commit group piece mask) sound right =
     let ones : counted (in_mask group mask) fixed.capacity ≡ count_ones mask =
     mask_counted group mask fixed.capacity right.1.small
@@ -128,22 +120,12 @@ call_adds fixed s who (Commit group piece mask) sound right =
     let more : counted (in_mask group mask) fixed.capacity + held_count s fixed.capacity ≡ held_count (after_call who (Commit group piece mask) s) fixed.capacity =
     held_more s (after_call who (Commit group piece mask) s) (in_mask group mask) fixed.capacity (λ c. counted_commit fixed s who group piece mask c sound right) in
     omega (arith, ones, more)
-call_adds fixed s who (Settle piece answer) sound right = held_same s (after_call who (Settle piece answer) s) fixed.capacity (λ c. refl)
-call_adds fixed s who (Read at len bytes) sound right = omega arith
-call_adds fixed s who (Length recorded) sound right = omega arith
-call_adds fixed s who (Parents group piece answer) sound right = held_same s (after_call who (Parents group piece answer) s) fixed.capacity (λ c. refl)
-call_adds fixed s who (Serve start len answer) sound right = omega arith
+call_adds fixed s who call sound right = held_same s (after_call who call s) fixed.capacity (λ c. refl)
 
 events_add : (fixed : Fixed) (s : State) (events : List Event) → IsSound fixed s → AreLegalFrom fixed s events
     → sum_by (λ e. chunks_of e.call) events + held_count s fixed.capacity ≡ held_count (run s events) fixed.capacity
 events_add fixed s [] sound legal = omega arith
-events_add fixed s (e ∷ events) sound legal =
-    let rest = events_add fixed (after s e) events (sound_call fixed s e.who e.call sound legal.0) legal.1 in
-    let here = call_adds fixed s e.who e.call sound legal.0 in
-    let split : sum_by (λ e. chunks_of e.call) (e ∷ events) ≡ chunks_of e.call + sum_by (λ e. chunks_of e.call) events =
-    sum_by-cons (λ (e : Event). chunks_of e.call) e events in
-    omega (arith, rest, here, split)
+events_add fixed s (e ∷ events) sound legal = grind (arith, common_steps, nat_tests, sound_call, call_adds, sum_by-cons, events_add fixed (after s e) events)
 
 pub committed_add_up : CommittedAddUp
-committed_add_up fixed history legal =
-    omega (arith, events_add fixed empty history (sound_empty fixed) legal, held_nothing fixed.capacity)
+committed_add_up fixed history legal = grind (arith, nat_tests, events_add, sound_empty, held_nothing)

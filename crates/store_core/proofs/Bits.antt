@@ -1,9 +1,10 @@
 -- Bits of masks that are joined, met, turned over or filled from below.
-use Rattle.std.proofs.Common.{◌≡◌, ℕ, ◌-◌, ◌*◌, ◌%◌, ◌^◌, ◌<◌, ◌≤◌, min, max, ◌==◌, false, not, ◌&&◌, ◌||◌, sym, ap, ◌∙◌, arith, nat_lt, ◌/◌, inl, inr}
+use Rattle.std.proofs.lemmas.Grind.{common_steps}
+use Rattle.std.proofs.Common.{◌≡◌, ℕ, ◌-◌, ◌*◌, ◌%◌, ◌^◌, ◌<◌, ◌≤◌, min, max, ◌==◌, false, not, ◌&&◌, ◌||◌, sym, ap, ◌∙◌, arith, nat_lt, ◌/◌}
 use Rattle.std.specs.Int.{w64, bit_at, bit_not}
 use Rattle.std.specs.Int.Bits.{bit_and, bit_or}
 use Rattle.std.proofs.lemmas.Bool.Decides.{nat_tests}
-use Rattle.std.proofs.lemmas.Bool.{cases_lt, le-ltb, lt-ltb}
+use Rattle.std.proofs.lemmas.Bool.{lt-ltb}
 use Rattle.std.proofs.lemmas.Nat.{and_le_l, pow_below}
 use Rattle.std.proofs.lemmas.Nat.Bits.{bit_at-lt, bit_at-zero, bit_at_and, bit_at_not, bit_at_ones, bit_at_ones_above, bit_at_or}
 use Rattle.store_core.specs.Masks.{has_bit}
@@ -39,24 +40,14 @@ and_small m n small = omega (arith, and_le_l m n, small)
 -- the lowest k bits
 pub has_bit-ones : (k i : ℕ) → has_bit (2 ^ k - 1) i ≡ nat_lt i k
 unfolding has_bit
-has_bit-ones k i = elim (cases_lt i k) [
-  | inl low ↦ ap (λ (x : ℕ). x == 1) (bit_at_ones k i low) ∙ sym (lt-ltb i k low)
-  | inr high ↦ ap (λ (x : ℕ). x == 1) (bit_at_ones_above k i high) ∙ sym (le-ltb i k high)
-]
+has_bit-ones k i = grind (arith, nat_tests, bit_at_ones, bit_at_ones_above)
 
 same_order : (a b x y : ℕ) → (a < b → x < y) → (b ≤ a → y ≤ x) → nat_lt x y ≡ nat_lt a b
-same_order a b x y low high = elim (cases_lt a b) [
-  | inl below ↦ lt-ltb x y (low below) ∙ sym (lt-ltb a b below)
-  | inr above ↦ le-ltb x y (high above) ∙ sym (le-ltb a b above)
-]
+same_order a b x y low high = grind (arith, nat_tests)
 
 -- the chunks of a group below a number that ends in it
 pub below_part : (group end count c : ℕ) → c / 64 ≡ group → count ≡ end - 64 * group → count < 64 → has_bit (1 * 2 ^ count % 2 ^ 64 - 1) (c % 64) ≡ nat_lt c end
-below_part group end count c here is part =
-    let small : 2 ^ count < 2 ^ 64 = pow_below count 64 part in
-    let mask : 1 * 2 ^ count % 2 ^ 64 - 1 ≡ 2 ^ count - 1 = omega (arith, small) in
-    ap (λ (m : ℕ). has_bit m (c % 64)) mask ∙ has_bit-ones count (c % 64)
-    ∙ same_order c end (c % 64) count (λ below. omega (arith, here, is, below)) (λ above. omega (arith, here, is, above))
+below_part group end count c here is part = grind (arith, common_steps, nat_tests, pow_below, has_bit-ones, same_order)
 
 -- or after it
 pub below_all : (group end count c : ℕ) → c / 64 ≡ group → count ≡ end - 64 * group → 64 ≤ count → has_bit 18446744073709551615 (c % 64) ≡ nat_lt c end

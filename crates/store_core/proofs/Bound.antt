@@ -1,5 +1,6 @@
 -- What is held or recorded is the blob's, or a collision is exhibited.
-use Rattle.std.proofs.Common.{◌≡◌, ◌⊎◌, ℕ, ◌+◌, ◌-◌, ◌*◌, ◌/◌, ◌%◌, ◌<◌, nat_lt, true, List, length, take, drop, get_or, Option, None, Some, is_some, slice_get, refl, sym, ap, subst, ◌∙◌, arith, inl, inr, length-take, length-drop}
+use Rattle.std.proofs.lemmas.Bool.Decides.{nat_tests}
+use Rattle.std.proofs.Common.{◌≡◌, ◌⊎◌, ℕ, ◌+◌, ◌-◌, ◌*◌, ◌/◌, ◌%◌, ◌<◌, nat_lt, true, List, length, take, drop, get_or, Option, Some, is_some, slice_get, sym, ap, subst, ◌∙◌, arith, inl, inr, length-take, length-drop}
 use Rattle.std.proofs.lemmas.List.{get_or-drop, get_or-take}
 use Rattle.std.proofs.lemmas.Option.{cond_some, get_or_from_slice_get, option_and_then_some, slice_get-get_or, slice_get_within}
 use Rattle.b3tree.specs.Valid.{IsKeyed}
@@ -55,8 +56,7 @@ byte_binds fixed history blob q x keyed is legal h =
 
 -- what is there
 some_there : (o : Option (List ℕ)) → is_some o ≡ true → (bytes : List ℕ) × (o ≡ Some bytes)
-some_there None h = cc
-some_there (Some bytes) h = (bytes, refl)
+some_there o h = grind (arith, nat_tests)
 
 -- the length that a piece with the last chunk claims is the blob's
 pub claim_binds : (fixed : Fixed) (piece : Piece) → IsKeyed fixed.mode → IsAcceptedPiece fixed piece → EndsBlob piece → ClaimBinds fixed piece
@@ -71,10 +71,7 @@ claim_binds fixed piece keyed accepted there blob is =
 
 settled_binds : (fixed : Fixed) (history : List Event) (blob : List ℕ) (l : ℕ) → IsKeyed fixed.mode → IsBlob fixed blob
     → (k : IsSettled fixed history l) → (l ≡ length blob) ⊎ CollidesWith fixed blob k.piece
-settled_binds fixed history blob l keyed is k = elim (claim_binds fixed k.piece keyed k.accepted k.ends blob is) [
-  | inl same ↦ inl (sym k.is ∙ same)
-  | inr named ↦ inr named
-]
+settled_binds fixed history blob l keyed is k = grind (arith, nat_tests, claim_binds)
 
 pub record_binds : RecordBinds
 record_binds fixed history blob l keyed is legal h =

@@ -1,5 +1,6 @@
 -- What a store reads is the blob's, or a collision is exhibited: its invariant has the history that this needs.
-use Rattle.std.proofs.Common.{◌≡◌, ◌⊎◌, ℕ, ◌+◌, ◌*◌, ◌/◌, ◌≤◌, List, length, Option, None, Some, IfSome, slice_get, refl, sym, subst, inl, inr, arith}
+use Rattle.std.proofs.lemmas.Bool.Decides.{nat_tests}
+use Rattle.std.proofs.Common.{◌≡◌, ◌⊎◌, ℕ, ◌+◌, ◌*◌, ◌/◌, ◌≤◌, List, length, Option, Some, IfSome, slice_get, sym, subst, inl, inr, arith}
 use Rattle.std.proofs.Math.Bridge.{le_prop}
 use Rattle.std.proofs.Math.Logic.{∥∥₁_elim}
 use Rattle.b3tree.specs.Valid.{IsKeyed}
@@ -57,8 +58,7 @@ length_first fixed slots o p l reached h =
 
 -- what holds of the value in an option
 pub if_some : (o : Option ℕ) (P : ℕ → Type 0) → ((l : ℕ) → o ≡ Some l → P l) → IfSome o P
-if_some None P each = tt
-if_some (Some l) P each = each l refl
+if_some o P each = grind (arith, nat_tests)
 
 -- a chunk of an accepted piece is the blob's, or a collision is exhibited
 pub piece_binds : (fixed : Fixed) (piece : Piece) (group mask : ℕ) → IsKeyed fixed.mode → IsAcceptedPiece fixed piece → ChunksBind fixed piece group mask
@@ -68,9 +68,7 @@ piece_binds fixed piece group mask keyed accepted blob is c bytes hit has = elim
 
 pub slice_binds : (fixed : Fixed) (s : State) (blob : List ℕ) (start len : ℕ) (text : List ℕ) → IsKeyed fixed.mode → IsBlob fixed blob → serving s start len ≡ Text text
     → (by : IsReached fixed s) → (text ≡ slice_text fixed.mode blob start len) ⊎ CollisionOf fixed by.history blob (IsServed s start len)
-slice_binds fixed s blob start len text keyed is h r =
-    subst (λ (t : State). (text ≡ slice_text fixed.mode blob start len) ⊎ CollisionOf fixed r.history blob (IsServed t start len)) r.is
-    (served_nodes_bind fixed r.history blob start len text keyed is r.legal (subst (λ (t : State). serving t start len ≡ Text text) (sym r.is) h))
+slice_binds fixed s blob start len text keyed is h r = grind (arith, nat_tests, served_nodes_bind)
 
 pub slice_accepted : (fixed : Fixed) (s : State) (start len : ℕ) (text : List ℕ) → serving s start len ≡ Text text → (by : IsReached fixed s)
     → IsAccepted fixed.mode fixed.root.0 text (slice_nodes text start len) ⊎ PiecesClash fixed by.history (IsServed s start len)
@@ -80,5 +78,4 @@ slice_accepted fixed s start len text h r =
 
 pub parents_bind : (fixed : Fixed) (s : State) (blob : List ℕ) → IsKeyed fixed.mode → IsBlob fixed blob → (by : IsReached fixed s) → (m : ℕ) (bytes : List ℕ) → s.parents m ≡ Some bytes
     → (parent_of fixed.mode blob m ≡ Some bytes) ⊎ CollisionOf fixed by.history blob (λ node. node ≡ Parent m)
-parents_bind fixed s blob keyed is r m bytes h =
-    held_parent_binds fixed r.history blob m bytes keyed is r.legal (subst (λ (t : State). t.parents m ≡ Some bytes) (sym r.is) h)
+parents_bind fixed s blob keyed is r m bytes h = grind (arith, nat_tests, held_parent_binds)

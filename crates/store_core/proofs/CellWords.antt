@@ -1,4 +1,5 @@
 -- Cells that have all their words have the bytes.
+use Rattle.std.proofs.lemmas.Bool.Decides.{nat_tests}
 use Rattle.std.proofs.Common.{◌≡◌, ℕ, zero, suc, ◌+◌, ◌-◌, ◌*◌, ◌/◌, ◌%◌, ◌<◌, ◌≤◌, min, nat_lt, if◌then◌else◌, List, [], ◌∷◌, length, take, drop, get_or, slice_get, None, Some, refl, ap, ◌∙◌, arith, inl, inr, length-append, length-take, get_or-take, get_or-drop, ext_get_or, flat_map}
 use Rattle.std.specs.Int.{w64, from_le_bytes, to_le_bytes}
 use Rattle.std.specs.List.{range_with_len}
@@ -15,15 +16,7 @@ abbrev padded : List ℕ → List ℕ
 padded xs = get_or xs 0 0 ∷ get_or xs 1 0 ∷ get_or xs 2 0 ∷ get_or xs 3 0 ∷ get_or xs 4 0 ∷ get_or xs 5 0 ∷ get_or xs 6 0 ∷ get_or xs 7 0 ∷ []
 
 padded_at : (xs : List ℕ) (k : ℕ) → k < 8 → get_or (padded xs) k 0 ≡ get_or xs k 0
-padded_at xs zero h = refl
-padded_at xs (suc zero) h = refl
-padded_at xs (suc (suc zero)) h = refl
-padded_at xs (suc (suc (suc zero))) h = refl
-padded_at xs (suc (suc (suc (suc zero)))) h = refl
-padded_at xs (suc (suc (suc (suc (suc zero))))) h = refl
-padded_at xs (suc (suc (suc (suc (suc (suc zero)))))) h = refl
-padded_at xs (suc (suc (suc (suc (suc (suc (suc zero))))))) h = refl
-padded_at xs (suc (suc (suc (suc (suc (suc (suc (suc k)))))))) h = absurd (omega arith)
+padded_at xs k h = grind (arith, nat_tests)
 
 padded_small : (xs : List ℕ) → AreBytes xs → (k : ℕ) → get_or (padded xs) k 0 < 256
 padded_small xs valid zero = valid.at 0
@@ -51,25 +44,12 @@ word_byte bytes w k valid below =
 -- lists of eight, joined
 eights_length : (f : ℕ → List ℕ) → ((w : ℕ) → length (f w) ≡ 8) → (a n : ℕ) → length (flat_map f (range_with_len a n)) ≡ 8 * n
 eights_length f eight a zero = refl
-eights_length f eight a (suc n) =
-    length-append (f a) (flat_map f (range_with_len (a + 1) n)) ∙ omega (arith, eight a, eights_length f eight (a + 1) n)
+eights_length f eight a (suc n) = grind (arith, nat_tests, length-append, eights_length f eight (a + 1) n)
 
 eights_at : (f : ℕ → List ℕ) → ((w : ℕ) → length (f w) ≡ 8) → (a n i : ℕ) → i < 8 * n
     → get_or (flat_map f (range_with_len a n)) i 0 ≡ get_or (f (a + i / 8)) (i % 8) 0
 eights_at f eight a zero i h = absurd (omega arith)
-eights_at f eight a (suc n) i h = elim (cases_lt i 8) [
-  | inl low ↦
-      let word : a ≡ a + i / 8 = omega (arith, low) in
-      let byte : i ≡ i % 8 = omega (arith, low) in
-      get_or_append_left (f a) (flat_map f (range_with_len (a + 1) n)) 0 i (omega (arith, eight a, low))
-      ∙ ap (λ (w : ℕ). get_or (f w) i 0) word ∙ ap (λ (k : ℕ). get_or (f (a + i / 8)) k 0) byte
-  | inr high ↦
-      let word : a + 1 + (i - 8) / 8 ≡ a + i / 8 = omega (arith, high) in
-      let byte : (i - 8) % 8 ≡ i % 8 = omega (arith, high) in
-      get_or-append_right (f a) (flat_map f (range_with_len (a + 1) n)) 8 i 0 (eight a) high
-      ∙ eights_at f eight (a + 1) n (i - 8) (omega (arith, h, high))
-      ∙ ap (λ (w : ℕ). get_or (f w) ((i - 8) % 8) 0) word ∙ ap (λ (k : ℕ). get_or (f (a + i / 8)) k 0) byte
-]
+eights_at f eight a (suc n) i h = grind (arith, nat_tests, get_or_append_left, get_or-append_right, eights_at f eight (a + 1) n (i - 8))
 
 -- all bytes of a cell's words
 abbrev cell_all : (ℕ → ℕ) → List ℕ

@@ -1,6 +1,6 @@
 -- A buffer that is filled with what slots hold, part by part.
-use Rattle.std.proofs.Common.{◌≡◌, ℕ, ◌+◌, ◌-◌, ◌*◌, ◌<◌, ◌≤◌, min, List, ◌++◌, length, take, drop, get_or, slice_index, Option, None, Some, refl, sym, ap, subst, ◌∙◌, arith, inl, inr, append_assoc, length-take, length-drop, length-append, get_or-take, get_or-append-add, take-append-drop}
-use Rattle.std.proofs.lemmas.Bool.{cases_lt}
+use Rattle.std.proofs.lemmas.Bool.Decides.{nat_tests}
+use Rattle.std.proofs.Common.{◌≡◌, ℕ, ◌+◌, ◌-◌, ◌*◌, ◌<◌, ◌≤◌, min, List, ◌++◌, length, take, drop, get_or, slice_index, Option, None, Some, sym, ap, subst, ◌∙◌, arith, append_assoc, length-take, length-drop, length-append, get_or-take, get_or-append-add, take-append-drop}
 use Rattle.std.proofs.lemmas.List.{drop-drop, drop_at, get_or_append_left}
 use Rattle.store_core.specs.declared.slot.Slot.{Slot}
 use Rattle.store_core.specs.Laws.{IsRead}
@@ -16,9 +16,6 @@ pub record IsCopied (slots : List Slot) (at done : ℕ) (first out : List ℕ) :
   pub rest : drop done out ≡ drop done first
   pub below : 0 < done → at + done ≤ 1024 * length slots
 
-pub copied_none : (slots : List Slot) (at : ℕ) (out : List ℕ) → IsCopied slots at 0 out out
-copied_none slots at out = record { within = omega arith; got = λ i h. absurd (omega arith); rest = refl; below = λ h. absurd (omega arith) }
-
 -- how long the beginning is
 length_taken : (out : List ℕ) (n : ℕ) → n ≤ length out → length (take n out) ≡ n
 length_taken out n h = omega (arith, length-take n out)
@@ -29,27 +26,9 @@ pub copied_more : (slots : List Slot) (at done : ℕ) (first out new part : List
     → new ≡ take done out ++ (part ++ drop (done + length part) out) → IsCopied slots at (done + length part) first new
 copied_more slots at done first out new part copied fits part_got below is =
     let taken : length (take done out) ≡ done = length_taken out done copied.within in
-    let parts : length (take done out ++ (part ++ drop (done + length part) out)) ≡ length out =
-    length-append (take done out) (part ++ drop (done + length part) out)
-    ∙ omega (arith, taken, length-append part (drop (done + length part) out), length-drop (done + length part) out, fits) in
     record {
-      within = omega (arith, ap length is, parts, fits);
-      got = λ i h. elim (cases_lt i done) [
-        | inl early ↦
-            let old : get_or new i 0 ≡ get_or out i 0 = ap (λ (xs : List ℕ). get_or xs i 0) is
-            ∙ get_or_append_left (take done out) (part ++ drop (done + length part) out) 0 i (omega (arith, taken, early))
-            ∙ get_or-take done out i 0 early in
-            copied.got i early ∙ ap (λ (x : ℕ). Some x) (sym old)
-        | inr late ↦
-            let place : length (take done out) + (i - done) ≡ i = omega (arith, taken, late) in
-            let of_part : get_or new i 0 ≡ get_or part (i - done) 0 = ap (λ (xs : List ℕ). get_or xs i 0) is
-            ∙ ap (λ (k : ℕ). get_or (take done out ++ (part ++ drop (done + length part) out)) k 0) (sym place)
-            ∙ get_or-append-add (take done out) (part ++ drop (done + length part) out) (i - done) 0
-            ∙ get_or_append_left part (drop (done + length part) out) 0 (i - done) (omega (arith, late, h)) in
-            let position : at + done + (i - done) ≡ at + i = omega (arith, late) in
-            subst (λ (q : ℕ). slot_byte slots q ≡ Some (get_or new i 0)) position
-            (part_got (i - done) (omega (arith, late, h)) ∙ ap (λ (x : ℕ). Some x) (sym of_part))
-      ];
+      within = grind (arith, nat_tests, taken, length-append, length-drop);
+      got = λ i h. grind (arith, nat_tests, copied.got i, part_got (i - done), taken, get_or_append_left, get_or-append-add, get_or-take);
       rest =
           ap (λ (xs : List ℕ). drop (done + length part) xs) (is ∙ sym (append_assoc (take done out) part (drop (done + length part) out)))
           ∙ drop_at (take done out ++ part) (drop (done + length part) out) (done + length part) (omega (arith, taken, length-append (take done out) part))
@@ -71,13 +50,13 @@ copied_filled slots o at done first out copied same ends =
     let taken : length (take done out) ≡ done = length_taken out done copied.within in
     let is : IsRead (state_in slots o) at (length first) (take done out) = record {
       within = omega (arith, taken, copied.within, same);
-      held = λ i h. copied.got i (omega (arith, taken, h)) ∙ ap (λ (x : ℕ). Some x) (sym (get_or-take done out i 0 (omega (arith, taken, h))));
-      missing = λ h. subst (λ (n : ℕ). slot_byte slots (at + n) ≡ None) (sym taken) (ends (omega (arith, taken, h, same)));
+      held = λ i h. grind (arith, nat_tests, taken, copied.got i, get_or-take);
+      missing = λ h. grind (arith, nat_tests, taken, ends);
     } in
     record {
       right = is_read (state_in slots o) at (length first) (take done out) is;
       count = taken;
-      filled = sym (take-append-drop done out) ∙ ap (λ (xs : List ℕ). take done out ++ xs) (copied.rest ∙ ap (λ (n : ℕ). drop n first) (sym taken));
+      filled = grind (arith, nat_tests, taken, copied.rest, take-append-drop);
     }
 
 -- what one chunk's slot gave, of which `count` bytes are taken
@@ -98,5 +77,4 @@ copied_part slots seen at done first out new held count e copied least some held
 -- nothing was given: the position isn't held
 pub ends_at : (slots seen : List Slot) (at done : ℕ) (out held : List ℕ) (count : ℕ) → seen ≡ slots → done < length out
     → count ≡ min (length held) (length out - done) → count ≡ 0 → (length held ≡ 0 → slot_byte seen (at + done) ≡ None) → slot_byte slots (at + done) ≡ None
-ends_at slots seen at done out held count e more least zero none =
-    subst (λ (xs : List Slot). slot_byte xs (at + done) ≡ None) e (none (omega (arith, more, least, zero)))
+ends_at slots seen at done out held count e more least zero none = grind (arith, nat_tests)

@@ -1,16 +1,16 @@
 -- A state determines the replies: two right ones to one question are one.
-use Rattle.std.proofs.Common.{◌≡◌, ℕ, ◌%◌, Bool, ◌&&◌, List, sym, ap, ◌∙◌}
+use Rattle.std.proofs.lemmas.Bool.Decides.{nat_tests}
+use Rattle.std.proofs.Common.{arith, ◌≡◌, ℕ, ◌%◌, Bool, ◌&&◌, List, sym, ◌∙◌}
 use Rattle.store_core.specs.declared.fixed.Fixed.{Fixed}
 use Rattle.store_core.specs.declared.history.Call.TheVariants.{Take, Give, Commit, Settle, Read, Length, Parents, Serve}
 use Rattle.store_core.specs.declared.history.Piece.{Piece}
 use Rattle.store_core.specs.declared.history.Settling.{Settling}
-use Rattle.store_core.specs.Events.{IsRightReply, is_free, settling}
+use Rattle.store_core.specs.Events.{IsRightReply, is_free}
 use Rattle.store_core.specs.Laws.{StateDetermines}
 use Rattle.store_core.specs.Masks.{IsMaskOf, has_bit}
 use Rattle.store_core.specs.Names.{Name}
-use Rattle.store_core.specs.Pieces.{holds_chunk, length_of}
-use Rattle.store_core.specs.Serves.{serving}
-use Rattle.store_core.specs.States.{State, claims, read_bytes}
+use Rattle.store_core.specs.Pieces.{holds_chunk}
+use Rattle.store_core.specs.States.{State, claims}
 use Rattle.store_core.proofs.Tells.{mask_unique}
 
 -- the right reply to a call, which its question fixes
@@ -37,8 +37,7 @@ same_commit fixed s who g p r h q t e f right also =
 
 same_settle : (fixed : Fixed) (s : State) (who : List Name) (p : Piece) (a : Settling) (q : Piece) (b : Settling) → p ≡ q
     → IsRightReply fixed s who (Settle p a) → IsRightReply fixed s who (Settle q b) → Settle p a ≡ Settle q b
-same_settle fixed s who p a q b f right also =
-    let same : a ≡ b = right.3 ∙ ap (λ (x : Piece). settling s.recorded (length_of x)) f ∙ sym also.3 in cc
+same_settle fixed s who p a q b f right also = grind (arith, nat_tests)
 
 pub state_determines : StateDetermines
 state_determines fixed s who (Take g w r) (Take h v t) right also whole same =
@@ -46,14 +45,8 @@ state_determines fixed s who (Take g w r) (Take h v t) right also whole same =
 state_determines fixed s who (Give g m r) (Give h n t) right also whole same = same_give fixed s who g m r h n t (cc) (cc) right also
 state_determines fixed s who (Commit g p r) (Commit h q t) right also whole same = same_commit fixed s who g p r h q t (cc) (cc) right also
 state_determines fixed s who (Settle p a) (Settle q b) right also whole same = same_settle fixed s who p a q b (cc) right also
-state_determines fixed s who (Read at len xs) (Read to count ys) right also whole same =
-    let e : at ≡ to = cc in
-    let f : len ≡ count = cc in
-    let bytes : xs ≡ ys = right ∙ ap (λ (n : ℕ). read_bytes s n len) e ∙ ap (λ (n : ℕ). read_bytes s to n) f ∙ sym also in cc
+state_determines fixed s who (Read at len xs) (Read to count ys) right also whole same = grind (arith, nat_tests)
 state_determines fixed s who (Length a) (Length b) right also whole same = let e : a ≡ b = right ∙ sym also in cc
 state_determines fixed s who (Parents g p a) other right also whole same = cc
-state_determines fixed s who (Serve at len a) (Serve to count b) right also whole same =
-    let e : at ≡ to = cc in
-    let f : len ≡ count = cc in
-    let answers : a ≡ b = right ∙ ap (λ (n : ℕ). serving s n len) e ∙ ap (λ (n : ℕ). serving s to n) f ∙ sym also in cc
+state_determines fixed s who (Serve at len a) (Serve to count b) right also whole same = grind (arith, nat_tests)
 state_determines fixed s who one other right also whole same = cc

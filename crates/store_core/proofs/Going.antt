@@ -1,67 +1,43 @@
 -- What a seat knows goes on twice in a row: a look, and then a look or a call, are one.
-use Rattle.std.proofs.Common.{◌≡◌, ℕ, Bool, List, [], ◌∷◌, ◌++◌, refl, sym, ap, subst, ◌∙◌, append-nil, append_assoc}
+use Rattle.std.proofs.lemmas.Grind.{common_steps}
+use Rattle.std.proofs.lemmas.Bool.Decides.{nat_tests}
+use Rattle.std.proofs.Common.{arith, ◌≡◌, ℕ, Bool, List, [], ◌∷◌, ◌++◌, sym, subst, ◌∙◌, append-nil, append_assoc}
 use Rattle.std.proofs.lemmas.List.Elements.{filter-append}
 use Rattle.store_core.specs.declared.history.Call.{Call}
 use Rattle.store_core.specs.declared.history.Event.{Event}
 use Rattle.store_core.specs.declared.view.Boundaries.{Boundaries}
-use Rattle.store_core.specs.declared.view.Named.{Named}
 use Rattle.store_core.specs.declared.view.SeatView.{SeatView}
 use Rattle.store_core.specs.declared.view.StoredWord.{StoredWord}
-use Rattle.store_core.specs.Histories.{AreOfOthers, IsLegal, events_of, is_by, run, state_after}
+use Rattle.store_core.specs.Histories.{AreOfOthers, IsLegal, run, state_after}
 use Rattle.store_core.specs.Knowledge.{Called, EndsStoring, GoesOn, Looked, Sees, claims_after, event_of}
 use Rattle.store_core.specs.Names.{Name}
-use Rattle.store_core.specs.States.{State, empty}
-use Rattle.store_core.specs.Views.{mine, seat_claims}
+use Rattle.store_core.specs.States.{State}
+use Rattle.store_core.specs.Views.{seat_claims}
 use Rattle.store_core.proofs.Joining.{plain}
 use Rattle.store_core.proofs.Lasting.{run-append}
 
 -- events of others, joined
 pub others-append : (names : List Name) (first second : List Event) → AreOfOthers names first → AreOfOthers names second → AreOfOthers names (first ++ second)
-others-append names first second a b =
-    filter-append (is_by names) first second ∙ ap (λ (events : List Event). events ++ events_of names second) a ∙ b
+others-append names first second a b = grind (arith, nat_tests, filter-append)
 
 pub goes_on_then : (first second third : SeatView) (a b own : List Event) → GoesOn first second a [] → GoesOn second third b own → GoesOn first third (a ++ b) own
-goes_on_then first second third a b own one two = record {
-  fixed_is = two.fixed_is ∙ one.fixed_is;
-  names_are = two.names_are ∙ one.names_are;
-  seen_is = two.seen_is ∙ ap (λ (h : List Event). (h ++ b) ++ own) (one.seen_is ∙ append-nil (first.seen ++ a))
-      ∙ ap (λ (h : List Event). h ++ own) (append_assoc first.seen a b);
-  others = others-append (plain first.names) a b one.others (subst (λ (ns : List Named). AreOfOthers (plain ns) b) one.names_are two.others);
-  mine_is = two.mine_is ∙ ap (λ (m : List Event). m ++ own) (one.mine_is ∙ append-nil (mine first));
-  legal = two.legal;
-}
+goes_on_then first second third a b own one two = grind (arith, nat_tests, append-nil, append_assoc, others-append, plain)
 
 -- nothing seen since
 pub sees_none : (view : SeatView) → IsLegal view.fixed view.seen → Sees view view
-sees_none view legal = record {
-  between = [];
-  goes_on = record {
-    fixed_is = refl;
-    names_are = refl;
-    seen_is = sym (append-nil (view.seen ++ []) ∙ append-nil view.seen);
-    others = refl;
-    mine_is = sym (append-nil _);
-    legal = legal;
-  };
-  claims_are = λ c. refl;
-  written_are = refl;
-  storing_is = refl;
-}
+sees_none view legal = grind (arith, nat_tests, append-nil)
 
 -- the state that a load sees, where its events leave it
 pub looked_state : (events : State → List Event) (old new : SeatView) → ((s : State) → run s (events s) ≡ s) → (looked : Looked events old new)
     → state_after new.seen ≡ state_after (old.seen ++ looked.between)
-looked_state events old new quiet looked =
-    let there : State = state_after (old.seen ++ looked.between) in
-    ap (λ (h : List Event). state_after h) looked.goes_on.seen_is ∙ run-append empty (old.seen ++ looked.between) (events there) ∙ quiet there
+looked_state events old new quiet looked = grind (arith, nat_tests, run-append)
 
 -- whether a call leaves its seat's claims
 abbrev pub LeavesClaims : Call → Type 0
 LeavesClaims call = (claimed : ℕ → Bool) (c : ℕ) → claims_after call claimed c ≡ claimed c
 
 event_same : (first second : SeatView) (call : Call) → second.names ≡ first.names → event_of second call ≡ event_of first call
-event_same first second call same =
-    let by : List Named → Event = λ names. record { who = plain names; call = call } in ap by same
+event_same first second call same = grind (arith, nat_tests, plain)
 
 module _ (first second third : SeatView) (events : State → List Event) (one : Sees first second) (two : Looked events second third) where
   -- the state at the second's load
@@ -73,21 +49,10 @@ module _ (first second third : SeatView) (events : State → List Event) (one : 
       goes_on_then first second third one.between two.between own one.goes_on (subst (λ (es : List Event). GoesOn second third two.between es) is two.goes_on)
 
   pub sees_then : events there ≡ [] → Sees first third
-  sees_then none = record {
-    between = one.between ++ two.between;
-    goes_on = onward [] none;
-    claims_are = λ c. two.claims_are c ∙ one.claims_are c;
-    written_are = two.written_are ∙ one.written_are;
-    storing_is = two.storing_is ∙ one.storing_is;
-  }
+  sees_then none = grind (arith, common_steps, nat_tests, onward)
 
   pub called_then : (call : Call) → LeavesClaims call → events there ≡ event_of second call ∷ [] → Called call first third
-  called_then call leaves is = record {
-    between = one.between ++ two.between;
-    goes_on = onward (event_of first call ∷ []) (is ∙ ap (λ (e : Event). e ∷ []) (event_same first second call one.goes_on.names_are));
-    claims_are = λ c. two.claims_are c ∙ one.claims_are c ∙ sym (leaves (seat_claims first) c);
-    storing_is = two.storing_is ∙ one.storing_is;
-  }
+  called_then call leaves is = grind (arith, common_steps, nat_tests, onward, event_same)
 
 -- A seat that stored no parents sees the history, is storing parents, and stores them in a call: it stores none again.
 pub stored_then : (call : Call) (first second third : SeatView) (storing : List Boundaries) (words : List StoredWord) → LeavesClaims call → first.storing ≡ []

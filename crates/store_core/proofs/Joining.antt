@@ -1,14 +1,14 @@
 -- What a split and a join keep.
-use Rattle.std.proofs.Common.{◌≡◌, ℕ, Bool, true, false, ◌||◌, List, [], ◌∷◌, ◌++◌, map, Option, None, Some, refl, ap, subst, ◌∙◌, inl, inr, append-nil}
-use Rattle.std.proofs.lemmas.Bool.{cases_Bool}
+use Rattle.std.proofs.lemmas.Bool.Decides.{nat_tests}
+use Rattle.std.proofs.Common.{arith, ◌≡◌, ℕ, Bool, ◌||◌, List, [], ◌∷◌, map, Option, None, Some, refl, ap, ◌∙◌, append-nil}
 use Rattle.std.proofs.lemmas.List.Elements.{filter-append}
 use Rattle.store_core.specs.declared.fixed.Fixed.{Fixed}
 use Rattle.store_core.specs.declared.history.Event.{Event}
 use Rattle.store_core.specs.declared.view.Named.{Named}
 use Rattle.store_core.specs.declared.view.SeatView.{SeatView}
-use Rattle.store_core.specs.Histories.{IsLegal, events_of, is_by, state_after}
+use Rattle.store_core.specs.Histories.{IsLegal, events_of, state_after}
 use Rattle.store_core.specs.Laws.{JoinKeeps, SplitKeeps}
-use Rattle.store_core.specs.Names.{Name, has_name, name_le, same_name}
+use Rattle.store_core.specs.Names.{Name, has_name, same_name}
 use Rattle.store_core.specs.States.{claims, is_among}
 use Rattle.store_core.specs.Views.{Continues, merge_names, mine, names_of, put_name, raise_least, seat_claims}
 use Rattle.store_core.proofs.Lasting.{claims_last}
@@ -18,52 +18,29 @@ abbrev pub plain : List Named → List Name
 plain names = map (λ named. named.name) names
 
 raised : (names : List Named) → plain (raise_least names) ≡ plain names
-raised [] = refl
-raised (named ∷ names) = refl
+raised names = grind (arith, nat_tests)
 
 pub split_keeps : SplitKeeps
 split_keeps view = raised view.names
 
-swap_or : (a b c : Bool) → (b || (a || c)) ≡ (a || (b || c))
-swap_or true true c = refl
-swap_or true false c = refl
-swap_or false true c = refl
-swap_or false false c = refl
-
-or_assoc : (a b c : Bool) → (a || (b || c)) ≡ ((a || b) || c)
-or_assoc true b c = refl
-or_assoc false b c = refl
-
 pub put-has : (named : Named) (others : List Named) (name : Name)
     → has_name (plain (put_name named others)) name ≡ (same_name name named.name || has_name (plain others) name)
 put-has named [] name = refl
-put-has named (other ∷ others) name = elim (cases_Bool (name_le named.name other.name)) [
-  | inl first ↦ rw first refl
-  | inr later ↦ rw later (ap (λ (b : Bool). same_name name other.name || b) (put-has named others name)
-      ∙ swap_or (same_name name named.name) (same_name name other.name) (has_name (plain others) name))
-]
+put-has named (other ∷ others) name = grind (arith, nat_tests, put-has named others name)
 
 pub merge-has : (ours theirs : List Named) (name : Name)
     → has_name (plain (merge_names ours theirs)) name ≡ (has_name (plain ours) name || has_name (plain theirs) name)
 merge-has [] theirs name = refl
-merge-has (named ∷ ours) theirs name = put-has named (merge_names ours theirs) name
-    ∙ ap (λ (b : Bool). same_name name named.name || b) (merge-has ours theirs name)
-    ∙ or_assoc (same_name name named.name) (has_name (plain ours) name) (has_name (plain theirs) name)
+merge-has (named ∷ ours) theirs name = grind (arith, nat_tests, put-has, merge-has ours theirs name)
 
 -- what follows is of others, so a seat's own calls are the same
 pub continued : (view : SeatView) (history : List Event) → Continues view history → events_of (names_of view) history ≡ mine view
-continued view history k =
-    ap (λ (h : List Event). events_of (names_of view) h) k.is
-    ∙ filter-append (is_by (names_of view)) view.seen k.between
-    ∙ ap (λ (h : List Event). mine view ++ h) k.others
-    ∙ append-nil (mine view)
+continued view history k = grind (arith, nat_tests, filter-append, append-nil)
 
 -- and so are its claims
 pub claims_continued : (fixed : Fixed) (view : SeatView) (history : List Event) → Continues view history → IsLegal fixed history
     → (c : ℕ) → claims (names_of view) (state_after history) c ≡ seat_claims view c
-claims_continued fixed view history k legal c =
-    ap (λ (h : List Event). claims (names_of view) (state_after h) c) k.is
-    ∙ claims_last fixed view.seen k.between (names_of view) c (subst (λ (h : List Event). IsLegal fixed h) k.is legal) k.others
+claims_continued fixed view history k legal c = grind (arith, nat_tests, claims_last)
 
 among_either : (ours theirs both : List Name) (o : Option Name) → ((name : Name) → has_name both name ≡ (has_name ours name || has_name theirs name))
     → is_among both o ≡ (is_among ours o || is_among theirs o)

@@ -1,25 +1,24 @@
 -- The pieces of a run's events are pieces of the list.
-use Rattle.std.proofs.Common.{◌≡◌, ℕ, ◌==◌, Bool, true, false, if◌then◌else◌, List, [], ◌∷◌, Option, None, Some, option_map, slice_get, refl, sym, subst, inl, inr}
+use Rattle.std.proofs.lemmas.Bool.Decides.{nat_tests}
+use Rattle.std.proofs.Common.{arith, ◌≡◌, ℕ, false, List, [], ◌∷◌, Option, None, Some, option_map, slice_get, refl, sym, subst, inl, inr}
 use Rattle.std.specs.List.{AllByRecursion}
-use Rattle.std.proofs.lemmas.Bool.{cases_Bool}
 use Rattle.b3tree.specs.Valid.{IsKeyed}
 use Rattle.bao_check.specs.declared.checked.Checked.{Checked}
 use Rattle.bao_check.proofs.Lists.{All-append, All-member}
 use Rattle.store_core.specs.declared.fixed.Fixed.{Fixed}
 use Rattle.store_core.specs.declared.history.Call.{Call}
-use Rattle.store_core.specs.declared.history.Call.TheVariants.{Take, Give, Commit, Read, Settle as SettleCall, Length as LengthCall, Parents, Serve}
+use Rattle.store_core.specs.declared.history.Call.TheVariants.{Commit, Settle as SettleCall}
 use Rattle.store_core.specs.declared.history.Event.{Event}
 use Rattle.store_core.specs.declared.history.Piece.{Piece}
-use Rattle.store_core.specs.declared.history.Settling.{Settling as Answer}
-use Rattle.store_core.specs.declared.history.Settling.TheVariants.{Settled, Known, Differs, OtherRoot, TooLarge}
+use Rattle.store_core.specs.declared.history.Settling.TheVariants.{Settled}
 use Rattle.store_core.specs.declared.micro.MicroStep.{MicroStep}
-use Rattle.store_core.specs.declared.micro.MicroStep.TheVariants.{Claim, Hash, Write, Publish, GiveBack, Load, Settle, Length}
+use Rattle.store_core.specs.declared.micro.MicroStep.TheVariants.{Hash, Write, GiveBack, Load}
 use Rattle.store_core.specs.declared.micro.Reply.{Reply}
 use Rattle.store_core.specs.declared.store.Store.{Store}
 use Rattle.store_core.specs.Machine.{Machine, MachineSeat, start, with_seat}
 use Rattle.store_core.specs.Pieces.{piece_of}
 use Rattle.store_core.specs.Replays.{IsListed, ReplayBinds}
-use Rattle.store_core.specs.Schedules.{Runs, after_step, commit_by, event_by, is_last_load, mask_in, read_after, settle_answer, settle_by, step_events}
+use Rattle.store_core.specs.Schedules.{Runs, after_step, step_events}
 use Rattle.store_core.specs.States.{State}
 use Rattle.store_core.proofs.Bound.{held_binds, record_binds}
 
@@ -29,14 +28,9 @@ AreListed fixed pieces m = (n : ℕ) (piece : Piece) → (m.seat n).piece ≡ So
 
 -- the piece that an event commits or settles a length by is one of the list
 abbrev IsCallOf : Fixed → List Checked → Call → Type 0
-IsCallOf fixed pieces (Take group want granted) = Unit {0}
-IsCallOf fixed pieces (Give group mask given) = Unit {0}
 IsCallOf fixed pieces (Commit group piece committed) = IsListed fixed pieces piece
 IsCallOf fixed pieces (SettleCall piece answer) = IsListed fixed pieces piece
-IsCallOf fixed pieces (Read at len bytes) = Unit {0}
-IsCallOf fixed pieces (LengthCall recorded) = Unit {0}
-IsCallOf fixed pieces (Parents group piece answer) = Unit {0}
-IsCallOf fixed pieces (Serve at len answer) = Unit {0}
+IsCallOf fixed pieces call = Unit {0}
 
 abbrev IsEventOf : Fixed → List Checked → Event → Type 0
 IsEventOf fixed pieces e = IsCallOf fixed pieces e.call
@@ -55,54 +49,22 @@ hash_listed fixed pieces i (Some checked) piece e h =
 -- a seat that is changed
 seat_listed : (fixed : Fixed) (pieces : List Checked) (m : Machine) (n : ℕ) (seat : MachineSeat) → AreListed fixed pieces m → ((piece : Piece) → seat.piece ≡ Some piece → IsListed fixed pieces piece)
     → AreListed fixed pieces (with_seat m n seat)
-seat_listed fixed pieces m n seat are its k piece h = elim (cases_Bool (k == n)) [
-  | inl hit ↦ its piece (rw hit at h)
-  | inr miss ↦ are k piece (rw miss at h)
-]
+seat_listed fixed pieces m n seat are its k piece h = grind (arith, nat_tests)
 
 step_listed : (fixed : Fixed) (pieces : List Checked) (m : Machine) (step : MicroStep) (reply : Option Reply) → AreListed fixed pieces m
     → AreListed fixed pieces (after_step fixed pieces m step reply)
-step_listed fixed pieces m (Claim n group want) reply are = are
 step_listed fixed pieces m (Hash n i) reply are =
     seat_listed fixed pieces m n (record (m.seat n) { piece = option_map (piece_of fixed.base) (slice_get pieces i); written = λ c w. false }) are
     (λ piece h. hash_listed fixed pieces i (slice_get pieces i) piece refl h)
 step_listed fixed pieces m (Write n c w) reply are = seat_listed fixed pieces m n _ are (are n)
-step_listed fixed pieces m (Publish n group) reply are = are
 step_listed fixed pieces m (GiveBack n group mask) reply are = seat_listed fixed pieces m n _ are (are n)
 step_listed fixed pieces m (Load n at len) reply are = seat_listed fixed pieces m n _ are (are n)
-step_listed fixed pieces m (Settle n) reply are = are
-step_listed fixed pieces m (Length n) reply are = are
+step_listed fixed pieces m step reply are = are
 
--- the events of a Publish, of a Settle and of a Load
-commit_listed : (fixed : Fixed) (pieces : List Checked) (n group mask : ℕ) (o : Option Piece) → ((piece : Piece) → o ≡ Some piece → IsListed fixed pieces piece)
-    → AllByRecursion (IsEventOf fixed pieces) (commit_by n group o mask)
-commit_listed fixed pieces n group mask None are = tt
-commit_listed fixed pieces n group mask (Some piece) are = (are piece refl, tt)
-
-settle_listed : (fixed : Fixed) (pieces : List Checked) (n : ℕ) (o : Option Piece) (answer : Answer) → ((piece : Piece) → o ≡ Some piece → IsListed fixed pieces piece)
-    → AllByRecursion (IsEventOf fixed pieces) (settle_by n o answer)
-settle_listed fixed pieces n None answer are = tt
-settle_listed fixed pieces n (Some piece) Settled are = (are piece refl, tt)
-settle_listed fixed pieces n (Some piece) Known are = (are piece refl, tt)
-settle_listed fixed pieces n (Some piece) Differs are = (are piece refl, tt)
-settle_listed fixed pieces n (Some piece) OtherRoot are = (are piece refl, tt)
-settle_listed fixed pieces n (Some piece) TooLarge are = tt
-
-read_listed : (fixed : Fixed) (pieces : List Checked) (last : Bool) (n at len : ℕ) (bytes : List ℕ)
-    → AllByRecursion (IsEventOf fixed pieces) (if last then event_by n (Read at len bytes) else [])
-read_listed fixed pieces true n at len bytes = (tt, tt)
-read_listed fixed pieces false n at len bytes = tt
-
+-- the events of a step
 events_listed : (fixed : Fixed) (pieces : List Checked) (m : Machine) (step : MicroStep) (reply : Option Reply) → AreListed fixed pieces m
     → AllByRecursion (IsEventOf fixed pieces) (step_events fixed m step reply)
-events_listed fixed pieces m (Claim n group want) reply are = (tt, tt)
-events_listed fixed pieces m (Hash n i) reply are = tt
-events_listed fixed pieces m (Write n c w) reply are = tt
-events_listed fixed pieces m (Publish n group) reply are = commit_listed fixed pieces n group (mask_in reply) (m.seat n).piece (are n)
-events_listed fixed pieces m (GiveBack n group mask) reply are = (tt, tt)
-events_listed fixed pieces m (Load n at len) reply are = read_listed fixed pieces (is_last_load fixed m n at len) n at len (read_after fixed m n at len).bytes
-events_listed fixed pieces m (Settle n) reply are = settle_listed fixed pieces n (m.seat n).piece (settle_answer fixed m n) (are n)
-events_listed fixed pieces m (Length n) reply are = (tt, tt)
+events_listed fixed pieces m step reply are = grind (arith, nat_tests)
 
 runs_listed : (fixed : Fixed) (pieces : List Checked) (m : Machine) (steps : List MicroStep) (replies : List Reply) (history : List Event) (last : Machine)
     → AreListed fixed pieces m → Runs fixed pieces m steps replies history last → AllByRecursion (IsEventOf fixed pieces) history

@@ -1,4 +1,5 @@
 -- Names of splits, of merged sets, and in common.
+use Rattle.std.proofs.lemmas.Bool.Decides.{nat_tests}
 use Rattle.std.proofs.Common.{◌≡◌, ◌⊎◌, ℕ, ◌<◌, ◌+◌, false, true, List, [], ◌∷◌, ◌++◌, length, Contains, refl, sym, ap, subst, arith, inl, inr, length-append}
 use Rattle.std.proofs.lemmas.Bool.{both_ways, cases_Bool, false_from_ne_true, or_cases, or_left, or_right}
 use Rattle.bao_check.proofs.Lists.{Contains-cons_cases, Contains-head, Contains-tail}
@@ -22,16 +23,13 @@ abbrev pub child : Named → Named
 child named = record { name = named.name ++ named.splits ∷ []; splits = 0 }
 
 pub new_names-are : (names : List Named) → 0 < length names → new_names names ≡ child (first_entry names) ∷ []
-new_names-are [] none = absurd (omega arith)
-new_names-are (named ∷ names) more = refl
+new_names-are names none = grind (arith, nat_tests)
 
 pub raise-length : (names : List Named) → length (raise_least names) ≡ length names
-raise-length [] = refl
-raise-length (named ∷ names) = refl
+raise-length names = grind (arith, nat_tests)
 
 pub first_there : (names : List Named) → 0 < length names → Contains names (first_entry names)
-first_there [] none = absurd (omega arith)
-first_there (named ∷ names) more = Contains-head names named
+first_there names none = grind (arith, nat_tests)
 
 -- an entry's name is one of the set
 pub name_there : (names : List Named) (one : Named) → Contains names one → has_name (plain names) one.name ≡ true

@@ -3,7 +3,7 @@ use Rattle.std.proofs.Common.{◌≡◌, ℕ, ◌%◌, nat_lt, Bool, not, ◌&&�
 use Rattle.store_core.specs.declared.fixed.Fixed.{Fixed}
 use Rattle.store_core.specs.declared.history.Event.{Event}
 use Rattle.store_core.specs.declared.micro.MicroStep.{MicroStep}
-use Rattle.store_core.specs.declared.micro.MicroStep.TheVariants.{Claim, Hash, Write, Publish, GiveBack, Load, Settle, Length}
+use Rattle.store_core.specs.declared.micro.MicroStep.TheVariants.{Claim, Publish, GiveBack}
 use Rattle.store_core.specs.declared.micro.Reply.{Reply}
 use Rattle.store_core.specs.declared.micro.Reply.TheVariants.{Granted, Committed, Given}
 use Rattle.store_core.specs.Laws.{RunsAreOne}
@@ -20,15 +20,11 @@ same_mask group m n test kind one other e f is also = e ∙ ap (λ (k : ℕ). So
 one_reply : (fixed : Fixed) (m : Machine) (step : MicroStep) (one other : Option Reply) → IsReply fixed m step one → IsReply fixed m step other → one ≡ other
 one_reply fixed m (Claim n group want) one other r s =
     same_mask group r.0 s.0 (λ c. has_bit want (c % 64) && (nat_lt c fixed.capacity && not (is_shown m c || is_some (m.claim c)))) (λ k. Granted k) one other r.1 s.1 r.2 s.2
-one_reply fixed m (Hash n i) one other r s = r ∙ sym s
-one_reply fixed m (Write n c w) one other r s = r ∙ sym s
 one_reply fixed m (Publish n group) one other r s =
     same_mask group r.0 s.0 (λ c. seat_has m n c && current_holds (m.seat n).piece c) (λ k. Committed k) one other r.1 s.1 r.2 s.2
 one_reply fixed m (GiveBack n group mask) one other r s =
     same_mask group r.0 s.0 (λ c. has_bit mask (c % 64) && seat_has m n c) (λ k. Given k) one other r.1 s.1 r.2 s.2
-one_reply fixed m (Load n at len) one other r s = r ∙ sym s
-one_reply fixed m (Settle n) one other r s = r ∙ sym s
-one_reply fixed m (Length n) one other r s = r ∙ sym s
+one_reply fixed m step one other r s = r ∙ sym s
 
 pub runs_are_one : RunsAreOne
 runs_are_one fixed pieces m [] replies replies' history history' last last' a b = (a.0 ∙ sym b.0, a.1 ∙ sym b.1, a.2 ∙ sym b.2)

@@ -1,6 +1,7 @@
 -- Names in dictionary order stay so where one splits and where sets are joined.
-use Rattle.std.proofs.Common.{ltb-false, ◌≤◌, ◌≡◌, ◌<◌, nat_lt, ◌==◌, Bool, true, false, ◌&&◌, ◌||◌, List, [], ◌∷◌, Some, refl, sym, ap, subst, ◌∙◌, arith, inl, inr, eq-eqb, eqb-true, ltb-true, lt-ltb}
-use Rattle.std.proofs.lemmas.Bool.{and_from, and_parts, both_ways, cases_Bool, false_from_ne_true, false≢true, or_cases, or_left, or_parts, or_right}
+use Rattle.std.proofs.lemmas.Bool.Decides.{nat_tests}
+use Rattle.std.proofs.Common.{◌≡◌, Bool, true, false, ◌||◌, List, [], ◌∷◌, refl, sym, ap, subst, ◌∙◌, arith, inl, inr, eq-eqb}
+use Rattle.std.proofs.lemmas.Bool.{and_from, both_ways, cases_Bool, false_from_ne_true, false≢true, or_cases, or_left, or_right}
 use Rattle.store_core.specs.declared.view.Named.{Named}
 use Rattle.store_core.specs.Names.{Name, has_name, name_le, same_name}
 use Rattle.store_core.specs.Orders.{AreInOrder, ComesBefore, IsLeast, JoinKeepsOrder, LeastIsOne, OrderIsOne, SplitKeepsOrder}
@@ -12,40 +13,13 @@ use Rattle.store_core.proofs.Tells.{common_name, same_name-refl, same_name-true,
 le_total : (a b : Name) → name_le a b ≡ false → name_le b a ≡ true
 le_total [] b h = absurd (false≢true (sym h))
 le_total (x ∷ xs) [] h = refl
-le_total (x ∷ xs) (y ∷ ys) h =
-    let parts = or_parts (nat_lt x y) ((x == y) && name_le xs ys) h in
-    elim (cases_Bool (nat_lt y x)) [
-      | inl less ↦ or_left _ _ less
-      | inr more ↦
-          let same : y ≡ x = omega (arith, parts.0, more, ltb-false) in
-          let rest : name_le xs ys ≡ false =
-          ap (λ (b : Bool). b && name_le xs ys) (sym (eq-eqb x y (sym same))) ∙ parts.1 in
-          or_right _ _ (and_from _ _ (eq-eqb y x same) (le_total xs ys rest))
-    ]
+le_total (x ∷ xs) (y ∷ ys) h = grind (arith, nat_tests, le_total xs ys)
 
 le_trans : (a b c : Name) → name_le a b ≡ true → name_le b c ≡ true → name_le a c ≡ true
 le_trans [] b c h k = refl
 le_trans (x ∷ xs) [] c h k = absurd (false≢true h)
 le_trans (x ∷ xs) (y ∷ ys) [] h k = absurd (false≢true k)
-le_trans (x ∷ xs) (y ∷ ys) (z ∷ zs) h k = elim (or_cases (nat_lt x y) ((x == y) && name_le xs ys) h) [
-  | inl less ↦
-      let a : x < y = ltb-true x y less in
-      let b : y ≤ z = elim (or_cases (nat_lt y z) ((y == z) && name_le ys zs) k) [
-        | inl more ↦ let c : y < z = ltb-true y z more in omega arith
-        | inr same ↦ let e : y ≡ z = eqb-true y z (and_parts (y == z) (name_le ys zs) same).0 in omega (arith, e)
-      ] in
-      or_left _ _ (lt-ltb x z (omega (arith, a, b)))
-  | inr same ↦
-      let p = and_parts (x == y) (name_le xs ys) same in
-      let e : x ≡ y = eqb-true x y p.0 in
-      elim (or_cases (nat_lt y z) ((y == z) && name_le ys zs) k) [
-        | inl more ↦ let c : y < z = ltb-true y z more in or_left _ _ (lt-ltb x z (omega (arith, e, c)))
-        | inr also ↦
-            let q = and_parts (y == z) (name_le ys zs) also in
-            let f : y ≡ z = eqb-true y z q.0 in
-            or_right _ _ (and_from _ _ (eq-eqb x z (e ∙ f)) (le_trans xs ys zs p.1 q.1))
-      ]
-]
+le_trans (x ∷ xs) (y ∷ ys) (z ∷ zs) h k = grind (arith, nat_tests, le_trans xs ys zs)
 
 -- what comes before a set isn't in it
 pub before_has : (name : Name) (names : List Name) → ComesBefore name names → has_name names name ≡ false
@@ -55,30 +29,17 @@ before_has name (other ∷ others) h = ap (λ (b : Bool). b || has_name others n
 -- what comes before the first of a set comes before all of it, unless it is one of them
 before_all : (name other : Name) (names : List Name) → name_le name other ≡ true → ComesBefore other names → has_name names name ≡ false → ComesBefore name names
 before_all name other [] le h free = tt
-before_all name other (one ∷ names) le h free =
-    let parts = or_parts (same_name name one) (has_name names name) free in
-    (le_trans name other one le h.0, parts.0, before_all name other names le h.2 parts.1)
+before_all name other (one ∷ names) le h free = grind (arith, nat_tests, le_trans, before_all name other names le)
 
 before_put : (name : Name) (named : Named) (others : List Named) → name_le name named.name ≡ true → same_name name named.name ≡ false
     → ComesBefore name (plain others) → ComesBefore name (plain (put_name named others))
 before_put name named [] le differ h = (le, differ, tt)
-before_put name named (other ∷ others) le differ h = elim (cases_Bool (name_le named.name other.name)) [
-  | inl first ↦ rw first (le, differ, h)
-  | inr later ↦ rw later (h.0, h.1, before_put name named others le differ h.2)
-]
+before_put name named (other ∷ others) le differ h = grind (arith, nat_tests, before_put name named others le differ)
 
 put_order : (named : Named) (others : List Named) → AreInOrder (plain others) → has_name (plain others) named.name ≡ false
     → AreInOrder (plain (put_name named others))
 put_order named [] order free = (tt, tt)
-put_order named (other ∷ others) order free =
-    let parts = or_parts (same_name named.name other.name) (has_name (plain others) named.name) free in
-    elim (cases_Bool (name_le named.name other.name)) [
-      | inl first ↦ rw first ((first, parts.0, before_all named.name other.name (plain others) first order.0 parts.1), order)
-      | inr later ↦ rw later (
-        before_put other.name named others (le_total named.name other.name later) (same_name-turned other.name named.name ∙ parts.0) order.0,
-        put_order named others order.1 parts.1,
-      )
-    ]
+put_order named (other ∷ others) order free = grind (arith, nat_tests, plain, before_all, before_put, le_total, same_name-turned, put_order named others)
 
 pub merge_order : (ours theirs : List Named) → AreInOrder (plain ours) → AreInOrder (plain theirs)
     → ((name : Name) → has_name (plain ours) name ≡ true → has_name (plain theirs) name ≡ false) → AreInOrder (plain (merge_names ours theirs))
@@ -89,8 +50,7 @@ merge_order (named ∷ ours) theirs a b apart =
     ∙ apart named.name (or_left _ _ (same_name-refl named.name)))
 
 new_order : (names : List Named) → AreInOrder (plain (new_names names))
-new_order [] = tt
-new_order (named ∷ names) = (tt, tt)
+new_order names = grind (arith, nat_tests)
 
 pub split_keeps_order : SplitKeepsOrder
 split_keeps_order view order = (subst (λ (ns : List Name). AreInOrder ns) (sym (split_keeps view)) order, new_order view.names)
@@ -110,30 +70,11 @@ le_antisym : (a b : Name) → name_le a b ≡ true → name_le b a ≡ true → 
 le_antisym [] [] h k = refl
 le_antisym [] (y ∷ ys) h k = absurd (false≢true k)
 le_antisym (x ∷ xs) [] h k = absurd (false≢true h)
-le_antisym (x ∷ xs) (y ∷ ys) h k = elim (or_cases (nat_lt x y) ((x == y) && name_le xs ys) h) [
-  | inl less ↦
-      let a : x < y = ltb-true x y less in
-      elim (or_cases (nat_lt y x) ((y == x) && name_le ys xs) k) [
-        | inl more ↦ let b : y < x = ltb-true y x more in absurd (omega (arith, a, b))
-        | inr same ↦ let e : y ≡ x = eqb-true y x (and_parts (y == x) (name_le ys xs) same).0 in absurd (omega (arith, a, e))
-      ]
-  | inr same ↦
-      let p = and_parts (x == y) (name_le xs ys) same in
-      let e : x ≡ y = eqb-true x y p.0 in
-      elim (or_cases (nat_lt y x) ((y == x) && name_le ys xs) k) [
-        | inl more ↦ let b : y < x = ltb-true y x more in absurd (omega (arith, e, b))
-        | inr also ↦
-            let tail : xs ≡ ys = le_antisym xs ys p.1 (and_parts (y == x) (name_le ys xs) also).1 in
-            λ i. e i ∷ tail i
-      ]
-]
+le_antisym (x ∷ xs) (y ∷ ys) h k = grind (arith, nat_tests, le_antisym xs ys)
 
 before_le : (name : Name) (names : List Name) → ComesBefore name names → (other : Name) → has_name names other ≡ true → name_le name other ≡ true
 before_le name [] h other is = absurd (false≢true is)
-before_le name (one ∷ names) h other is = elim (or_cases (same_name other one) (has_name names other) is) [
-  | inl same ↦ subst (λ (n : Name). name_le name n ≡ true) (sym (same_name-true other one same)) h.0
-  | inr rest ↦ before_le name names h.2 other rest
-]
+before_le name (one ∷ names) h other is = grind (arith, nat_tests, same_name-true, before_le name names)
 
 first_least : (name : Name) (names : List Name) → ComesBefore name names → IsLeast (name ∷ names) name
 first_least name names h = record {
@@ -145,12 +86,7 @@ first_least name names h = record {
 }
 
 pub least_is_one : LeastIsOne
-least_is_one [] name order = (λ h. cc, λ is. absurd (false≢true is.among))
-least_is_one (first ∷ names) name order =
-    let own : IsLeast (first ∷ names) first = first_least first names order.0 in (
-      λ h. let same : first ≡ name = cc in subst (λ (n : Name). IsLeast (first ∷ names) n) same own,
-      λ is. ap (λ (n : Name). Some n) (le_antisym first name (own.least name is.among) (is.least first own.among)),
-    )
+least_is_one x0 name order = grind (arith, nat_tests, false≢true, first_least, le_antisym)
 
 -- what follows the least name is the rest of the set
 same_rest : (x : Name) (xs ys : List Name) → ComesBefore x xs → ComesBefore x ys → ((name : Name) → has_name (x ∷ xs) name ≡ has_name (x ∷ ys) name)

@@ -1,17 +1,18 @@
 -- Parents that a store holds: they stay, and come from pieces that claim the recorded length.
-use Rattle.std.proofs.Common.{◌≡◌, ◌⊎◌, ℕ, true, List, [], ◌∷◌, None, Some, sym, ◌∙◌, inl, inr}
+use Rattle.std.proofs.Common.{rules, arith, ◌≡◌, ◌⊎◌, ℕ, true, List, [], ◌∷◌, Some, inl, inr}
+use Rattle.std.proofs.lemmas.Bool.Decides.{nat_tests}
 use Rattle.std.specs.Prelude.{Contains}
 use Rattle.std.proofs.lemmas.Bool.{cases_Bool}
 use Rattle.bao_check.proofs.Lists.{Contains-head, Contains-tail}
 use Rattle.store_core.specs.declared.fixed.Fixed.{Fixed}
 use Rattle.store_core.specs.declared.history.Call.{Call}
-use Rattle.store_core.specs.declared.history.Call.TheVariants.{Take, Give, Commit, Settle, Read, Length, Parents, Serve}
+use Rattle.store_core.specs.declared.history.Call.TheVariants.{Parents}
 use Rattle.store_core.specs.declared.history.Event.{Event}
 use Rattle.store_core.specs.declared.history.Piece.{Piece}
 use Rattle.store_core.specs.declared.history.Storing.{Storing}
 use Rattle.store_core.specs.declared.history.Storing.TheVariants.{OtherLength, Stored}
 use Rattle.store_core.specs.Events.{IsRightReply, after, after_call, parents_after}
-use Rattle.store_core.specs.Histories.{AreLegalFrom, run, state_after}
+use Rattle.store_core.specs.Histories.{AreLegalFrom, run}
 use Rattle.store_core.specs.Laws.{ParentIsStored, ParentLasts}
 use Rattle.store_core.specs.Masks.{in_mask}
 use Rattle.store_core.specs.Names.{Name}
@@ -20,24 +21,9 @@ use Rattle.store_core.specs.States.{State, empty}
 use Rattle.store_core.proofs.Lasting.{legal-append, recorded_from, run-append}
 
 -- a parent that is held isn't stored again
-parent_stays : (fixed : Fixed) (s : State) (who : List Name) (group : ℕ) (piece : Piece) (answer : Storing) → IsRightReply fixed s who (Parents group piece answer)
-    → (m : ℕ) (bytes : List ℕ) → s.parents m ≡ Some bytes → parents_after answer group piece s.parents m ≡ Some bytes
-parent_stays fixed s who group piece OtherLength right m bytes h = h
-parent_stays fixed s who group piece (Stored mask) right m bytes h = elim (cases_Bool (in_mask group mask m)) [
-  | inl hit ↦ let none : None ≡ Some bytes = sym (right.1.1 m hit).1 ∙ h in cc
-  | inr miss ↦ rw miss h
-]
-
 parent_call : (fixed : Fixed) (s : State) (who : List Name) (call : Call) → IsRightReply fixed s who call
     → (m : ℕ) (bytes : List ℕ) → s.parents m ≡ Some bytes → (after_call who call s).parents m ≡ Some bytes
-parent_call fixed s who (Take g w r) right m bytes h = h
-parent_call fixed s who (Give g n r) right m bytes h = h
-parent_call fixed s who (Commit g piece r) right m bytes h = h
-parent_call fixed s who (Settle piece answer) right m bytes h = h
-parent_call fixed s who (Read at len out) right m bytes h = h
-parent_call fixed s who (Length recorded) right m bytes h = h
-parent_call fixed s who (Parents group piece answer) right m bytes h = parent_stays fixed s who group piece answer right m bytes h
-parent_call fixed s who (Serve start len answer) right m bytes h = h
+parent_call fixed s who call right m bytes h = grind (arith, nat_tests)
 
 pub parents_from : (fixed : Fixed) (s : State) (events : List Event) → AreLegalFrom fixed s events
     → (m : ℕ) (bytes : List ℕ) → s.parents m ≡ Some bytes → (run s events).parents m ≡ Some bytes
@@ -46,9 +32,7 @@ parents_from fixed s (e ∷ events) legal m bytes h =
     parents_from fixed (after s e) events legal.1 m bytes (parent_call fixed s e.who e.call legal.0 m bytes h)
 
 pub parent_lasts : ParentLasts
-parent_lasts fixed history more m bytes legal h =
-    let parts = legal-append fixed empty history more legal in
-    rw run-append (parents_from fixed (state_after history) more parts.1 m bytes h)
+parent_lasts fixed history more m bytes legal h = grind (arith, nat_tests, legal-append, run-append, parents_from)
 
 -- a parent that some of the events stored, from a state on
 record StoredFrom (fixed : Fixed) (s : State) (events : List Event) (m : ℕ) (bytes : List ℕ) : Type 0 where
@@ -68,17 +52,14 @@ store_parent : (fixed : Fixed) (s : State) (who : List Name) (group : ℕ) (piec
     → (s.parents m ≡ Some bytes) ⊎ StoredFrom fixed s (record { who = who; call = Parents group piece answer } ∷ events) m bytes
 store_parent fixed s who group piece OtherLength events right legal m bytes h = inl h
 store_parent fixed s who group piece (Stored mask) events right legal m bytes h = elim (cases_Bool (in_mask group mask m)) [
-  | inl hit ↦ inr (record {
-    who = who;
-    group = group;
-    piece = piece;
-    mask = mask;
-    there = Contains-head events (record { who = who; call = Parents group piece (Stored mask) });
-    accepted = right.0;
-    stored = hit;
-    has = rw hit at h;
-    length_is = recorded_from fixed (after_call who (Parents group piece (Stored mask)) s) events legal (length_of piece) right.1.0;
-  })
+  | inl hit ↦ inr (search (
+    rules,
+    Contains-head events (record { who = who; call = Parents group piece (Stored mask) }),
+    right.0,
+    hit,
+    (rw hit at h),
+    recorded_from fixed (after_call who (Parents group piece (Stored mask)) s) events legal (length_of piece) right.1.0,
+  ))
   | inr miss ↦ inl (rw miss at h)
 ]
 
@@ -86,45 +67,15 @@ store_parent fixed s who group piece (Stored mask) events right legal m bytes h 
 call_parent : (fixed : Fixed) (s : State) (who : List Name) (call : Call) (events : List Event) → IsRightReply fixed s who call → AreLegalFrom fixed (after_call who call s) events
     → (m : ℕ) (bytes : List ℕ) → (after_call who call s).parents m ≡ Some bytes
     → (s.parents m ≡ Some bytes) ⊎ StoredFrom fixed s (record { who = who; call = call } ∷ events) m bytes
-call_parent fixed s who (Take g w r) events right legal m bytes h = inl h
-call_parent fixed s who (Give g n r) events right legal m bytes h = inl h
-call_parent fixed s who (Commit g piece r) events right legal m bytes h = inl h
-call_parent fixed s who (Settle piece answer) events right legal m bytes h = inl h
-call_parent fixed s who (Read at len out) events right legal m bytes h = inl h
-call_parent fixed s who (Length recorded) events right legal m bytes h = inl h
-call_parent fixed s who (Parents group piece answer) events right legal m bytes h = store_parent fixed s who group piece answer events right legal m bytes h
-call_parent fixed s who (Serve start len answer) events right legal m bytes h = inl h
+call_parent fixed s who call events right legal m bytes h = grind (arith, nat_tests, store_parent)
 
 stored_from : (fixed : Fixed) (s : State) (events : List Event) → AreLegalFrom fixed s events
     → (m : ℕ) (bytes : List ℕ) → (run s events).parents m ≡ Some bytes → (s.parents m ≡ Some bytes) ⊎ StoredFrom fixed s events m bytes
 stored_from fixed s [] legal m bytes h = inl h
 stored_from fixed s (e ∷ events) legal m bytes h = elim (stored_from fixed (after s e) events legal.1 m bytes h) [
   | inl before ↦ call_parent fixed s e.who e.call events legal.0 legal.1 m bytes before
-  | inr later ↦ inr (record {
-    who = later.who;
-    group = later.group;
-    piece = later.piece;
-    mask = later.mask;
-    there = Contains-tail events e (record { who = later.who; call = Parents later.group later.piece (Stored later.mask) }) later.there;
-    accepted = later.accepted;
-    stored = later.stored;
-    has = later.has;
-    length_is = later.length_is;
-  })
+  | inr later ↦ inr (search (rules, Contains-tail))
 ]
 
 pub parent_is_stored : ParentIsStored
-parent_is_stored fixed history m bytes legal h = elim (stored_from fixed empty history legal m bytes h) [
-  | inl none ↦ cc
-  | inr k ↦ record {
-    who = k.who;
-    group = k.group;
-    piece = k.piece;
-    mask = k.mask;
-    there = k.there;
-    accepted = k.accepted;
-    stored = k.stored;
-    has = k.has;
-    length_is = k.length_is;
-  }
-]
+parent_is_stored fixed history m bytes legal h = elim (stored_from fixed empty history legal m bytes h) [ inl none ↦ cc | inr k ↦ search rules ]

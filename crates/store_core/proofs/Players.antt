@@ -1,5 +1,6 @@
 -- Players in a list.
-use Rattle.std.proofs.Common.{◌≡◌, ◌≢◌, ℕ, zero, suc, ◌<◌, ◌==◌, if◌then◌else◌, List, [], ◌∷◌, length, get_or, remove, Option, None, Some, refl, sym, ap, ◌∙◌, arith, eq-eqb}
+use Rattle.std.proofs.lemmas.Bool.Decides.{nat_tests}
+use Rattle.std.proofs.Common.{◌≡◌, ◌≢◌, ℕ, zero, suc, ◌<◌, List, [], ◌∷◌, length, get_or, remove, None, Some, refl, sym, ◌∙◌, arith, eq-eqb}
 use Rattle.std.proofs.lemmas.Bool.{ne_eqb}
 use Rattle.store_core.specs.declared.schedule.Player.{Player}
 use Rattle.store_core.specs.ScheduleRuns.{player_in}
@@ -21,5 +22,4 @@ pub player_rest : (players : List Player) (i n k : ℕ) (d : Player) → k ≢ n
     → player_in (remove players i) k ≡ player_in players k
 player_rest [] i n k d apart is below = absurd (omega arith)
 player_rest (p ∷ players) zero n k d apart is below = sym (rw (ne_eqb p.number k (λ same. apart (sym same ∙ is))) refl)
-player_rest (p ∷ players) (suc i) n k d apart is below =
-    ap (λ (o : Option Player). if p.number == k then Some p else o) (player_rest players i n k d apart is (omega arith))
+player_rest (p ∷ players) (suc i) n k d apart is below = grind (arith, nat_tests, player_rest players i n k d apart is)

@@ -1,5 +1,6 @@
 -- What is read: the bytes of positions held, up to the first that isn't.
-use Rattle.std.proofs.Common.{◌≡◌, ℕ, zero, suc, ◌+◌, ◌<◌, List, [], ◌∷◌, length, Option, None, Some, slice_index, refl, sym, ap, subst, ◌∙◌, arith}
+use Rattle.std.proofs.lemmas.Bool.Decides.{nat_tests}
+use Rattle.std.proofs.Common.{◌≡◌, ℕ, zero, suc, ◌+◌, List, [], ◌∷◌, length, Option, None, Some, slice_index, refl, sym, ap, subst, ◌∙◌, arith}
 use Rattle.store_core.specs.Laws.{IsRead, ReadMeans}
 use Rattle.store_core.specs.States.{State, byte_and, byte_at, read_bytes}
 
@@ -7,25 +8,9 @@ use Rattle.store_core.specs.States.{State, byte_and, byte_at, read_bytes}
 byte_at-same : (s : State) (p q : ℕ) (o : Option ℕ) → p ≡ q → byte_at s p ≡ o → byte_at s q ≡ o
 byte_at-same s p q o e h = subst (λ (n : ℕ). byte_at s n ≡ o) e h
 
--- a byte read at the first position, or after it
-read_held : (s : State) (at len : ℕ) (rest : List ℕ) (x : ℕ) → byte_at s at ≡ Some x → IsRead s (at + 1) len rest
-    → (i : ℕ) → i < suc (length rest) → byte_at s (at + i) ≡ Some (slice_index (x ∷ rest) i)
-read_held s at len rest x e next zero below = byte_at-same s at (at + 0) (Some x) (omega arith) e
-read_held s at len rest x e next (suc i) below =
-    byte_at-same s (at + 1 + i) (at + suc i) (Some (slice_index rest i)) (omega arith) (next.held i (omega arith))
-
 -- the byte at the first position, and what is read after it
 read_first : (s : State) (at len : ℕ) (rest : List ℕ) (o : Option ℕ) → byte_at s at ≡ o → IsRead s (at + 1) len rest → IsRead s at (suc len) (byte_and o rest)
-read_first s at len rest None e next = record {
-  within = omega arith;
-  held = λ i below. absurd (omega arith);
-  missing = λ below. byte_at-same s at (at + 0) None (omega arith) e;
-}
-read_first s at len rest (Some x) e next = record {
-  within = omega (arith, next.within);
-  held = read_held s at len rest x e next;
-  missing = λ below. byte_at-same s (at + 1 + length rest) (at + suc (length rest)) None (omega arith) (next.missing (omega arith));
-}
+read_first s at len rest o e next = grind (arith, nat_tests, byte_at-same)
 
 pub read_is : (s : State) (at len : ℕ) → IsRead s at len (read_bytes s at len)
 read_is s at zero = record { within = omega arith; held = λ i below. absurd (omega arith); missing = λ below. absurd (omega arith) }
@@ -35,9 +20,7 @@ read_is s at (suc len) = read_first s at len (read_bytes s (at + 1) len) (byte_a
 pub is_read : (s : State) (at len : ℕ) (bytes : List ℕ) → IsRead s at len bytes → bytes ≡ read_bytes s at len
 is_read s at zero [] h = refl
 is_read s at zero (x ∷ bytes) h = absurd (omega (arith, h.within))
-is_read s at (suc len) [] h =
-    let none : byte_at s at ≡ None = byte_at-same s (at + 0) at None (omega arith) (h.missing (omega arith)) in
-    sym (ap (λ (o : Option ℕ). byte_and o (read_bytes s (at + 1) len)) none)
+is_read s at (suc len) [] h = grind (arith, nat_tests, byte_at-same)
 is_read s at (suc len) (x ∷ bytes) h =
     let first : byte_at s at ≡ Some x = byte_at-same s (at + 0) at (Some x) (omega arith) (h.held 0 (omega arith)) in
     let next : IsRead s (at + 1) len bytes = record {

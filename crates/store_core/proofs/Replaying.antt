@@ -1,20 +1,18 @@
 -- The run of a schedule, step by step.
-use Rattle.std.proofs.Common.{◌≡◌, ℕ, zero, suc, None, ◌+◌, ◌*◌, ◌<◌, Bool, false, arith, List, [], ◌∷◌, ◌++◌, length, take, slice_get, Option, Some, option_to_list, Err, IsErrOf, refl, sym, ap, subst, ◌∙◌}
+use Rattle.std.proofs.lemmas.Bool.Decides.{nat_tests}
+use Rattle.std.proofs.Common.{◌≡◌, ℕ, zero, suc, ◌+◌, ◌<◌, arith, List, [], ◌∷◌, ◌++◌, length, take, slice_get, Option, Some, option_to_list, refl, sym, ap, subst, ◌∙◌}
 use Rattle.std.proofs.lemmas.List.{get_or_past, take_more}
 use Rattle.std.proofs.lemmas.Option.{get_or_from_slice_get}
 use Rattle.bao_check.specs.declared.checked.Checked.{Checked}
-use Rattle.store_core.specs.declared.fault.ReplayFault.{ReplayFault}
-use Rattle.store_core.specs.declared.fault.ReplayFault.TheVariants.{Illegal}
 use Rattle.store_core.specs.declared.fixed.Fixed.{Fixed}
 use Rattle.store_core.specs.declared.history.Event.{Event}
 use Rattle.store_core.specs.declared.micro.MicroStep.{MicroStep}
 use Rattle.store_core.specs.declared.micro.Reply.{Reply}
-use Rattle.store_core.specs.declared.schedule.Player.{Player}
 use Rattle.store_core.specs.declared.schedule.ScheduleRun.{ScheduleRun}
 use Rattle.store_core.specs.Machine.{Machine, start}
-use Rattle.store_core.specs.Replays.{BeginsLegally, IsIllegalAt, LeavesStore}
+use Rattle.store_core.specs.Replays.{BeginsLegally, LeavesStore}
 use Rattle.store_core.specs.Schedules.{IsLegalStep, Runs, after_step, step_events}
-use Rattle.store_core.specs.ScheduleRuns.{DoesRefuse, DoesStep, HasRun, IsFresh, IsLegalFor, StandsForSeat, IsStepped, is_marked, player_in}
+use Rattle.store_core.specs.ScheduleRuns.{DoesStep, HasRun, IsFresh, IsLegalFor, IsStepped}
 use Rattle.store_core.specs.States.{empty}
 use Rattle.store_core.specs.Stores.{fixed_of, state_of}
 use Rattle.store_core.proofs.Running.{start_empty, start_served}
@@ -25,19 +23,7 @@ IsInRun fixed pieces steps i replies run = (history : List Event) × (m : Machin
 
 -- a new one
 pub fresh : (fixed : Fixed) (run : ScheduleRun) → fixed_of run.store ≡ fixed → state_of run.store ≡ empty → run.players.items ≡ [] → run.written.items ≡ [] → IsFresh fixed run
-fresh fixed run same new nobody unwritten pieces = record {
-  runs = (refl, refl, refl);
-  legal = tt;
-  events = sym start_empty;
-  fixed_is = same;
-  served = start_served (fixed_of run.store);
-  stands = record {
-    state = new ∙ sym start_empty;
-    seats = λ n. subst (λ (xs : List Player). StandsForSeat (fixed_of run.store) (player_in xs n) (start.seat n)) (sym nobody) (refl, refl);
-    wrote = λ n c w below dark. refl;
-    clean = λ c w below free dark. subst (λ (xs : List Bool). is_marked xs c w ≡ false) (sym unwritten) (get_or_past [] (129 * c + w) false (omega arith));
-  };
-}
+fresh fixed run same new nobody unwritten pieces = grind (arith, nat_tests, start_empty, start_served, get_or_past)
 
 pub run_more : (fixed : Fixed) (pieces : List Checked) (steps : List MicroStep) (i : ℕ) (replies more : List Reply) (old new : ScheduleRun) (step : MicroStep) (reply : Option Reply)
     → i < length steps → slice_get steps i ≡ Some step → IsInRun fixed pieces steps i replies old → DoesStep pieces old new step reply
@@ -69,41 +55,18 @@ run_done run fixed pieces steps replies history m has = (
   refl,
 )
 
--- or a step that isn't legal
-pub run_illegal : (fixed : Fixed) (pieces : List Checked) (steps : List MicroStep) (i : ℕ) (replies : List Reply) (run : ScheduleRun) (step : MicroStep)
-    → slice_get steps i ≡ Some step → IsInRun fixed pieces steps i replies run → DoesRefuse pieces run step → IsIllegalAt fixed pieces steps i
-run_illegal fixed pieces steps i replies run step found (history, m, has) refuses = record {
-  replies = replies;
-  history = history;
-  last = m;
-  runs = has.runs;
-  step = step;
-  is = found;
-  illegal = λ legal. refuses m has.served has.stands (subst (λ (f : Fixed). IsLegalStep f pieces m step) (sym has.fixed_is) legal);
-}
-
 -- where some step is legal after those before it, the first one is
 first_legal : (fixed : Fixed) (pieces : List Checked) (steps : List MicroStep) (i : ℕ) (replies : List Reply) (history : List Event) (m : Machine) (step : MicroStep)
     → slice_get steps i ≡ Some step → Runs fixed pieces start (take i steps) replies history m → IsLegalStep fixed pieces m step → BeginsLegally fixed pieces steps
-first_legal fixed pieces [] i replies history m step found runs legal =
-    let none : Option MicroStep = None in
-    let never : none ≡ Some step = found in cc
-first_legal fixed pieces (first ∷ steps) zero replies history m step found runs legal =
-    record { step = step; is = found; legal = subst (λ (n : Machine). IsLegalStep fixed pieces n step) runs.2 legal }
+first_legal fixed pieces [] i replies history m step found runs legal = grind (arith, nat_tests)
+first_legal fixed pieces (first ∷ steps) zero replies history m step found runs legal = grind (arith, nat_tests)
 first_legal fixed pieces (first ∷ steps) (suc i) replies history m step found runs legal = record { step = first; is = refl; legal = runs.3 }
 
 pub begins_legally : (fixed : Fixed) (pieces : List Checked) (steps : List MicroStep) (i : ℕ) (replies : List Reply) (run : ScheduleRun) (step : MicroStep)
     → slice_get steps i ≡ Some step → IsInRun fixed pieces steps i replies run → IsLegalFor pieces run step → BeginsLegally fixed pieces steps
-begins_legally fixed pieces steps i replies run step found (history, m, has) legal =
-    first_legal fixed pieces steps i replies history m step found has.runs (subst (λ (f : Fixed). IsLegalStep f pieces m step) has.fixed_is (legal m has.served has.stands))
+begins_legally fixed pieces steps i replies run step found (history, m, has) legal = grind (arith, nat_tests, first_legal)
 
 -- a step that was made was legal
 pub stepped_legally : (fixed : Fixed) (pieces : List Checked) (steps : List MicroStep) (i : ℕ) (replies : List Reply) (old new : ScheduleRun) (step : MicroStep) (reply : Option Reply)
     → slice_get steps i ≡ Some step → IsInRun fixed pieces steps i replies old → DoesStep pieces old new step reply → BeginsLegally fixed pieces steps
-stepped_legally fixed pieces steps i replies old new step reply found (history, m, has) does =
-    let done : IsStepped fixed pieces (take i steps) replies history m step reply new = does fixed (take i steps) replies history m has in
-    first_legal fixed pieces steps i replies history m step found has.runs done.legal
-
--- the index that a refusal names
-pub same_index : {A : Type 0} (i k : ℕ) → IsErrOf {T = A} {E = ReplayFault} (Err (Illegal i)) (Illegal k) → i ≡ k
-same_index i k e = cc
+stepped_legally fixed pieces steps i replies old new step reply found (history, m, has) does = grind (arith, nat_tests, first_legal)

@@ -1,6 +1,6 @@
 -- What it is for a root and a mode to be a store's.
-use Rattle.std.proofs.Common.{◌≡◌, ℕ, ◌%◌, ◌==◌, Bool, true, List, sym, ap, subst, ◌∙◌, eqb-true, eq-eqb, IsTrue, bytes_eq, ◌&&◌}
-use Rattle.std.proofs.lemmas.Bool.{and_from, and_parts}
+use Rattle.std.proofs.lemmas.Bool.Decides.{nat_tests}
+use Rattle.std.proofs.Common.{arith, ◌≡◌, ℕ, ◌%◌, ◌==◌, Bool, true, List, ap, subst, ◌∙◌, IsTrue, bytes_eq, ◌&&◌}
 use Rattle.std.proofs.lemmas.Slice.Eq.{bytes_eq-Decides}
 use Rattle.b3tree.specs.declared.mode.Mode.{Mode}
 use Rattle.b3tree.specs.declared.values.Hash.{Hash}
@@ -14,19 +14,8 @@ mode_path key key' e d d' f a b =
 modes_same : (m n : Mode) → m.key ≡ n.key → m.domain ≡ n.domain → m ≡ n
 modes_same m n e f = mode_path m.key n.key e m.domain n.domain f m.apart n.apart
 
-hashes_same : (one other : Hash) → one.0 ≡ other.0 → one ≡ other
-hashes_same one other e = λ i. record { 0 = e i }
-
 -- the test of a hash and of a mode, as it is derived
 pub is_of : (root other : Hash) (mode another : Mode) (r s : Bool) → r ≡ true → r ≡ bytes_eq root.0 other.0
     → s ≡ (bytes_eq mode.key another.key && (mode.domain == another.domain))
     → (IsTrue s → (root ≡ other) × (mode ≡ another)) × ((root ≡ other) × (mode ≡ another) → IsTrue s)
-is_of root other mode another r s holds e f = (
-  λ h.
-      let parts = and_parts (bytes_eq mode.key another.key) (mode.domain == another.domain) (sym f ∙ h) in (
-        hashes_same root other ((bytes_eq-Decides root.0 other.0).0 (sym e ∙ holds)),
-        modes_same mode another ((bytes_eq-Decides mode.key another.key).0 parts.0) (eqb-true mode.domain another.domain parts.1),
-      ),
-  λ same.
-      f ∙ and_from _ _ ((bytes_eq-Decides mode.key another.key).1 (ap (λ (m : Mode). m.key) same.1)) (eq-eqb mode.domain another.domain (ap (λ (m : Mode). m.domain) same.1)),
-)
+is_of root other mode another r s holds e f = grind (arith, nat_tests, bytes_eq, bytes_eq-Decides, modes_same)

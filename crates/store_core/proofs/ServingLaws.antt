@@ -1,4 +1,5 @@
 -- A parent that a store holds is the blob's, and an encoding that it serves is the blob's slice, or a collision is exhibited.
+use Rattle.std.proofs.lemmas.Bool.Decides.{nat_tests}
 use Rattle.std.proofs.Common.{◌≡◌, ◌⊎◌, ℕ, ◌+◌, List, [], ◌∷◌, ◌++◌, length, map, Option, None, Some, refl, sym, ap, subst, ◌∙◌, arith, inl, inr}
 use Rattle.std.specs.Prelude.{Contains}
 use Rattle.std.specs.List.{flat_map}
@@ -20,12 +21,12 @@ use Rattle.store_core.specs.declared.fixed.Fixed.{Fixed}
 use Rattle.store_core.specs.declared.history.Event.{Event}
 use Rattle.store_core.specs.declared.history.Piece.{Piece}
 use Rattle.store_core.specs.declared.history.Serving.{Serving}
-use Rattle.store_core.specs.declared.history.Serving.TheVariants.{Lacking, NoLength, Text}
+use Rattle.store_core.specs.declared.history.Serving.TheVariants.{Text}
 use Rattle.store_core.specs.Histories.{IsLegal, state_after}
-use Rattle.store_core.specs.Laws.{CollidesWith, CollisionFrom, CollisionOf, IsBlob, IsServed, IsSettled, IsStored, IsUsed, ParentHeldBinds, ServedBinds}
+use Rattle.store_core.specs.Laws.{CollidesWith, CollisionOf, IsBlob, IsServed, IsSettled, IsStored, IsUsed, ParentHeldBinds, ServedBinds}
 use Rattle.store_core.specs.Laws.IsUsed.{of_chunk, of_length, of_parent}
 use Rattle.store_core.specs.Pieces.{length_of}
-use Rattle.store_core.specs.Serves.{after_bytes, node_and, node_held, served, serving, serving_of}
+use Rattle.store_core.specs.Serves.{after_bytes, node_and, node_held, served, serving_of}
 use Rattle.store_core.specs.States.{State}
 use Rattle.store_core.proofs.Bound.{held_binds, record_binds}
 use Rattle.store_core.proofs.HasRoom.{base_recorded}
@@ -60,9 +61,7 @@ held_parent_binds fixed history blob m bytes keyed is legal h =
 
 -- what an encoding is put together of
 pub after_text : (bytes text : List ℕ) (rest : Serving) → after_bytes bytes rest ≡ Text text → (more : List ℕ) × ((rest ≡ Text more) × (text ≡ bytes ++ more))
-after_text bytes text NoLength h = cc
-after_text bytes text (Lacking node) h = cc
-after_text bytes text (Text more) h = (more, (refl, cc))
+after_text bytes text rest h = grind (arith, nat_tests)
 
 -- the node is held
 module _ (fixed : Fixed) (history : List Event) (blob : List ℕ) (keyed : IsKeyed fixed.mode) (is : IsBlob fixed blob) (legal : IsLegal fixed history)
@@ -149,11 +148,3 @@ slice_binds fixed history blob keyed is legal (Some l) e start len text h = elim
 
 pub served_nodes_bind : ServedBinds
 served_nodes_bind fixed history blob start len text keyed is legal h = slice_binds fixed history blob keyed is legal (state_after history).recorded refl start len text h
-
--- the same, whatever nodes the pieces were used for
-pub served_binds : (fixed : Fixed) (history : List Event) (blob : List ℕ) (start len : ℕ) (text : List ℕ) → IsKeyed fixed.mode → IsBlob fixed blob
-    → IsLegal fixed history → serving (state_after history) start len ≡ Text text → (text ≡ slice_text fixed.mode blob start len) ⊎ CollisionFrom fixed history blob
-served_binds fixed history blob start len text keyed is legal h = elim (served_nodes_bind fixed history blob start len text keyed is legal h) [
-  | inl same ↦ inl same
-  | inr named ↦ inr (collision_for fixed history blob (IsServed (state_after history) start len) (λ node. Unit {0}) (λ node there. tt) named)
-]

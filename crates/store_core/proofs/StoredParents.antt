@@ -1,12 +1,12 @@
 -- What a store stands for after parents of a piece were stored.
-use Rattle.std.proofs.Common.{◌≡◌, ℕ, ◌+◌, ◌*◌, ◌/◌, ◌%◌, ◌<◌, ◌≤◌, ◌==◌, true, false, Bool, not, ◌&&◌, if◌then◌else◌, List, [], lit<, w64, arith, Option, None, Some, Result, Ok, Err, IfErr, is_some, refl, sym, ap, subst, ◌∙◌}
+use Rattle.std.proofs.lemmas.Bool.Decides.{nat_tests}
+use Rattle.std.proofs.Common.{◌≡◌, ℕ, ◌+◌, ◌*◌, ◌/◌, ◌%◌, ◌<◌, ◌≤◌, ◌==◌, true, false, Bool, not, ◌&&◌, List, lit<, w64, arith, Option, None, Some, Result, IfErr, is_some, sym, ap, ◌∙◌}
 use Rattle.std.specs.Option.{option_eq}
 use Rattle.std.specs.Result.{IsErrAnd}
 use Rattle.std.specs.Int.{bit_at, trailing_zeros}
 use Rattle.std.proofs.Math.Dec.{eqb}
-use Rattle.std.proofs.lemmas.Bool.{and_parts, and_right, eqb-true}
+use Rattle.std.proofs.lemmas.Bool.{and_parts}
 use Rattle.std.proofs.lemmas.Nat.Bits.{bit_at-trailing_zeros}
-use Rattle.bao_text.specs.Choice.{of_slice}
 use Rattle.bao_check.proofs.Descents.{parent_outside}
 use Rattle.bao_check.proofs.Parenting.{parent_in-some}
 use Rattle.bao_check.specs.declared.checked.Checked.{Checked}
@@ -18,75 +18,30 @@ use Rattle.store_core.specs.declared.history.Piece.{Piece}
 use Rattle.store_core.specs.declared.history.Storing.TheVariants.{Stored}
 use Rattle.store_core.specs.declared.slot.Slot.{Slot}
 use Rattle.store_core.specs.declared.store.Store.{Store}
-use Rattle.store_core.specs.Events.{IsRightReply, after_call}
 use Rattle.store_core.specs.Machine.{groups}
-use Rattle.store_core.specs.Masks.{IsMaskOf, has_bit, in_mask}
+use Rattle.store_core.specs.Masks.{IsMaskOf, has_bit}
 use Rattle.store_core.specs.Names.{Name}
-use Rattle.store_core.specs.Pieces.{IsAcceptedPiece, holds_parent, length_of, parent_bytes, piece_of, places_in}
+use Rattle.store_core.specs.Pieces.{IsAcceptedPiece, holds_parent, length_of, piece_of}
 use Rattle.store_core.specs.Slots.{parent_among, state_in, with_parents}
 use Rattle.store_core.specs.States.{State}
 use Rattle.store_core.specs.Stores.{IsSame, IsUnstored, StoresParent, fixed_of, state_of}
 use Rattle.store_core.specs.Reached.{IsReached}
 use Rattle.store_core.proofs.Bits.{has_bit-zero}
 use Rattle.store_core.proofs.BoundStore.{length_fits}
+use Rattle.store_core.proofs.SlotStates.{IsDone}
 use Rattle.store_core.proofs.Tells.{mask_unique}
 
 -- parents that are the same at each boundary make the same state
 pub same_parents : (s : State) (old new : List (Option (List ℕ))) → ((m : ℕ) → parent_among new m ≡ parent_among old m) → with_parents s new ≡ with_parents s old
 same_parents s old new same = λ i. record s { parents = λ m. same m i }
 
--- the mask's parents are stored, and this is the state after it
-pub record IsStoredBy (fixed : Fixed) (s t : State) (group mask : ℕ) (piece : Piece) : Type 0 where
-  pub right : (who : List Name) → IsRightReply fixed s who (Parents group piece (Stored mask))
-  pub after : (who : List Name) → t ≡ after_call who (Parents group piece (Stored mask)) s
-
 none_from : (o : Option (List ℕ)) → not (is_some o) ≡ true → o ≡ None
-none_from None h = refl
-none_from (Some bytes) h = cc
-
-store_right : (fixed : Fixed) (s : State) (group mask : ℕ) (piece : Piece) → IsAcceptedPiece fixed piece → s.recorded ≡ Some (length_of piece)
-    → IsMaskOf group mask (λ m. holds_parent piece m && not (is_some (s.parents m))) → (who : List Name) → IsRightReply fixed s who (Parents group piece (Stored mask))
-store_right fixed s group mask piece accepted length_is is who = (
-  accepted,
-  (
-    length_is,
-    λ m hit.
-        let bit = and_parts (m / 64 == group) (has_bit mask (m % 64)) hit in
-        let test = and_parts (holds_parent piece m) (not (is_some (s.parents m))) (sym (is.bits m (eqb-true (m / 64) group bit.0)) ∙ bit.1) in
-        (test.0, none_from (s.parents m) test.1),
-  ),
-)
-
--- parents put into a list that was made longer
-pub store_at : (fixed : Fixed) (slots : List Slot) (o : Option ℕ) (old seen grown written new put : List (Option (List ℕ))) (group mask : ℕ) (piece : Piece) → IsAcceptedPiece fixed piece
-    → o ≡ Some (length_of piece) → seen ≡ old → written ≡ grown → put ≡ new → ((m : ℕ) → parent_among grown m ≡ parent_among old m)
-    → IsMaskOf group mask (λ m. holds_parent piece m && not (is_some (parent_among seen m)))
-    → ((m : ℕ) → parent_among new m ≡ (if in_mask group mask m then parent_bytes piece m else parent_among written m))
-    → IsStoredBy fixed (with_parents (state_in slots o) old) (with_parents (state_in slots o) put) group mask piece
-store_at fixed slots o old seen grown written new put group mask piece accepted length_is e f g same wanted after =
-    let each : (m : ℕ) → parent_among put m ≡ (if in_mask group mask m then parent_bytes piece m else parent_among old m) = λ m.
-    ap (λ (ps : List (Option (List ℕ))). parent_among ps m) g ∙ after m
-    ∙ ap (λ (x : Option (List ℕ)). if in_mask group mask m then parent_bytes piece m else x) (ap (λ (ps : List (Option (List ℕ))). parent_among ps m) f ∙ same m) in
-    record {
-      right = store_right fixed (with_parents (state_in slots o) old) group mask piece accepted length_is
-          (subst (λ (ps : List (Option (List ℕ))). IsMaskOf group mask (λ m. holds_parent piece m && not (is_some (parent_among ps m)))) e wanted);
-      after = λ who i. record (with_parents (state_in slots o) old) { parents = λ m. each m i };
-    }
+none_from o h = grind (arith, nat_tests)
 
 -- no parent is stored
-pub store_none : (fixed : Fixed) (slots : List Slot) (o : Option ℕ) (old seen : List (Option (List ℕ))) (group mask : ℕ) (piece : Piece) → IsAcceptedPiece fixed piece
-    → o ≡ Some (length_of piece) → seen ≡ old → mask ≡ 0 → IsMaskOf group mask (λ m. holds_parent piece m && not (is_some (parent_among seen m)))
-    → IsStoredBy fixed (with_parents (state_in slots o) old) (with_parents (state_in slots o) old) group 0 piece
-store_none fixed slots o old seen group mask piece accepted length_is e none wanted =
-    let s : State = with_parents (state_in slots o) old in
-    let each : (m : ℕ) → s.parents m ≡ (if in_mask group 0 m then parent_bytes piece m else s.parents m) = λ m.
-    rw (and_right (m / 64 == group) (has_bit 0 (m % 64)) (has_bit-zero (m % 64))) refl in
-    record {
-      right = store_right fixed s group 0 piece accepted length_is
-          (subst (λ (n : ℕ). IsMaskOf group n (λ m. holds_parent piece m && not (is_some (s.parents m)))) none
-          (subst (λ (ps : List (Option (List ℕ))). IsMaskOf group mask (λ m. holds_parent piece m && not (is_some (parent_among ps m)))) e wanted));
-      after = λ who i. record s { parents = λ m. each m i };
-    }
+pub store_none : (fixed : Fixed) (s : State) (group : ℕ) (piece : Piece) → IsAcceptedPiece fixed piece → s.recorded ≡ Some (length_of piece)
+    → IsMaskOf group 0 (λ m. holds_parent piece m && not (is_some (s.parents m))) → (who : List Name) → IsDone fixed s s who (Parents group piece (Stored 0))
+store_none fixed s group piece accepted length_is wanted = grind (arith, nat_tests, has_bit-zero)
 
 -- a mask that isn't empty has a parent to store
 pub stores_parent : (store : Store) (group mask : ℕ) (piece : Checked) → 0 < mask → IsMaskOf group mask (λ m. holds_parent (piece_of (fixed_of store).base piece) m && not (is_some ((state_of store).parents m)))
@@ -105,13 +60,7 @@ stores_parent store group mask piece some is =
 -- of a group that isn't there the piece holds none, since there is none past the blob's last chunk
 pub absent_none : (fixed : Fixed) (piece : Piece) (seen : List (Option (List ℕ))) (group : ℕ) → length_of piece ≤ 1024 * fixed.capacity → groups fixed ≤ group
     → IsMaskOf group 0 (λ m. holds_parent piece m && not (is_some (parent_among seen m)))
-absent_none fixed piece seen group fits past = record {
-  small = lit< tt;
-  bits = λ m at.
-      let lacks : holds_parent piece m ≡ false = parent_in-some piece.text (places_in piece) m
-      ∙ ap (λ (o : Option ℕ). is_some o) (parent_outside (of_slice (length_of piece) piece.start piece.len) 0 (length_of piece) [] 8 8 m (λ w. omega (arith, w.0, w.1, fits, past, at))) in
-      has_bit-zero (m % 64) ∙ sym (rw lacks refl);
-}
+absent_none fixed piece seen group fits past = grind (arith, nat_tests, lit<, parent_in-some, parent_outside, has_bit-zero)
 
 -- where there is a parent to store, the group is there
 pub is_there : (fixed : Fixed) (slots : List Slot) (o : Option ℕ) (old seen : List (Option (List ℕ))) (group mask : ℕ) (piece : Piece)
@@ -121,19 +70,13 @@ is_there fixed slots o old seen group mask piece reached is some length_is past 
     some (mask_unique group mask 0 (λ m. holds_parent piece m && not (is_some (parent_among seen m))) is
     (absent_none fixed piece seen group (length_fits fixed slots o old (length_of piece) reached length_is) past))
 
-not_not : (b : Bool) → not b ≡ false → b ≡ true
-not_not true h = refl
-not_not false h = let never : true ≡ false = h in cc
-
 -- a recorded length that was compared with another
 same_length : (o : Option ℕ) (l : ℕ) → not (option_eq eqb o (Some l)) ≡ false → o ≡ Some l
-same_length None l h = let never : true ≡ false = h in cc
-same_length (Some k) l h = ap (λ (n : ℕ). Some n) (eqb-true k l (not_not (eqb k l) h))
+same_length o l h = grind (arith, nat_tests, eqb)
 
 pub recorded_is : (o : Option ℕ) (l : ℕ) (b : Bool) → b ≡ not (option_eq eqb o (Some l)) → b ≡ false → o ≡ Some l
 recorded_is o l b is not_other = same_length o l (sym is ∙ not_other)
 
 -- running out of memory leaves what the store stands for
 pub unstored_memory : (old new : Store) (group : ℕ) (piece : Checked) (r : Result ℕ StoreFault) → IsErrAnd r (λ fault. fault ≡ Memory) → IsSame old new → IfErr r (λ fault. IsUnstored old new group piece fault)
-unstored_memory old new group piece (Ok mask) h same = tt
-unstored_memory old new group piece (Err fault) h same = subst (λ (f : StoreFault). IsUnstored old new group piece f) (sym h) same
+unstored_memory old new group piece r h same = grind (arith, nat_tests)

@@ -1,21 +1,17 @@
 -- What the tests of masks, names and claims tell.
-use Rattle.std.proofs.Common.{◌≡◌, ℕ, ◌+◌, ◌*◌, ◌/◌, ◌%◌, ◌<◌, nat_lt, ◌==◌, Bool, true, false, not, ◌||◌, List, [], ◌∷◌, Option, None, Some, is_some, refl, sym, subst, ◌∙◌, arith, inl, inr, eq-eqb, eqb-true}
+use Rattle.std.proofs.Common.{◌≡◌, ℕ, ◌+◌, ◌*◌, ◌/◌, ◌%◌, ◌<◌, ◌==◌, Bool, true, false, List, [], ◌∷◌, Option, None, Some, is_some, refl, sym, subst, ◌∙◌, arith, inl, inr, eq-eqb}
 use Rattle.std.specs.Int.{bit_at}
 use Rattle.std.specs.List.{list_any}
-use Rattle.std.proofs.lemmas.Bool.{and_from, and_parts, cases_Bool, both_ways, false_from_ne_true, not-true, or_cases, or_left, or_parts, or_right}
+use Rattle.std.proofs.lemmas.Bool.{and_from, or_cases, or_left, or_right}
 use Rattle.std.proofs.lemmas.Bool.Decides.{nat_tests}
 use Rattle.std.proofs.lemmas.Nat.Bits.{bit_at-lt, same_from_bits_below}
-use Rattle.store_core.specs.declared.fixed.Fixed.{Fixed}
 use Rattle.store_core.specs.Masks.{IsMaskOf, has_bit, in_mask}
-use Rattle.store_core.specs.Names.{Name, has_name, least_name, same_name, share_name}
-use Rattle.store_core.specs.States.{State, claims, is_among, is_claimed, is_held}
-use Rattle.store_core.specs.Events.{is_free}
+use Rattle.store_core.specs.Names.{Name, has_name, same_name, share_name}
+use Rattle.store_core.specs.States.{State, claims, is_among, is_claimed}
 
 -- a chunk of a right mask passes its test
 pub masked : (group mask : ℕ) (test : ℕ → Bool) (c : ℕ) → IsMaskOf group mask test → in_mask group mask c ≡ true → test c ≡ true
-masked group mask test c right hit =
-    let parts = and_parts (c / 64 == group) (has_bit mask (c % 64)) hit in
-    sym (right.bits c (eqb-true (c / 64) group parts.0)) ∙ parts.1
+masked group mask test c right hit = grind (arith, nat_tests)
 
 -- equal tests of two bits are of equal bits
 same_bit : (x y : ℕ) → x < 2 → y < 2 → (x == 1) ≡ (y == 1) → x ≡ y
@@ -38,25 +34,17 @@ pub same_name-true : (one other : Name) → same_name one other ≡ true → one
 same_name-true [] [] h = refl
 same_name-true [] (y ∷ ys) h = cc
 same_name-true (x ∷ xs) [] h = cc
-same_name-true (x ∷ xs) (y ∷ ys) h =
-    let parts = and_parts (x == y) (same_name xs ys) h in
-    let head : x ≡ y = eqb-true x y parts.0 in
-    let tail : xs ≡ ys = same_name-true xs ys parts.1 in
-    cc
+same_name-true (x ∷ xs) (y ∷ ys) h = grind (arith, nat_tests, same_name-true xs ys)
 
 pub same_name-refl : (name : Name) → same_name name name ≡ true
 same_name-refl [] = refl
 same_name-refl (x ∷ xs) = and_from _ _ (eq-eqb x x refl) (same_name-refl xs)
 
 pub same_name-turned : (one other : Name) → same_name one other ≡ same_name other one
-same_name-turned one other = elim (cases_Bool (same_name one other)) [
-  | inl same ↦
-      let e : one ≡ other = same_name-true one other same in
-      same ∙ sym (subst (λ (n : Name). same_name other n ≡ true) (sym e) (same_name-refl other))
-  | inr differ ↦ differ ∙ sym (false_from_ne_true _ (λ same.
-      let e : other ≡ one = same_name-true other one same in
-      both_ways _ differ (subst (λ (n : Name). same_name one n ≡ true) (sym e) (same_name-refl one))))
-]
+same_name-turned [] [] = refl
+same_name-turned [] (y ∷ ys) = refl
+same_name-turned (x ∷ xs) [] = refl
+same_name-turned (x ∷ xs) (y ∷ ys) = grind (arith, nat_tests, same_name-turned xs ys)
 
 -- a name of both sets is a common one
 pub common_name : (ours theirs : List Name) (name : Name) → has_name ours name ≡ true → has_name theirs name ≡ true → share_name ours theirs ≡ true
@@ -68,38 +56,15 @@ common_name ours (other ∷ theirs) name our their = elim (or_cases (same_name n
 
 pub among_apart : (ours theirs : List Name) (o : Option Name) → share_name ours theirs ≡ false → is_among theirs o ≡ true → is_among ours o ≡ false
 among_apart ours theirs None apart h = refl
-among_apart ours theirs (Some name) apart h =
-    false_from_ne_true _ (λ our. both_ways _ apart (common_name ours theirs name our h))
+among_apart ours theirs (Some name) apart h = grind (arith, nat_tests, common_name)
 
 -- a chunk that one caller claims no other does
 pub claims_apart : (s : State) (ours theirs : List Name) (c : ℕ) → share_name ours theirs ≡ false → claims theirs s c ≡ true → claims ours s c ≡ false
 claims_apart s ours theirs c apart h = among_apart ours theirs (s.claim c) apart h
 
--- the least name of others is none of ours
-pub least_apart : (ours theirs : List Name) → share_name ours theirs ≡ false → is_among ours (least_name theirs) ≡ false
-least_apart ours [] apart = refl
-least_apart ours (name ∷ theirs) apart = (or_parts (has_name ours name) (share_name ours theirs) apart).0
-
 among_some : (names : List Name) (o : Option Name) → is_among names o ≡ true → is_some o ≡ true
-among_some names None h = h
-among_some names (Some name) h = refl
+among_some names o h = grind (arith, nat_tests)
 
 -- what someone claims is claimed
 pub claims-claimed : (names : List Name) (s : State) (c : ℕ) → claims names s c ≡ true → is_claimed s c ≡ true
 claims-claimed names s c h = among_some names (s.claim c) h
-
--- what nobody claims, no caller does
-pub unclaimed-claims : (names : List Name) (s : State) (c : ℕ) → is_claimed s c ≡ false → claims names s c ≡ false
-unclaimed-claims names s c free = false_from_ne_true _ (λ h. both_ways _ free (claims-claimed names s c h))
-
--- a free chunk
-pub record IsFree (fixed : Fixed) (s : State) (c : ℕ) : Type 0 where
-  pub below : nat_lt c fixed.capacity ≡ true
-  pub not_held : is_held s c ≡ false
-  pub not_claimed : is_claimed s c ≡ false
-
-pub free : (fixed : Fixed) (s : State) (c : ℕ) → is_free fixed s c ≡ true → IsFree fixed s c
-free fixed s c h =
-    let parts = and_parts (nat_lt c fixed.capacity) (not (is_held s c || is_claimed s c)) h in
-    let neither = or_parts (is_held s c) (is_claimed s c) (not-true _ parts.1) in
-    record { below = parts.0; not_held = neither.0; not_claimed = neither.1 }

@@ -1,4 +1,4 @@
-ghost use Rattle.std.specs.Prelude.{◌≡◌, ◌≢◌, ◌⊎◌, ◌↔◌, ℕ, ◌<◌, ◌≤◌, ◌==◌, if◌then◌else◌, List, ◌++◌, Some, option_map, option_to_list, IfOk, IsErrOf, IsOk, IsTrue, OnOk};
+ghost use Rattle.std.specs.Prelude.{◌≡◌, ◌≢◌, ◌⊎◌, ◌↔◌, ℕ, ◌<◌, ◌≤◌, ◌==◌, if◌then◌else◌, List, [], ◌++◌, Some, option_map, option_to_list, IfOk, IsErrOf, IsOk, IsTrue, OnOk};
 ghost use Rattle.bao_check.specs.declared.checked.Checked.{Checked};
 ghost use Rattle.store_core.specs.declared.fault.ReplayFault.TheVariants.{Capacity, Illegal, Memory};
 ghost use Rattle.store_core.specs.Machine.{current_holds};
@@ -128,10 +128,11 @@ impl<'a> ScheduleRun<'a> {
         self.store
     }
 
+    // Each step has its function. Whether a step is legal depends on the pieces for a Hash alone: of the others it is said with none.
     fn claim(&mut self, seat: u32, group: u32, want: u64) -> Result<Option<Reply>, StepFault>
         ensures ok { (pieces : List Checked) → IfOk result (λ reply. DoesStep pieces self.old self.new (MicroStep.Claim seat group want) reply) }
-        ensures illegal { (pieces : List Checked) → IsErrOf result StepFault.Illegal → DoesRefuse pieces self.old (MicroStep.Claim seat group want) }
-        ensures memory { (pieces : List Checked) → IsErrOf result StepFault.Memory → IsLegalFor pieces self.old (MicroStep.Claim seat group want) }
+        ensures illegal { IsErrOf result StepFault.Illegal → DoesRefuse [] self.old (MicroStep.Claim seat group want) }
+        ensures memory { IsErrOf result StepFault.Memory → IsLegalFor [] self.old (MicroStep.Claim seat group want) }
     {
         if group >= self.store.groups() {
             return Err(StepFault::Illegal);
@@ -170,8 +171,8 @@ impl<'a> ScheduleRun<'a> {
 
     fn write(&mut self, seat: u32, chunk: u32, word: u8) -> Result<Option<Reply>, StepFault>
         ensures ok { (pieces : List Checked) → IfOk result (λ reply. DoesStep pieces self.old self.new (MicroStep.Write seat chunk word) reply) }
-        ensures illegal { (pieces : List Checked) → IsErrOf result StepFault.Illegal → DoesRefuse pieces self.old (MicroStep.Write seat chunk word) }
-        ensures memory { (pieces : List Checked) → IsErrOf result StepFault.Memory → IsLegalFor pieces self.old (MicroStep.Write seat chunk word) }
+        ensures illegal { IsErrOf result StepFault.Illegal → DoesRefuse [] self.old (MicroStep.Write seat chunk word) }
+        ensures memory { IsErrOf result StepFault.Memory → IsLegalFor [] self.old (MicroStep.Write seat chunk word) }
     {
         let player = take_player(&mut self.players, seat);
         let holds = does_hold(&self.store, &player, chunk);
@@ -185,8 +186,8 @@ impl<'a> ScheduleRun<'a> {
 
     fn publish(&mut self, seat: u32, group: u32) -> Result<Option<Reply>, StepFault>
         ensures ok { (pieces : List Checked) → IfOk result (λ reply. DoesStep pieces self.old self.new (MicroStep.Publish seat group) reply) }
-        ensures illegal { (pieces : List Checked) → IsErrOf result StepFault.Illegal → DoesRefuse pieces self.old (MicroStep.Publish seat group) }
-        ensures memory { (pieces : List Checked) → IsErrOf result StepFault.Memory → IsLegalFor pieces self.old (MicroStep.Publish seat group) }
+        ensures illegal { IsErrOf result StepFault.Illegal → DoesRefuse [] self.old (MicroStep.Publish seat group) }
+        ensures memory { IsErrOf result StepFault.Memory → IsLegalFor [] self.old (MicroStep.Publish seat group) }
     {
         let player = take_player(&mut self.players, seat);
         let piece = match player.piece {
@@ -224,8 +225,8 @@ impl<'a> ScheduleRun<'a> {
 
     fn give_back(&mut self, seat: u32, group: u32, mask: u64) -> Result<Option<Reply>, StepFault>
         ensures ok { (pieces : List Checked) → IfOk result (λ reply. DoesStep pieces self.old self.new (MicroStep.GiveBack seat group mask) reply) }
-        ensures illegal { (pieces : List Checked) → IsErrOf result StepFault.Illegal → DoesRefuse pieces self.old (MicroStep.GiveBack seat group mask) }
-        ensures memory { (pieces : List Checked) → IsErrOf result StepFault.Memory → IsLegalFor pieces self.old (MicroStep.GiveBack seat group mask) }
+        ensures illegal { IsErrOf result StepFault.Illegal → DoesRefuse [] self.old (MicroStep.GiveBack seat group mask) }
+        ensures memory { IsErrOf result StepFault.Memory → IsLegalFor [] self.old (MicroStep.GiveBack seat group mask) }
     {
         if group >= self.store.groups() {
             return Err(StepFault::Illegal);
@@ -237,8 +238,8 @@ impl<'a> ScheduleRun<'a> {
 
     fn load(&mut self, seat: u32, at: u64, len: u32) -> Result<Option<Reply>, StepFault>
         ensures ok { (pieces : List Checked) → IfOk result (λ reply. DoesStep pieces self.old self.new (MicroStep.Load seat at len) reply) }
-        ensures illegal { (pieces : List Checked) → IsErrOf result StepFault.Illegal → DoesRefuse pieces self.old (MicroStep.Load seat at len) }
-        ensures memory { (pieces : List Checked) → IsErrOf result StepFault.Memory → IsLegalFor pieces self.old (MicroStep.Load seat at len) }
+        ensures illegal { IsErrOf result StepFault.Illegal → DoesRefuse [] self.old (MicroStep.Load seat at len) }
+        ensures memory { IsErrOf result StepFault.Memory → IsLegalFor [] self.old (MicroStep.Load seat at len) }
     {
         let Player {
             number,
@@ -264,8 +265,8 @@ impl<'a> ScheduleRun<'a> {
 
     fn settle(&mut self, seat: u32) -> Result<Option<Reply>, StepFault>
         ensures ok { (pieces : List Checked) → IfOk result (λ reply. DoesStep pieces self.old self.new (MicroStep.Settle seat) reply) }
-        ensures illegal { (pieces : List Checked) → IsErrOf result StepFault.Illegal → DoesRefuse pieces self.old (MicroStep.Settle seat) }
-        ensures memory { (pieces : List Checked) → IsErrOf result StepFault.Memory → IsLegalFor pieces self.old (MicroStep.Settle seat) }
+        ensures illegal { IsErrOf result StepFault.Illegal → DoesRefuse [] self.old (MicroStep.Settle seat) }
+        ensures memory { IsErrOf result StepFault.Memory → IsLegalFor [] self.old (MicroStep.Settle seat) }
     {
         let player = take_player(&mut self.players, seat);
         let piece = match player.piece {

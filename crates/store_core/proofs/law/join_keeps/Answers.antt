@@ -1,8 +1,5 @@
 use Rattle.store_core.proofs.Joining as joining
 use Rattle.store_core.proofs.law.join_keeps.Goals as goal
 
-pub returns-clause-split : goal.returns-clause-split
-returns-clause-split c = joining.split_keeps
-
 pub returns-clause-join : goal.returns-clause-join
 returns-clause-join c = joining.join_keeps

@@ -1,3 +1,4 @@
+use Rattle.std.proofs.lemmas.Bool.Decides.{nat_tests}
 use Rattle.std.proofs.Common.{◌≡◌, ℕ, List, [], Err, length, get_or, take, ap, subst, sym, ◌∙◌, arith}
 use Rattle.std.proofs.Math.Seq.{take-length}
 use Rattle.std.proofs.lemmas.Option.{slice_get-get_or}
@@ -7,9 +8,8 @@ use Rattle.store_core.specs.declared.micro.MicroStep.TheVariants.{Claim}
 use Rattle.store_core.specs.declared.micro.Reply.{Reply}
 use Rattle.store_core.specs.declared.fault.StepFault.{StepFault}
 use Rattle.store_core.specs.Machine.{start}
-use Rattle.store_core.specs.Replays.{IsIllegalAt}
 use Rattle.store_core.specs.ScheduleRuns.{HasRun}
-use Rattle.store_core.proofs.Replaying.{begins_legally, run_illegal, run_more, same_index, stepped_legally}
+use Rattle.store_core.proofs.Replaying.{begins_legally, run_more, stepped_legally}
 use Rattle.store_core.proofs.schedule.replay.Goals as goal
 
 pub loop-i-init : goal.loop-i-init
@@ -29,13 +29,7 @@ loop-i-preserved c =
     c.in_ok-add-in-Ok-step.ensures
 
 pub returns-in-Err-Illegal-clause-illegal : goal.returns-in-Err-Illegal-clause-illegal
-returns-in-Err-Illegal-clause-illegal c = λ i same.
-    let fixed : Fixed = record { root = c.args.root; mode = c.args.mode; capacity = c.args.capacity; base = 0 } in
-    let index : c.loop-i.i ≡ i = same_index c.loop-i.i i same in
-    subst (λ (k : ℕ). IsIllegalAt fixed c.args.pieces.now c.args.steps.now k) index
-    (run_illegal fixed c.args.pieces.now c.args.steps.now c.loop-i.i c.loop-i.replies.items c.loop-i.run (get_or c.args.steps.now c.loop-i.i (Claim 0 0 0))
-    (slice_get-get_or c.args.steps.now c.loop-i.i (Claim 0 0 0) c.loop-i-test.true) c.loop-i.invariant
-    (c.in-Err-Illegal.ensures.illegal (ap (λ (f : StepFault). Err f) c.in-Err-Illegal.field-0-is)))
+returns-in-Err-Illegal-clause-illegal c = grind (arith, nat_tests, slice_get-get_or)
 
 pub returns-in-Err-Memory-clause-memory : goal.returns-in-Err-Memory-clause-memory
 returns-in-Err-Memory-clause-memory c = λ out.

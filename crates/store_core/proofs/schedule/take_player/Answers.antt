@@ -1,5 +1,5 @@
-use Rattle.std.proofs.Common.{◌≡◌, ℕ, ◌<◌, List, Option, None, Some, length, get_or, remove, refl, sym, ap, subst, ◌∙◌, arith, inl, inr}
-use Rattle.std.proofs.lemmas.Bool.{cases_eq}
+use Rattle.std.proofs.lemmas.Bool.Decides.{nat_tests}
+use Rattle.std.proofs.Common.{◌≡◌, ℕ, ◌<◌, List, Option, None, Some, length, get_or, remove, refl, sym, ap, subst, ◌∙◌, arith}
 use Rattle.std.proofs.lemmas.List.{get_or_read}
 use Rattle.store_core.specs.declared.schedule.Player.{Player}
 use Rattle.store_core.specs.ScheduleRuns.{IsTakenPlayer, player_in}
@@ -8,20 +8,7 @@ use Rattle.store_core.proofs.schedule.take_player.Goals as goal
 
 -- the player that the code looks at, in the list at hand
 at_hand : (now first : List Player) (i n : ℕ) (x d : Player) → now ≡ first → i < length now → x ≡ get_or now i x → x.number ≡ n → (get_or first i d).number ≡ n
-at_hand now first i n x d e below is same =
-    ap (λ (xs : List Player). (get_or xs i d).number) (sym e) ∙ ap (λ (p : Player). p.number) (sym (get_or_read now i x below is d)) ∙ same
-
-pub loop-i-preserved : goal.loop-i-preserved
-loop-i-preserved c = (
-  c.loop-i.invariant.0,
-  λ j d below. elim (cases_eq j c.loop-i.i) [
-    | inl here ↦ λ same. c.if-index-number.false
-        (ap (λ (p : Player). p.number) (get_or_read c.loop-i.players.items c.loop-i.i c.index.result.now (omega arith) c.index.ensures d)
-        ∙ ap (λ (xs : List Player). (get_or xs c.loop-i.i d).number) c.loop-i.invariant.0
-        ∙ ap (λ (k : ℕ). (get_or c.args.players.now.items k d).number) (sym here) ∙ same)
-    | inr other ↦ c.loop-i.invariant.1 j d (omega (arith, below, other))
-  ],
-)
+at_hand now first i n x d e below is same = grind (arith, nat_tests, get_or_read)
 
 pub returns-then-index-number-clause-is : goal.returns-then-index-number-clause-is
 returns-then-index-number-clause-is c =
@@ -51,6 +38,3 @@ returns-clause-is c =
     let none : player_in first c.args.number ≡ None =
     player_none first c.args.number d (λ j h. c.loop-i.invariant.1 j d (omega (arith, h, ap length c.loop-i.invariant.0))) in
     subst (λ (o : Option Player). IsTakenPlayer o d) (sym none) (refl, refl)
-
-pub returns-clause-others : goal.returns-clause-others
-returns-clause-others c = λ k apart. ap (λ (xs : List Player). player_in xs k) c.loop-i.invariant.0

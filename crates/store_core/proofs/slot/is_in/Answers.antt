@@ -1,26 +1,18 @@
-use Rattle.std.proofs.Common.{◌≡◌, ◌≤◌, ◌<◌, ◌+◌, ℕ, List, Option, IsSome, is_some, false, min, nat_lt, sym, ◌∙◌, inl, inr, arith}
-use Rattle.std.proofs.lemmas.Bool.{cases_Bool, cases_lt, le-ltb, lt-ltb, lt-leb}
+use Rattle.std.proofs.lemmas.Bool.Decides.{nat_tests}
+use Rattle.std.proofs.Common.{◌≡◌, ◌≤◌, ◌<◌, ◌+◌, ℕ, List, Option, IsSome, is_some, false, min, nat_lt, ◌∙◌, arith}
+use Rattle.std.proofs.lemmas.Bool.{lt-leb}
 use Rattle.store_core.specs.Pieces.{chunk_bytes, piece_of}
 use Rattle.store_core.proofs.slot.is_in.Goals as goal
 
 -- a number that doesn't fit in 64 bits is after all chunks, and so is the greatest that does
 before : (o : Option (List ℕ)) (first after n k : ℕ) → (IsSome o → (first ≤ n) × (n < after)) → k ≡ min n 18446744073709551615 → after < 18446744073709551616
     → k < first → false ≡ is_some o
-before o first after n k spans is few early = elim (cases_Bool (is_some o)) [
-  | inl there ↦ absurd (omega (arith, early, is, few, (spans there).0, (spans there).1))
-  | inr none ↦ sym none
-]
+before o first after n k spans is few early = grind (arith, nat_tests)
 
 -- from the first on, those before the end
 within : (o : Option (List ℕ)) (first after n k : ℕ) → (IsSome o → (first ≤ n) × (n < after)) → ((first ≤ n) × (n < after) → IsSome o)
     → k ≡ min n 18446744073709551615 → after < 18446744073709551616 → first ≤ k → nat_lt k after ≡ is_some o
-within o first after n k has is number few low = elim (cases_lt k after) [
-  | inl high ↦ lt-ltb k after high ∙ sym (is (omega (arith, number, few, low, high), omega (arith, number, few, high)))
-  | inr past ↦ le-ltb k after past ∙ elim (cases_Bool (is_some o)) [
-    | inl there ↦ absurd (omega (arith, past, number, few, (has there).1))
-    | inr none ↦ sym none
-  ]
-]
+within o first after n k has is number few low = grind (arith, nat_tests)
 
 pub returns-then-first-number : goal.returns-then-first-number
 returns-then-first-number c =

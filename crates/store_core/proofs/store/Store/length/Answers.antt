@@ -1,4 +1,5 @@
-use Rattle.std.proofs.Common.{◌≡◌, ◌*◌, ◌≤◌}
+use Rattle.std.proofs.lemmas.Bool.Decides.{nat_tests}
+use Rattle.std.proofs.Common.{arith}
 use Rattle.store_core.specs.Slots.{state_in, with_parents}
 use Rattle.store_core.specs.Stores.{LengthBinds}
 use Rattle.store_core.proofs.BoundStore.{if_some, length_binds, length_first, length_fits}
@@ -10,11 +11,7 @@ returns-clause-binds c =
     if_some s.recorded (λ l. LengthBinds s l) (λ l h blob is by. length_binds s.fixed (with_parents (state_in s.slots.items s.recorded) s.parents.items) blob l c.is_keyed.ensures is h by)
 
 pub returns-clause-fits : goal.returns-clause-fits
-returns-clause-fits c =
-    let s = c.args.self.now in
-    if_some s.recorded (λ l. l ≤ 1024 * s.fixed.capacity) (λ l h. length_fits s.fixed s.slots.items s.recorded s.parents.items l s.reached h)
+returns-clause-fits c = grind (arith, nat_tests, if_some, length_fits)
 
 pub returns-clause-whole : goal.returns-clause-whole
-returns-clause-whole c =
-    let s = c.args.self.now in
-    if_some s.recorded (λ l. s.fixed.base ≡ 0) (λ l h. length_first s.fixed s.slots.items s.recorded s.parents.items l s.reached h)
+returns-clause-whole c = grind (arith, nat_tests, if_some, length_first)

@@ -1,11 +1,8 @@
 use Rattle.std.proofs.Common.{◌+◌, take, slice_index, refl, arith}
 use Rattle.store_core.proofs.BoundStore.{read_binds}
-use Rattle.store_core.proofs.Copying.{IsFilled, copied_filled, copied_none, copied_part, ends_at}
+use Rattle.store_core.proofs.Copying.{IsFilled, copied_filled, copied_part, ends_at}
 use Rattle.store_core.specs.Slots.{state_in, with_parents}
 use Rattle.store_core.proofs.store.Store.read.Goals as goal
-
-pub loop-done-init : goal.loop-done-init
-loop-done-init c = copied_none _ _ _
 
 pub loop-done-preserved : goal.loop-done-preserved
 loop-done-preserved c =
