@@ -1,6 +1,6 @@
 -- A seat with all names stores all parents that the piece holds and that it has not seen held.
-use Rattle.std.proofs.Common.{◌≡◌, ℕ, ◌+◌, ◌*◌, ◌/◌, ◌%◌, ◌≤◌, nat_lt, true, false, Bool, not, ◌&&◌, List, [], ◌∷◌, ◌++◌, filter, length, Option, is_some, lit<, refl, sym, ap, ◌∙◌, arith, inl, inr, append-nil, length-append, ltb-false}
-use Rattle.std.proofs.lemmas.Bool.{cases_Bool}
+use Rattle.std.proofs.lemmas.Bool.Decides.{nat_tests}
+use Rattle.std.proofs.Common.{◌≡◌, ℕ, ◌+◌, ◌*◌, ◌/◌, ◌%◌, ◌≤◌, nat_lt, false, Bool, not, ◌&&◌, List, [], ◌++◌, length, Option, is_some, lit<, refl, sym, ap, ◌∙◌, arith, append-nil, length-append, ltb-false}
 use Rattle.bao_check.proofs.Descents.{parent_outside}
 use Rattle.bao_check.proofs.Parenting.{parent_in-some}
 use Rattle.bao_text.specs.Choice.{of_slice}
@@ -14,26 +14,15 @@ use Rattle.store_core.specs.Pieces.{holds_parent, length_of, places_in}
 use Rattle.store_core.specs.States.{State}
 use Rattle.store_core.specs.Views.{mine, names_of}
 use Rattle.store_core.proofs.Bits.{has_bit-zero}
-
-filter_le : (p : Event → Bool) (xs : List Event) → length (filter p xs) ≤ length xs
-filter_le p [] = omega arith
-filter_le p (x ∷ xs) =
-    let rest : length (filter p xs) ≤ length xs = filter_le p xs in
-    elim (cases_Bool (p x)) [
-      | inl passes ↦ rw passes (omega (arith, rest))
-      | inr fails ↦ rw fails (omega (arith, rest))
-    ]
-
-nothing : (xs : List Event) → length xs ≡ 0 → xs ≡ []
-nothing [] e = refl
-nothing (x ∷ xs) e = absurd (omega (arith, e))
+use Rattle.std.proofs.lemmas.List.{nil_from_length}
+use Rattle.std.proofs.lemmas.List.Filters.{length-filter_both}
 
 -- a seat that has made all calls that it has seen, saw none of others'
 pub saw_nothing : (old new : SeatView) → Sees old new → mine new ≡ new.seen → new.seen ≡ old.seen
 saw_nothing old new saw own =
     let long : new.seen ≡ (old.seen ++ saw.between) ++ [] = saw.goes_on.seen_is in
     let same : mine new ≡ mine old ++ [] = saw.goes_on.mine_is in
-    let few : length (mine old) ≤ length old.seen = filter_le (is_by (names_of old)) old.seen in
+    let few : length (mine old) ≤ length old.seen = omega (arith, length-filter_both (is_by (names_of old)) (λ e. not (is_by (names_of old) e)) (λ e. refl) old.seen) in
     let size : length saw.between ≡ 0 = omega (
       arith,
       few,
@@ -44,7 +33,7 @@ saw_nothing old new saw own =
       length-append old.seen saw.between,
       length-append (mine old) [],
     ) in
-    long ∙ append-nil (old.seen ++ saw.between) ∙ ap (λ (xs : List Event). old.seen ++ xs) (nothing saw.between size) ∙ append-nil old.seen
+    long ∙ append-nil (old.seen ++ saw.between) ∙ ap (λ (xs : List Event). old.seen ++ xs) (nil_from_length saw.between size) ∙ append-nil old.seen
 
 -- the piece holds no parent past the blob's last chunk
 holds_none : (capacity : ℕ) (piece : Piece) (m : ℕ) → length_of piece ≤ 1024 * capacity → capacity ≤ m → holds_parent piece m ≡ false
@@ -62,8 +51,7 @@ none_absent capacity group piece s fits past = record {
 }
 
 both_tests : (low holds free : Bool) → (low ≡ false → holds ≡ false) → ((low && holds) && (low && free)) ≡ (holds && free)
-both_tests true holds free none = refl
-both_tests false holds free none = ap (λ (b : Bool). b && free) (sym (none refl))
+both_tests low holds free none = grind (arith, nat_tests)
 
 -- the capacity leaves none out
 pub all_parents : (capacity group want mask : ℕ) (piece : Piece) (s : State) → length_of piece ≤ 1024 * capacity

@@ -1,8 +1,9 @@
 -- Which chunks a commit stores.
-use Rattle.std.proofs.Common.{◌≡◌, ◌↔◌, ℕ, ◌%◌, ◌<◌, ◌≤◌, nat_lt, Bool, true, false, not, ◌&&◌, sym, ap, ◌∙◌, arith, inl, inr}
+use Rattle.std.proofs.lemmas.Bool.Decides.{nat_tests}
+use Rattle.std.proofs.Common.{◌≡◌, ◌↔◌, ℕ, ◌%◌, ◌<◌, ◌≤◌, nat_lt, Bool, true, not, ◌&&◌, ap, ◌∙◌, arith}
 use Rattle.std.specs.Int.{w64, bit_not}
 use Rattle.std.specs.Int.Bits.{bit_and}
-use Rattle.std.proofs.lemmas.Bool.{and_parts, cases_lt, false_from_ne_true, le-ltb, lt-ltb}
+use Rattle.std.proofs.lemmas.Bool.{and_parts}
 use Rattle.store_core.specs.declared.history.Piece.{Piece}
 use Rattle.store_core.specs.declared.view.SeatView.{SeatView}
 use Rattle.store_core.specs.Masks.{IsMaskOf, has_bit, in_mask}
@@ -14,6 +15,10 @@ use Rattle.store_steps.specs.Kinds.{chunk_kind}
 use Rattle.store_calls.specs.StoredCells.{AreOwnItems}
 use Rattle.store_core.proofs.Bits.{and_small, has_bit-and, has_bit-not}
 
+-- what lies below the one number and not below the other
+spanned : (b : Bool) (c first after : ℕ) → (b ≡ true) ↔ ((first ≤ c) × (c < after)) → (nat_lt c after && not (nat_lt c first)) ≡ b
+spanned b c first after spans = grind (arith, nat_tests)
+
 -- the group's chunks from number `first` on and below `after`: those below `after`, but not below `first`
 pub span_mask : (group first after below_after below_first : ℕ) (test : ℕ → Bool) → ((c : ℕ) → (test c ≡ true) ↔ ((first ≤ c) × (c < after)))
     → IsMaskOf group below_after (λ c. nat_lt c after) → IsMaskOf group below_first (λ c. nat_lt c first) → IsMaskOf group (bit_and below_after (bit_not w64 below_first)) test
@@ -23,19 +28,7 @@ span_mask group first after below_after below_first test spans until before = re
       has_bit-and below_after (bit_not w64 below_first) (c % 64)
       ∙ ap (λ (b : Bool). b && has_bit (bit_not w64 below_first) (c % 64)) (until.bits c at)
       ∙ ap (λ (b : Bool). nat_lt c after && b) (has_bit-not below_first (c % 64) before.small (omega arith) ∙ ap (λ (b : Bool). not b) (before.bits c at))
-      ∙ elim (cases_lt c after) [
-        | inr past ↦
-            let none : test c ≡ false = false_from_ne_true (test c) (λ h. absurd (omega (arith, past, ((spans c).0 h).1))) in
-            ap (λ (b : Bool). b && not (nat_lt c first)) (le-ltb c after past) ∙ sym none
-        | inl within ↦
-            ap (λ (b : Bool). b && not (nat_lt c first)) (lt-ltb c after within)
-            ∙ elim (cases_lt c first) [
-              | inl early ↦
-                  let none : test c ≡ false = false_from_ne_true (test c) (λ h. absurd (omega (arith, early, ((spans c).0 h).0))) in
-                  ap (λ (b : Bool). not b) (lt-ltb c first early) ∙ sym none
-              | inr since ↦ ap (λ (b : Bool). not b) (le-ltb c first since) ∙ sym ((spans c).1 (since, within))
-            ]
-      ];
+      ∙ spanned (test c) c first after (spans c);
 }
 
 -- the items of two masks

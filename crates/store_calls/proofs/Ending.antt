@@ -1,70 +1,30 @@
 -- What a read of several loads has come to, and how its last load ends it.
-use Rattle.std.proofs.Common.{◌≡◌, ◌⊎◌, ℕ, ◌+◌, ◌*◌, ◌-◌, ◌<◌, ◌≤◌, Bool, true, false, if◌then◌else◌, List, [], ◌∷◌, ◌++◌, length, take, drop, get_or, slice_index, Option, None, Some, refl, sym, ap, subst, ◌∙◌, arith, inl, inr, append-nil, append_assoc, length-take, length-drop, get_or-take, get_or-drop, ext_get_or, take-append-drop}
-use Rattle.std.proofs.lemmas.Bool.{cases_lt}
+use Rattle.std.proofs.lemmas.Bool.Decides.{nat_tests}
+use Rattle.std.proofs.Common.{◌≡◌, ◌⊎◌, ℕ, ◌+◌, ◌*◌, ◌-◌, ◌<◌, ◌≤◌, Bool, true, false, if◌then◌else◌, List, [], ◌∷◌, ◌++◌, length, take, drop, get_or, slice_index, Option, None, Some, refl, sym, ap, subst, ◌∙◌, arith, inl, inr, length-take, length-drop, get_or-take, get_or-drop, ext_get_or, take-append-drop}
 use Rattle.std.proofs.lemmas.List.{get_or_append_left}
 use Rattle.b3tree.specs.Valid.{IsKeyed}
 use Rattle.store_core.specs.declared.fixed.Fixed.{Fixed}
 use Rattle.store_core.specs.declared.history.Call.{Call}
 use Rattle.store_core.specs.declared.history.Call.TheVariants.{Read}
 use Rattle.store_core.specs.declared.history.Event.{Event}
-use Rattle.store_core.specs.declared.view.Named.{Named}
 use Rattle.store_core.specs.declared.view.SeatView.{SeatView}
-use Rattle.store_core.specs.Events.{IsRightReply}
-use Rattle.store_core.specs.Histories.{AreLegalFrom, IsLegal, run, state_after}
+use Rattle.store_core.specs.Histories.{IsLegal, state_after}
 use Rattle.store_core.specs.Laws.{IsRead, IsSound}
-use Rattle.store_core.specs.States.{State, byte_at, empty, read_bytes}
+use Rattle.store_core.specs.States.{State, byte_at, read_bytes}
 use Rattle.store_core.specs.Stores.{AnswersRead, filled_count}
-use Rattle.store_core.specs.Views.{names_of, seat_claims}
 use Rattle.store_core.proofs.Bound.{byte_binds}
-use Rattle.store_core.proofs.Joining.{plain}
-use Rattle.store_core.proofs.Lasting.{legal-append, legal_is_sound, run-append}
+use Rattle.store_core.proofs.Lasting.{legal_is_sound}
 use Rattle.store_core.proofs.ReadLaws.{is_read, read_is}
 use Rattle.store_core.proofs.Running.{past_none}
-use Rattle.store_core.proofs.MachineInvariants.{byte_lasts}
 use Rattle.store_steps.specs.Reads.{group_end, is_last, read_end, read_events}
-use Rattle.store_core.specs.Knowledge.{Called, GoesOn, Looked, event_of}
-use Rattle.store_core.proofs.Going.{goes_on_then}
+use Rattle.store_core.specs.Knowledge.{Called, Looked, event_of, Sees}
+use Rattle.store_core.proofs.Going.{called_then, looked_state, sees_none, sees_then}
 use Rattle.store_steps.proofs.LastLoad.{is_last-false, is_last-true}
 use Rattle.store_calls.specs.Filled.{IsBufferFilled, StopsFilling}
 use Rattle.store_calls.specs.Reading.{SeatDidRead, SeatReadBinds}
 use Rattle.store_calls.proofs.Filling.{filled_then}
-
--- The seat has seen more, of others alone, and claims what it claimed.
-pub record IsGoing (first view : SeatView) : Type 0 where
-  pub between : List Event
-  pub goes_on : GoesOn first view between []
-  pub claims_are : (c : ℕ) → seat_claims view c ≡ seat_claims first c
-  pub storing_is : view.storing ≡ first.storing
-
-pub going_none : (view : SeatView) → IsLegal view.fixed view.seen → IsGoing view view
-going_none view legal = record {
-  between = [];
-  goes_on = record {
-    fixed_is = refl;
-    names_are = refl;
-    seen_is = sym (append-nil (view.seen ++ []) ∙ append-nil view.seen);
-    others = refl;
-    mine_is = sym (append-nil _);
-    legal = legal;
-  };
-  claims_are = λ c. refl;
-  storing_is = refl;
-}
-
--- What a seat has seen goes on.
-module _ (view new : SeatView) (between own : List Event) (on : GoesOn view new between own) where
-  more_is : new.seen ≡ view.seen ++ (between ++ own)
-  more_is = on.seen_is ∙ append_assoc view.seen between own
-
-  legal_parts : IsLegal new.fixed view.seen × AreLegalFrom new.fixed (state_after view.seen) (between ++ own)
-  legal_parts = legal-append new.fixed empty view.seen (between ++ own) (subst (λ (h : List Event). IsLegal new.fixed h) more_is on.legal)
-
-  pub seen_lasts : (q x : ℕ) → byte_at (state_after view.seen) q ≡ Some x → byte_at (state_after new.seen) q ≡ Some x
-  seen_lasts q x h =
-      let later : byte_at (run (state_after view.seen) (between ++ own)) q ≡ Some x =
-      byte_lasts new.fixed (state_after view.seen) (between ++ own) (legal_is_sound new.fixed view.seen legal_parts.0) legal_parts.1 q x h in
-      ap (λ (h : List Event). byte_at (run empty h) q) more_is
-      ∙ ap (λ (s : State). byte_at s q) (run-append empty view.seen (between ++ own)) ∙ later
+use Rattle.store_steps.proofs.Looking.{reads_quiet}
+use Rattle.store_calls.proofs.Slices.{after_there, keeps_seen, right_there}
 
 -- what was filled in is so in what is seen later
 pub filled_later : (view new : SeatView) (events : State → List Event) (at done : ℕ) (old out : List ℕ) → Looked events view new
@@ -73,67 +33,27 @@ filled_later view new events at done old out looked filled = record {
   forward = filled.forward;
   within = filled.within;
   size = filled.size;
-  bytes = λ i low high. seen_lasts view new looked.between (events (state_after (view.seen ++ looked.between))) looked.goes_on (at + i) (slice_index out i) (filled.bytes i low high);
+  bytes = λ i low high. (keeps_seen view new looked.between (events (state_after (view.seen ++ looked.between))) looked.goes_on).bytes (at + i) (slice_index out i) (filled.bytes i low high);
   others = filled.others;
 }
 
 -- A load of a read: the state in what is seen is that at the load.
-events_are : (view : SeatView) (group at len : ℕ) (s : State) (b : Bool) → is_last view.fixed group at len s ≡ b
-    → read_events view group at len s ≡ (if b then event_of view (Read at len (read_bytes s at len)) ∷ [] else [])
-events_are view group at len s b is = ap (λ (x : Bool). if x then event_of view (Read at len (read_bytes s at len)) ∷ [] else []) is
+module _ (first view new : SeatView) (group at len : ℕ) (going : Sees first view) (looked : Looked (read_events view group at len) view new) where
+  state_is : state_after new.seen ≡ state_after (view.seen ++ looked.between)
+  state_is = looked_state (read_events view group at len) view new (λ s. reads_quiet view group at len s) looked
 
-module _ (first view new : SeatView) (group at len : ℕ) (going : IsGoing first view) (looked : Looked (read_events view group at len) view new) where
-  abbrev between : List Event
-  between = looked.between
-
-  -- the state at the load
-  abbrev there : State
-  there = state_after (view.seen ++ between)
-
-  quiet : (b : Bool) → run there (if b then event_of view (Read at len (read_bytes there at len)) ∷ [] else []) ≡ there
-  quiet true = refl
-  quiet false = refl
-
-  pub state_is : state_after new.seen ≡ there
-  state_is =
-      ap (λ (h : List Event). state_after h) looked.goes_on.seen_is
-      ∙ run-append empty (view.seen ++ between) (read_events view group at len there)
-      ∙ quiet (is_last view.fixed group at len there)
-
-  claims_same : (c : ℕ) → seat_claims new c ≡ seat_claims first c
-  claims_same c = looked.claims_are c ∙ going.claims_are c
-
-  event_same : (call : Call) → event_of view call ≡ event_of first call
-  event_same call =
-      let by : List Named → Event = λ names. record { who = plain names; call = call } in
-      ap by going.goes_on.names_are
+  events_are : (b : Bool) → is_last view.fixed group at len (state_after new.seen) ≡ b → read_events view group at len (state_after (view.seen ++ looked.between))
+      ≡ (if b then event_of view (Read at len (read_bytes (state_after new.seen) at len)) ∷ [] else [])
+  events_are b is =
+      ap (λ (s : State). read_events view group at len s) (sym state_is)
+      ∙ ap (λ (x : Bool). if x then event_of view (Read at len (read_bytes (state_after new.seen) at len)) ∷ [] else []) is
 
   pub was_last : is_last view.fixed group at len (state_after new.seen) ≡ true → Called (Read at len (read_bytes (state_after new.seen) at len)) first new
   was_last last =
-      let here : is_last view.fixed group at len there ≡ true = ap (λ (s : State). is_last view.fixed group at len s) (sym state_is) ∙ last in
-      let call : Call = Read at len (read_bytes (state_after new.seen) at len) in
-      let own : read_events view group at len there ≡ event_of first call ∷ [] =
-      events_are view group at len there true here
-      ∙ ap (λ (s : State). event_of view (Read at len (read_bytes s at len)) ∷ []) (sym state_is)
-      ∙ ap (λ (e : Event). e ∷ []) (event_same call) in
-      record {
-        between = going.between ++ between;
-        goes_on = goes_on_then first view new going.between between (event_of first call ∷ []) going.goes_on
-            (subst (λ (es : List Event). GoesOn view new between es) own looked.goes_on);
-        claims_are = claims_same;
-        storing_is = looked.storing_is ∙ going.storing_is;
-      }
+      called_then first view new (read_events view group at len) going looked (Read at len (read_bytes (state_after new.seen) at len)) (λ claimed c. refl) (events_are true last)
 
-  pub was_not : is_last view.fixed group at len (state_after new.seen) ≡ false → IsGoing first new
-  was_not more =
-      let here : is_last view.fixed group at len there ≡ false = ap (λ (s : State). is_last view.fixed group at len s) (sym state_is) ∙ more in
-      record {
-        between = going.between ++ between;
-        goes_on = goes_on_then first view new going.between between [] going.goes_on
-            (subst (λ (es : List Event). GoesOn view new between es) (events_are view group at len there false here) looked.goes_on);
-        claims_are = claims_same;
-        storing_is = looked.storing_is ∙ going.storing_is;
-      }
+  pub was_not : is_last view.fixed group at len (state_after new.seen) ≡ false → Sees first new
+  was_not more = sees_then first view new (read_events view group at len) going looked (events_are false more)
 
 -- The bytes of a buffer that is filled as far as it can be are those that a read there gives.
 length_taken : (out : List ℕ) (n : ℕ) → n ≤ length out → length (take n out) ≡ n
@@ -177,7 +97,7 @@ pub read_nothing : (first new : SeatView) (at : ℕ) (old : List ℕ) (missing :
     → IsLegal first.fixed first.seen → Looked (read_events first 0 at (length old)) first new
     → (length old ≡ 0) ⊎ (1024 * first.fixed.capacity ≤ at) → AnswersRead at (length old) [] missing → SeatDidRead first new at old old missing
 read_nothing first new at old missing legal looked none answer =
-    let going : IsGoing first first = going_none first legal in
+    let going : Sees first first = sees_none first legal in
     let s : State = state_after new.seen in
     let empty_end : read_end first.fixed at (length old) ≤ at = elim none [ inl zero ↦ omega (arith, zero) | inr past ↦ omega (arith, past) ] in
     let last : is_last first.fixed 0 at (length old) s ≡ true = is_last-true first.fixed 0 at (length old) s (inl empty_end) in
@@ -192,7 +112,7 @@ read_nothing first new at old missing legal looked none answer =
     (λ taken. answer)
 
 -- A read over groups: one load of it, and what is then copied of the group.
-module _ (fixed : Fixed) (first view new : SeatView) (group at from done len : ℕ) (old mid out : List ℕ) (fixed_is : view.fixed ≡ fixed) (going : IsGoing first view)
+module _ (fixed : Fixed) (first view new : SeatView) (group at from done len : ℕ) (old mid out : List ℕ) (fixed_is : view.fixed ≡ fixed) (going : Sees first view)
     (before : IsBufferFilled (state_after view.seen) at 0 from old mid) (len_is : len ≡ length mid)
     (looked : Looked (read_events view group at len) view new) (more : IsBufferFilled (state_after new.seen) at from done mid out)
     (ends : StopsFilling (state_after new.seen) (at + done) (group_end group) done (length mid)) where
@@ -202,7 +122,7 @@ module _ (fixed : Fixed) (first view new : SeatView) (group at from done len : �
   asked : len ≡ length old
   asked = len_is ∙ before.size
 
-  pub filled_now : IsBufferFilled seen_state at 0 done old out
+  filled_now : IsBufferFilled seen_state at 0 done old out
   filled_now = filled_then seen_state at 0 from done old mid out (filled_later view new (read_events view group at len) at from old mid looked before) more
 
   stops : StopsFilling seen_state (at + done) (group_end group) done (length old)
@@ -253,40 +173,31 @@ module _ (fixed : Fixed) (first view new : SeatView) (group at from done len : �
   read_less less why = elim why [ inl inside ↦ read_gap less inside | inr past ↦ read_limit less past ]
 
   -- all is held up to the group's end, and the read goes on
-  pub read_on : done < length old → group_end group ≤ at + done → at + done < 1024 * fixed.capacity → IsGoing first new
+  pub read_on : done < length old → group_end group ≤ at + done → at + done < 1024 * fixed.capacity → Sees first new × IsBufferFilled seen_state at 0 done old out
   read_on less end below =
       let bytes : List ℕ = read_bytes seen_state at (length old) in
       let read : IsRead seen_state at (length old) bytes = read_is seen_state at (length old) in
-      let held : done ≤ length bytes = elim (cases_lt (length bytes) done) [
-        | inr enough ↦ enough
-        | inl short ↦
-            let none : byte_at seen_state (at + length bytes) ≡ None = read.missing (omega (arith, short, less)) in
-            let some : byte_at seen_state (at + length bytes) ≡ Some (slice_index out (length bytes)) = filled_now.bytes (length bytes) (omega arith) short in
-            cc
-      ] in
-      was_not first view new group at (length old) going looks
-      (is_last-false view.fixed group at (length old) seen_state (omega (arith, less, below, limit_is)) (omega (arith, less, end, below, stops.within, limit_is)) (omega (arith, held, end)))
+      let missing = read.missing in
+      let got = filled_now.bytes (length bytes) (omega arith) in
+      let held : done ≤ length bytes = grind (arith, nat_tests) in (
+        was_not first view new group at (length old) going looks (is_last-false view.fixed group at (length old) seen_state (omega (arith, less, below, limit_is))
+            (omega (arith, less, end, below, stops.within, limit_is)) (omega (arith, held, end))),
+        filled_now,
+      )
 
 -- What a read filled in is the blob's, or a collision is exhibited.
 answer_count : (at len : ℕ) (bytes : List ℕ) (missing : Option ℕ) → AnswersRead at len bytes missing → filled_count at len missing ≡ length bytes
-answer_count at len bytes None answer = sym answer
-answer_count at len bytes (Some p) answer = omega (arith, answer.1)
+answer_count at len bytes missing answer = grind (arith, nat_tests)
 
 pub binds : (first new : SeatView) (at : ℕ) (old out : List ℕ) (missing : Option ℕ) → IsKeyed new.fixed.mode → SeatDidRead first new at old out missing
     → SeatReadBinds new at out (filled_count at (length old) missing)
 binds first new at old out missing keyed did blob is i below =
     let call : Call = Read at (length old) did.bytes in
-    let on : GoesOn first new did.called.between (event_of first call ∷ []) = did.called.goes_on in
     let s : State = state_after (first.seen ++ did.called.between) in
-    let state : state_after new.seen ≡ s =
-    ap (λ (h : List Event). state_after h) on.seen_is ∙ run-append empty (first.seen ++ did.called.between) (event_of first call ∷ []) in
-    let right : IsRightReply new.fixed s (names_of first) call =
-    (legal-append new.fixed empty (first.seen ++ did.called.between) (event_of first call ∷ [])
-    (subst (λ (h : List Event). IsLegal new.fixed h) on.seen_is on.legal)).1.0 in
-    let bytes_are : did.bytes ≡ read_bytes s at (length old) = right in
+    let bytes_are : did.bytes ≡ read_bytes s at (length old) = right_there call first new did.called in
     let inside : i < length did.bytes = omega (arith, below, answer_count at (length old) did.bytes missing did.answer) in
     let read : IsRead s at (length old) did.bytes = subst (λ (xs : List ℕ). IsRead s at (length old) xs) (sym bytes_are) (read_is s at (length old)) in
     let same : slice_index out i ≡ slice_index did.bytes i =
     ap (λ (xs : List ℕ). get_or xs i 0) did.filled ∙ get_or_append_left did.bytes (drop (length did.bytes) old) 0 i inside in
-    byte_binds new.fixed new.seen blob (at + i) (slice_index out i) keyed is on.legal
-    (ap (λ (t : State). byte_at t (at + i)) state ∙ read.held i inside ∙ ap (λ (x : ℕ). Some x) (sym same))
+    byte_binds new.fixed new.seen blob (at + i) (slice_index out i) keyed is did.called.goes_on.legal
+    (ap (λ (t : State). byte_at t (at + i)) (after_there call first new did.called) ∙ read.held i inside ∙ ap (λ (x : ℕ). Some x) (sym same))

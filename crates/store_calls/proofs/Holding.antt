@@ -60,9 +60,15 @@ pub size_fits : (fixed : Fixed) (history : List Event) (c : ℕ) → IsLegal fix
 size_fits fixed history c legal = size_small (state_after history) (held_valid fixed history legal) c
 
 -- the first word of a held chunk's cell is its size
-pub size_is : (s : State) (c word : ℕ) → is_held s c ≡ true → ((bytes : List ℕ) → s.held c ≡ Some bytes → word ≡ cell_word bytes 0) → word ≡ held_size s c
+size_is : (s : State) (c word : ℕ) → is_held s c ≡ true → ((bytes : List ℕ) → s.held c ≡ Some bytes → word ≡ cell_word bytes 0) → word ≡ held_size s c
 size_is s c word held found =
     let there = some_there (s.held c) held in found there.0 there.1 ∙ sym (size_of s c there.0 there.1)
+
+-- as it is in what a legal history leaves
+pub chunk_size : (fixed : Fixed) (history : List Event) (c word : ℕ) → IsLegal fixed history → is_held (state_after history) c ≡ true
+    → ((bytes : List ℕ) → (state_after history).held c ≡ Some bytes → word ≡ cell_word bytes 0) → (word ≡ held_size (state_after history) c) × (word ≤ 1024)
+chunk_size fixed history c word legal held found =
+    let is : word ≡ held_size (state_after history) c = size_is (state_after history) c word held found in (is, omega (arith, is, size_fits fixed history c legal))
 
 -- a position past the bytes of its chunk isn't held
 none_past : (o : Option (List ℕ)) (k : ℕ) → length (unwrap_or o []) ≤ k → option_and_then (λ bytes. slice_get bytes k) o ≡ None

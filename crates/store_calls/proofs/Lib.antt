@@ -7,5 +7,4 @@ pub mod Slices
 pub mod Eights
 pub mod Storing
 pub mod CommittedChunks
-pub mod ParentsStoring
 pub mod ParentsCommitting

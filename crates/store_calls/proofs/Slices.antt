@@ -1,8 +1,9 @@
 -- What a slice of several loads has come to, and how its last load ends it.
+use Rattle.std.proofs.lemmas.Bool.Decides.{nat_tests}
 use Rattle.std.proofs.Common.{◌≡◌, ℕ, ◌+◌, ◌*◌, ◌<◌, ◌≤◌, max, Bool, true, false, ◌||◌, if◌then◌else◌, List, [], ◌∷◌, ◌++◌, length, map, Option, None, Some, is_none, is_some, not, refl, sym, ap, subst, ◌∙◌, arith, inl, inr, append-nil, append_assoc}
 use Rattle.std.specs.List.{AllByRecursion}
 use Rattle.std.specs.Option.{MatchOption}
-use Rattle.std.proofs.lemmas.Bool.{cases_Bool, cases_lt, lt-ltb}
+use Rattle.std.proofs.lemmas.Bool.{cases_Bool, cases_lt, lt-ltb, or_right}
 use Rattle.b3tree.specs.Valid.{IsKeyed}
 use Rattle.bao_text.specs.declared.choice.Choice.{Choice}
 use Rattle.bao_text.specs.declared.walk.Node.{Node}
@@ -21,11 +22,11 @@ use Rattle.store_core.specs.declared.history.Event.{Event}
 use Rattle.store_core.specs.declared.history.Serving.{Serving}
 use Rattle.store_core.specs.declared.history.Serving.TheVariants.{Lacking, NoLength, Text}
 use Rattle.store_core.specs.declared.view.SeatView.{SeatView}
-use Rattle.store_core.specs.Events.{IsRightReply}
+use Rattle.store_core.specs.Events.{IsRightReply, after_call}
 use Rattle.store_core.specs.Histories.{AreLegalFrom, IsLegal, run, state_after}
 use Rattle.store_core.specs.Laws.{IsSound}
 use Rattle.store_core.specs.Serves.{after_bytes, node_and, node_held, served, serving, serving_of}
-use Rattle.store_core.specs.States.{State, empty}
+use Rattle.store_core.specs.States.{State, empty, byte_at}
 use Rattle.store_core.specs.Stores.{GainsNode}
 use Rattle.store_core.specs.Views.{names_of as calls_as}
 use Rattle.store_core.proofs.Lasting.{held_from, legal-append, legal_is_sound, recorded_from, run-append}
@@ -37,17 +38,23 @@ use Rattle.store_steps.specs.Slices.{node_events, node_number, unserved_events}
 use Rattle.store_core.specs.Knowledge.{Called, GoesOn, Looked, Sees, event_of}
 use Rattle.store_core.proofs.Going.{LeavesClaims, called_then, looked_state, sees_none, sees_then}
 use Rattle.store_calls.specs.Serving.{SeatSliceBinds, SeatSliceIsAccepted}
+use Rattle.store_core.proofs.MachineInvariants.{byte_lasts}
 
--- what the one state holds of nodes the other holds too, and it has the same length recorded
+-- what the one state holds of nodes and of bytes the other holds too, and it has the same length recorded
 pub record Keeps (s t : State) : Type 0 where
   pub nodes : (node : Node) (bytes : List ℕ) → node_held s node ≡ Some bytes → node_held t node ≡ Some bytes
+  pub bytes : (q x : ℕ) → byte_at s q ≡ Some x → byte_at t q ≡ Some x
   pub recorded : (l : ℕ) → s.recorded ≡ Some l → t.recorded ≡ Some l
 
 keeps_same : (s : State) → Keeps s s
-keeps_same s = record { nodes = λ node bytes h. h; recorded = λ l h. h }
+keeps_same s = record { nodes = λ node bytes h. h; bytes = λ q x h. h; recorded = λ l h. h }
 
 keeps_then : (s t u : State) → Keeps s t → Keeps t u → Keeps s u
-keeps_then s t u one two = record { nodes = λ node bytes h. two.nodes node bytes (one.nodes node bytes h); recorded = λ l h. two.recorded l (one.recorded l h) }
+keeps_then s t u one two = record {
+  nodes = λ node bytes h. two.nodes node bytes (one.nodes node bytes h);
+  bytes = λ q x h. two.bytes q x (one.bytes q x h);
+  recorded = λ l h. two.recorded l (one.recorded l h);
+}
 
 -- What is held stays, and so does a recorded length.
 node_stays : (fixed : Fixed) (s : State) (events : List Event) → IsSound fixed s → AreLegalFrom fixed s events → (node : Node) (bytes : List ℕ)
@@ -65,8 +72,27 @@ keeps_seen view new between own on =
     let sound = legal_is_sound new.fixed view.seen legal.0 in
     subst (λ (t : State). Keeps s t) (sym later) (record {
       nodes = λ node bytes h. node_stays new.fixed s more sound legal.1 node bytes h;
+      bytes = λ q x h. byte_lasts new.fixed s more sound legal.1 q x h;
       recorded = λ l h. recorded_from new.fixed s more legal.1 l h;
     })
+
+-- a call stands in a legal history
+pub legal_there : (call : Call) (old new : SeatView) (d : Called call old new)
+    → IsLegal new.fixed (old.seen ++ d.between) × AreLegalFrom new.fixed (state_after (old.seen ++ d.between)) (event_of old call ∷ [])
+legal_there call old new d =
+    legal-append new.fixed empty (old.seen ++ d.between) (event_of old call ∷ []) (subst (λ (h : List Event). IsLegal new.fixed h) d.goes_on.seen_is d.goes_on.legal)
+
+-- its reply is the right one at its place
+pub right_there : (call : Call) (old new : SeatView) (d : Called call old new) → IsRightReply new.fixed (state_after (old.seen ++ d.between)) (calls_as old) call
+right_there call old new d = (legal_there call old new d).1.0
+
+-- the state of what is seen then is the one after it, and the one before it where the call changes nothing
+pub after_there : (call : Call) (old new : SeatView) (d : Called call old new) → state_after new.seen ≡ after_call (calls_as old) call (state_after (old.seen ++ d.between))
+after_there call old new d = ap (λ (h : List Event). state_after h) d.goes_on.seen_is ∙ run-append empty (old.seen ++ d.between) (event_of old call ∷ [])
+
+pub same_there : (call : Call) (old new : SeatView) (called : Called call old new) → ((s : State) → after_call (calls_as old) call s ≡ s)
+    → state_after new.seen ≡ state_after (old.seen ++ called.between)
+same_there call old new called same = after_there call old new called ∙ same (state_after (old.seen ++ called.between))
 
 -- A slice of which the bytes so far are `out`: `next` and then `rest` are the nodes that are left. Between two nodes the seat
 -- has seen more, and in each state that keeps what it has seen the bytes and the nodes left make up the slice. After the
@@ -97,10 +123,7 @@ below_next capacity (Some node) old rest steps all = subst (λ (nodes : List Nod
 
 -- none is left where there is no other
 pub none_told : (b : Bool) (next : Option Node) → is_some next ≡ not b → b ≡ is_none next
-none_told true None h = refl
-none_told false None h = cc
-none_told true (Some node) h = cc
-none_told false (Some node) h = refl
+none_told b next h = grind (arith, nat_tests)
 
 -- bytes before bytes
 after_both : (out bytes : List ℕ) (rest : Serving) → after_bytes out (after_bytes bytes rest) ≡ after_bytes (out ++ bytes) rest
@@ -113,8 +136,7 @@ serve_leaves start len answer = λ claimed c. refl
 
 -- a Serve leaves the state
 quiet_if : (b : Bool) (view : SeatView) (start len : ℕ) (s : State) → run s (if b then event_of view (Serve start len (serving s start len)) ∷ [] else []) ≡ s
-quiet_if true view start len s = refl
-quiet_if false view start len s = refl
+quiet_if b view start len s = grind (arith, nat_tests)
 
 -- a node that is left, which is held
 gained_some : (o : Option (List ℕ)) (out more : List ℕ) → GainsNode o out more true → (bytes : List ℕ) × ((o ≡ Some bytes) × (more ≡ out ++ bytes))
@@ -122,8 +144,7 @@ gained_some None out more h = cc
 gained_some (Some bytes) out more h = (bytes, (refl, h.1))
 
 gained_none : (o : Option (List ℕ)) (out more : List ℕ) → GainsNode o out more false → o ≡ None
-gained_none None out more h = refl
-gained_none (Some bytes) out more h = let bad : false ≡ true = h.0 in cc
+gained_none o out more h = grind (arith, nat_tests)
 
 module _ (first view new : SeatView) (start len : ℕ) (node : Node) (next : Option Node) (old rest : List Node) (out more : List ℕ)
     (going : IsServing first view start len (Some node) old out) (steps : Steps next old rest) (last : Bool) (last_is : last ≡ is_none next)
@@ -161,10 +182,7 @@ module _ (first view new : SeatView) (start len : ℕ) (node : Node) (next : Opt
       let none : node_held seen_state node ≡ None = gained_none (node_held seen_state node) out more h in
       let answer : Lacking node ≡ serving seen_state start len =
       ap (λ (o : Option (List ℕ)). after_bytes out (node_and node o (served seen_state old))) (sym none) ∙ makes seen_state (keeps_same seen_state) in
-      elim (cases_Bool last) [
-        | inl only ↦ ends (Lacking node) (rw only refl) answer
-        | inr more_left ↦ ends (Lacking node) (rw (more_left, none) refl) answer
-      ]
+      ends (Lacking node) (or_right last _ (ap (λ (o : Option (List ℕ)). is_none o) none)) answer
 
   -- the bytes of the node are put to those before it
   module _ (h : GainsNode (node_held seen_state node) out more true) where
@@ -270,16 +288,7 @@ names_below fixed history l start len legal some capacity =
 -- an encoding that was served is served by what the seat has seen
 still_served : (first new : SeatView) (start len : ℕ) (text : List ℕ) → Called (Serve start len (Text text)) first new → serving (state_after new.seen) start len ≡ Text text
 still_served first new start len text called =
-    let call : Call = Serve start len (Text text) in
-    let on : GoesOn first new called.between (event_of first call ∷ []) = called.goes_on in
-    let s : State = state_after (first.seen ++ called.between) in
-    let state : state_after new.seen ≡ s =
-    ap (λ (h : List Event). state_after h) on.seen_is ∙ run-append empty (first.seen ++ called.between) (event_of first call ∷ []) in
-    let right : IsRightReply new.fixed s (calls_as first) call =
-    (legal-append new.fixed empty (first.seen ++ called.between) (event_of first call ∷ [])
-    (subst (λ (h : List Event). IsLegal new.fixed h) on.seen_is on.legal)).1.0 in
-    let answer : Text text ≡ serving s start len = right in
-    ap (λ (t : State). serving t start len) state ∙ sym answer
+    ap (λ (s : State). serving s start len) (after_there (Serve start len (Text text)) first new called) ∙ sym (right_there (Serve start len (Text text)) first new called)
 
 -- What was served is a blob's slice, or a collision is exhibited.
 pub serve_binds : (first new : SeatView) (start len : ℕ) (text : List ℕ) → IsKeyed new.fixed.mode → Called (Serve start len (Text text)) first new → SeatSliceBinds new start len text

@@ -1,6 +1,6 @@
 -- The claims that a seat keeps stay those of its view.
-use Rattle.std.proofs.Common.{◌≡◌, ◌≢◌, ℕ, ◌/◌, ◌%◌, ◌^◌, ◌+◌, ◌<◌, ◌≤◌, ◌==◌, Bool, true, false, not, ◌&&◌, ◌||◌, List, [], ◌++◌, length, replicate, set, slice_index, refl, sym, ap, subst, ◌∙◌, arith, inl, inr, eq-eqb, ne_eqb}
-use Rattle.std.proofs.lemmas.Bool.{both_ways, cases_eq, false_from_ne_true}
+use Rattle.std.proofs.Common.{◌≡◌, ◌≢◌, ℕ, ◌/◌, ◌%◌, ◌^◌, ◌+◌, ◌<◌, ◌≤◌, Bool, false, not, ◌&&◌, ◌||◌, List, [], ◌++◌, length, replicate, set, slice_index, refl, sym, ap, subst, ◌∙◌, arith, inl, inr, eq-eqb, ne_eqb}
+use Rattle.std.proofs.lemmas.Bool.{both_ways, cases_eq, false_from_ne_true, and_right}
 use Rattle.std.proofs.lemmas.List.{get_or-replicate, length-replicate, length-set}
 use Rattle.std.specs.Int.{w64, bit_not}
 use Rattle.std.specs.Int.Bits.{bit_and, bit_or}
@@ -11,11 +11,11 @@ use Rattle.store_core.specs.declared.view.Boundaries.{Boundaries}
 use Rattle.store_core.specs.declared.view.SeatView.{SeatView}
 use Rattle.store_core.specs.Machine.{groups}
 use Rattle.store_core.specs.Masks.{IsMaskOf, has_bit, in_mask}
-use Rattle.store_core.specs.Histories.{state_after}
+use Rattle.store_core.specs.Histories.{state_after, IsLegal}
 use Rattle.store_core.specs.Names.{Name}
 use Rattle.store_core.specs.States.{claims}
 use Rattle.store_core.specs.Stores.{ChunksBind}
-use Rattle.store_core.specs.Views.{names_of, seat_claims, split_first}
+use Rattle.store_core.specs.Views.{names_of, seat_claims, split_first, Continues}
 use Rattle.store_core.proofs.Joining.{claims_continued, join_keeps, split_keeps}
 use Rattle.store_core.proofs.Tells.{claims_apart}
 use Rattle.store_calls.specs.Grips.{AreClaimed}
@@ -23,6 +23,8 @@ use Rattle.store_core.specs.Knowledge.{AreMet, ArePartsOf, Did, IsMerged, KeepsC
 use Rattle.store_core.proofs.Bits.{and_small, has_bit-and, has_bit-not, has_bit-or, has_bit-zero}
 use Rattle.std.proofs.lemmas.List.{get_or-set_other, get_or-set_same}
 use Rattle.store_shared.specs.Seats.{AreClaims}
+use Rattle.std.proofs.Math.Bool.{and_comm, or_comm}
+use Rattle.store_core.specs.declared.history.Event.{Event}
 
 -- words of zeros, for a seat that claims nothing
 pub none_claimed : (view : SeatView) (count : ℕ) → count ≡ groups view.fixed → ((c : ℕ) → seat_claims view c ≡ false) → view.storing ≡ [] → AreClaims view (replicate count 0)
@@ -63,19 +65,13 @@ pub claimed_bits : (view : SeatView) (claims : List ℕ) (group c : ℕ) → Are
 claimed_bits view claims group c kept within at =
     ap (λ (i : ℕ). has_bit (slice_index claims i) (c % 64)) (sym at) ∙ kept.bits c (omega (arith, within, at))
 
-swap_or : (a b : Bool) → (a || b) ≡ (b || a)
-swap_or true true = refl
-swap_or true false = refl
-swap_or false true = refl
-swap_or false false = refl
-
 pub claims_took : (old new : SeatView) (claims : List ℕ) (group want granted word : ℕ) → AreClaims old claims → group < groups old.fixed
     → word ≡ slice_index claims group → Did (Take group want granted) old new → AreClaims new (set claims group (bit_or word granted))
 claims_took old new claims group want granted word kept within is did =
     claims_put old new claims group (bit_or word granted) kept did.goes_on.fixed_is did.storing_is within
     (λ c at.
     let mine : has_bit word (c % 64) ≡ seat_claims old c = ap (λ (w : ℕ). has_bit w (c % 64)) is ∙ claimed_bits old claims group c kept within at in
-    has_bit-or word granted (c % 64) ∙ ap (λ (b : Bool). b || has_bit granted (c % 64)) mine ∙ swap_or (seat_claims old c) (has_bit granted (c % 64))
+    has_bit-or word granted (c % 64) ∙ ap (λ (b : Bool). b || has_bit granted (c % 64)) mine ∙ or_comm (seat_claims old c) (has_bit granted (c % 64))
     ∙ sym (ap (λ (b : Bool). (b && has_bit granted (c % 64)) || seat_claims old c) (eq-eqb (c / 64) group at)) ∙ sym (did.claims_are c))
     (λ c other. did.claims_are c ∙ ap (λ (b : Bool). (b && has_bit granted (c % 64)) || seat_claims old c) (ne_eqb (c / 64) group other))
 
@@ -90,14 +86,15 @@ claims_same old new words kept same storing claimed =
       idle = storing ∙ kept.idle;
     }
 
--- A seat that met another claims what it claimed.
-pub met_keeps_first : (first second new_first new_second : SeatView) → AreMet first second new_first new_second → KeepsClaims first new_first
-met_keeps_first first second new_first new_second met =
-    subst (λ (v : SeatView). KeepsClaims first v) (sym met.first_is) (λ c. claims_continued first.fixed first met.history met.after_first met.legal c)
+-- A seat that met another has seen more, and claims what it claimed.
+pub met_keeps : (of : Fixed) (view new : SeatView) (history : List Event) → new ≡ record view { seen = history } → Continues view history → IsLegal of history → KeepsClaims view new
+met_keeps of view new history is on legal =
+    subst (λ (v : SeatView). KeepsClaims view v) (sym is) (λ c. claims_continued of view history on legal c)
 
-pub met_keeps_second : (first second new_first new_second : SeatView) → AreMet first second new_first new_second → KeepsClaims second new_second
-met_keeps_second first second new_first new_second met =
-    subst (λ (v : SeatView). KeepsClaims second v) (sym met.second_is) (λ c. claims_continued first.fixed second met.history met.after_second met.legal c)
+pub met_claims : (of : Fixed) (view new : SeatView) (history : List Event) (words : List ℕ) → AreClaims view words → new ≡ record view { seen = history }
+    → Continues view history → IsLegal of history → AreClaims new words
+met_claims of view new history words kept is on legal =
+    claims_same view new words kept (ap (λ (v : SeatView). v.fixed) is) (ap (λ (v : SeatView). v.storing) is) (met_keeps of view new history is on legal)
 
 -- Both have seen one history, and have no name in common.
 pub met_apart : (first second new_first new_second : SeatView) → AreMet first second new_first new_second → NoneIsClaimedByBoth new_first new_second
@@ -109,20 +106,8 @@ met_apart first second new_first new_second met =
 
 pub were_apart : (first second new_first new_second : SeatView) → AreMet first second new_first new_second → NoneIsClaimedByBoth first second
 were_apart first second new_first new_second met c mine =
-    sym (met_keeps_second first second new_first new_second met c)
-    ∙ met_apart first second new_first new_second met c (met_keeps_first first second new_first new_second met c ∙ mine)
-
-pub met_first : (first second new_first new_second : SeatView) (words : List ℕ) → AreClaims first words → AreMet first second new_first new_second
-    → AreClaims new_first words
-met_first first second new_first new_second words kept met =
-    claims_same first new_first words kept (ap (λ (v : SeatView). v.fixed) met.first_is) (ap (λ (v : SeatView). v.storing) met.first_is)
-    (met_keeps_first first second new_first new_second met)
-
-pub met_second : (first second new_first new_second : SeatView) (words : List ℕ) → AreClaims second words → AreMet first second new_first new_second
-    → AreClaims new_second words
-met_second first second new_first new_second words kept met =
-    claims_same second new_second words kept (ap (λ (v : SeatView). v.fixed) met.second_is) (ap (λ (v : SeatView). v.storing) met.second_is)
-    (met_keeps_second first second new_first new_second met)
+    sym (met_keeps first.fixed second new_second met.history met.second_is met.after_second met.legal c)
+    ∙ met_apart first second new_first new_second met c (met_keeps first.fixed first new_first met.history met.first_is met.after_first met.legal c ∙ mine)
 
 pub part_first : (old first second : SeatView) (words : List ℕ) → AreClaims old words → ArePartsOf old first second → AreClaims first words
 part_first old first second words kept parts =
@@ -135,12 +120,6 @@ part_second old first second count zeros size parts is =
     subst (λ (xs : List ℕ). AreClaims second xs) (sym is)
     (none_claimed second count (size ∙ ap (λ (v : SeatView). groups v.fixed) (sym parts.second_is)) parts.no_claims
     (ap (λ (v : SeatView). v.storing) parts.second_is))
-
-swap_and : (a b : Bool) → (a && b) ≡ (b && a)
-swap_and true true = refl
-swap_and true false = refl
-swap_and false true = refl
-swap_and false false = refl
 
 -- the word of a group is the mask of the chunks that are claimed
 pub claimed_mask : (view : SeatView) (claims : List ℕ) (group word : ℕ) → AreClaims view claims → group < groups view.fixed → word ≡ slice_index claims group
@@ -158,7 +137,7 @@ claimed_among view claims group mask word kept within is small = record {
   bits = λ c at.
       has_bit-and word mask (c % 64)
       ∙ ap (λ (b : Bool). b && has_bit mask (c % 64)) ((claimed_mask view claims group word kept within is small).bits c at)
-      ∙ swap_and (seat_claims view c) (has_bit mask (c % 64));
+      ∙ and_comm (seat_claims view c) (has_bit mask (c % 64));
 }
 
 -- claims of a group's chunks end, and the others stay
@@ -172,13 +151,12 @@ claims_ended old new claims group ended word kept same storing within is small l
     let mine : has_bit word (c % 64) ≡ seat_claims old c = ap (λ (w : ℕ). has_bit w (c % 64)) is ∙ claimed_bits old claims group c kept within at in
     has_bit-and word (bit_not w64 ended) (c % 64) ∙ ap (λ (b : Bool). b && has_bit (bit_not w64 ended) (c % 64)) mine
     ∙ ap (λ (b : Bool). seat_claims old c && b) (has_bit-not ended (c % 64) small (omega arith))
-    ∙ swap_and (seat_claims old c) (not (has_bit ended (c % 64)))
+    ∙ and_comm (seat_claims old c) (not (has_bit ended (c % 64)))
     ∙ sym (ap (λ (b : Bool). not (b && has_bit ended (c % 64)) && seat_claims old c) (eq-eqb (c / 64) group at)) ∙ sym (left c))
     (λ c other. left c ∙ ap (λ (b : Bool). not (b && has_bit ended (c % 64)) && seat_claims old c) (ne_eqb (c / 64) group other))
 
 no_chunk : (group c : ℕ) → in_mask group 0 c ≡ false
-no_chunk group c =
-    swap_and (c / 64 == group) (has_bit 0 (c % 64)) ∙ ap (λ (b : Bool). b && (c / 64 == group)) (has_bit-zero (c % 64))
+no_chunk group c = and_right _ _ (has_bit-zero (c % 64))
 
 -- no chunk is committed, so none is bound
 pub none_bind : (fixed : Fixed) (piece : Piece) (group : ℕ) → ChunksBind fixed piece group 0

@@ -1,4 +1,5 @@
 -- A one-thread store mirrors a history's state: its seats' numbers stand for names. So both give the same replies.
+use Rattle.std.proofs.lemmas.Bool.Decides.{nat_tests}
 use Rattle.std.proofs.Common.{◌≡◌, ℕ, ◌+◌, ◌-◌, ◌/◌, ◌%◌, ◌^◌, eqb-true, arith, zero, suc, nat_lt, ◌==◌, Bool, true, false, not, ◌&&◌, ◌||◌, if◌then◌else◌, List, [], ◌∷◌, map, Option, None, Some, is_some, option_map, refl, sym, ap, subst, ◌∙◌, inl, inr}
 use Rattle.std.proofs.lemmas.Bool.{and_from, and_parts, both_ways, cases_Bool, false_from_ne_true, false≢true, lt-ltb}
 use Rattle.store_core.specs.declared.fixed.Fixed.{Fixed}
@@ -8,7 +9,6 @@ use Rattle.store_core.specs.declared.history.Event.{Event}
 use Rattle.store_core.specs.declared.history.Piece.{Piece}
 use Rattle.store_core.specs.declared.history.Serving.{Serving}
 use Rattle.store_core.specs.declared.history.Storing.{Storing}
-use Rattle.store_core.specs.declared.history.Storing.TheVariants.{OtherLength, Stored}
 use Rattle.store_core.specs.declared.store.Store.{Store}
 use Rattle.bao_text.specs.declared.walk.Node.{Node}
 use Rattle.bao_text.specs.declared.walk.Node.TheVariants.{Chunk, Parent}
@@ -39,15 +39,13 @@ abbrev pub mirrored : Numbering → State → State
 mirrored number s = record s { claim = λ c. option_map (alone (number c)) (s.claim c) }
 
 some_same : (number : Name → ℕ) (o : Option Name) → is_some (option_map (alone number) o) ≡ is_some o
-some_same number None = refl
-some_same number (Some name) = refl
+some_same number o = grind (arith, nat_tests)
 
 free_same : (number : Numbering) (fixed : Fixed) (s : State) (c : ℕ) → is_free fixed (mirrored number s) c ≡ is_free fixed s c
 free_same number fixed s c = ap (λ (b : Bool). nat_lt c fixed.capacity && not (is_held s c || b)) (some_same (number c) (s.claim c))
 
 plain_test : (b : Bool) → ((b && true) || false) ≡ b
-plain_test true = refl
-plain_test false = refl
+plain_test b = grind (arith, nat_tests)
 
 among_same : (number : Name → ℕ) (who : List Name) (seat : ℕ) (o : Option Name) → ((name : Name) → o ≡ Some name → has_name who name ≡ (number name == seat))
     → is_among (caller seat) (option_map (alone number) o) ≡ is_among who o
@@ -75,8 +73,7 @@ serving_same : (number : Numbering) (s : State) (start len : ℕ) → serving (m
 serving_same number s start len = serving_same_of number s s.recorded start len
 
 storing_mirrored : (number : Numbering) (s : State) (group : ℕ) (piece : Piece) (answer : Storing) → IsStoring s group piece answer → IsStoring (mirrored number s) group piece answer
-storing_mirrored number s group piece OtherLength h = h
-storing_mirrored number s group piece (Stored mask) h = h
+storing_mirrored number s group piece answer h = grind (arith, nat_tests)
 
 -- a right reply is right in the mirrored state too
 pub right_mirrored : (fixed : Fixed) (number : Numbering) (s : State) (who : List Name) (seat : ℕ) → IsSeat number s who seat → (call : Call)
@@ -99,13 +96,11 @@ right_mirrored fixed number s who seat is (Parents g p a) right = (right.0, stor
 right_mirrored fixed number s who seat is (Serve start len a) right = right ∙ sym (serving_same number s start len)
 
 least_same : (number : Name → ℕ) (o : Option Name) (seat : ℕ) → option_map number o ≡ Some seat → Some (seat ∷ []) ≡ option_map (alone number) o
-least_same number None seat e = cc
-least_same number (Some name) seat e = let same : number name ≡ seat = cc in ap (λ (n : ℕ). Some (n ∷ [])) (sym same)
+least_same number o seat e = grind (arith, nat_tests)
 
 mapped : (number : Name → ℕ) (hit : Bool) (new old : Option Name) (put : Option Name) → put ≡ option_map (alone number) new
     → (if hit then put else option_map (alone number) old) ≡ option_map (alone number) (if hit then new else old)
-mapped number true new old put e = e
-mapped number false new old put e = refl
+mapped number hit new old put e = grind (arith, nat_tests)
 
 -- and the state after the call mirrors the one after it
 pub after_mirrored : (number : Numbering) (s : State) (who : List Name) (seat : ℕ) → IsSeat number s who seat → (call : Call)
@@ -145,13 +140,18 @@ module _ (fixed : Fixed) (number : Numbering) (s : State) (group from to given t
   abbrev middle : State
   middle = after_call (caller from) (Give group (2 ^ 64 - 1) given) (mirrored number s)
 
-  -- a chunk that was given is free, and so it is taken
+  -- a chunk that was given had a claim of the seat's
+  its_claim : (c : ℕ) → in_mask group given c ≡ true → (name : Name) × (s.claim c ≡ Some name) × ((number c name == from) ≡ true)
+  its_claim c hit =
+      let parts = and_parts (c / 64 == group) (has_bit given (c % 64)) hit in
+      claimed_from (number c) from (s.claim c) (and_parts (has_bit (2 ^ 64 - 1) (c % 64)) (claims (caller from) (mirrored number s) c)
+      (sym (gave.bits c (eqb-true (c / 64) group parts.0)) ∙ parts.1)).1
+
+  -- so that it is free, and it is taken
   given_taken : (c : ℕ) → in_mask group given c ≡ true → in_mask group taken c ≡ true
   given_taken c hit =
       let parts = and_parts (c / 64 == group) (has_bit given (c % 64)) hit in
-      let ours : claims (caller from) (mirrored number s) c ≡ true = (and_parts (has_bit (2 ^ 64 - 1) (c % 64)) (claims (caller from) (mirrored number s) c)
-      (sym (gave.bits c (eqb-true (c / 64) group parts.0)) ∙ parts.1)).1 in
-      let was = claimed_from (number c) from (s.claim c) ours in
+      let was = its_claim c hit in
       let claimed : is_claimed s c ≡ true = ap (λ (o : Option Name). is_some o) was.1 in
       let below : nat_lt c fixed.capacity ≡ true = lt-ltb c fixed.capacity (sound.claimed_below c claimed) in
       let not_held : is_held s c ≡ false = false_from_ne_true _ (λ held. both_ways _ (sound.apart c held) claimed) in
@@ -181,9 +181,7 @@ module _ (fixed : Fixed) (number : Numbering) (s : State) (group from to given t
   turns : (c : ℕ) → in_mask group given c ≡ true → Some (to ∷ []) ≡ option_map (alone (moved number group from to c)) (s.claim c)
   turns c hit =
       let parts = and_parts (c / 64 == group) (has_bit given (c % 64)) hit in
-      let ours : claims (caller from) (mirrored number s) c ≡ true = (and_parts (has_bit (2 ^ 64 - 1) (c % 64)) (claims (caller from) (mirrored number s) c)
-      (sym (gave.bits c (eqb-true (c / 64) group parts.0)) ∙ parts.1)).1 in
-      let was = claimed_from (number c) from (s.claim c) ours in
+      let was = its_claim c hit in
       let both : ((c / 64 == group) && (number c was.0 == from)) ≡ true = and_from _ _ parts.0 was.2 in
       let its : moved number group from to c was.0 ≡ to = rw both refl in
       ap (λ (n : ℕ). Some (n ∷ [])) (sym its) ∙ ap (λ (o : Option Name). option_map (alone (moved number group from to c)) o) (sym was.1)

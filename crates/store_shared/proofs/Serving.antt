@@ -2,27 +2,24 @@
 use Rattle.std.proofs.Common.{◌≡◌, ◌∙◌, ℕ, true, List, [], ◌∷◌, ◌++◌, Option, None, Some, Result, Ok, Err, IfErr, is_some, ap, refl, subst, sym}
 use Rattle.std.specs.Prelude.{Contains}
 use Rattle.bao_text.specs.declared.walk.Node.{Node}
-use Rattle.bao_text.specs.declared.walk.Node.TheVariants.{Chunk, Parent}
 use Rattle.bao_text.specs.NodeNames.{slice_names}
 use Rattle.bao_text.specs.Texts.{length_text}
 use Rattle.bao_check.proofs.Lists.{Contains-head, Contains-tail}
 use Rattle.store_core.specs.declared.fault.ServeFault.{ServeFault}
 use Rattle.store_core.specs.declared.fault.ServeFault.TheVariants as refused
-use Rattle.store_core.specs.declared.fixed.Fixed.{Fixed}
 use Rattle.store_core.specs.declared.history.Call.TheVariants.{Serve}
-use Rattle.store_core.specs.declared.history.Event.{Event}
 use Rattle.store_core.specs.declared.history.Serving.{Serving}
 use Rattle.store_core.specs.declared.history.Serving.TheVariants.{Lacking, NoLength, Text}
 use Rattle.store_core.specs.declared.view.SeatView.{SeatView}
-use Rattle.store_core.specs.Histories.{IsLegal, state_after}
+use Rattle.store_core.specs.Histories.{state_after}
 use Rattle.store_core.specs.Knowledge.{Called, event_of}
 use Rattle.store_core.specs.Serves.{after_bytes, node_and, node_held, served, serving, serving_of}
-use Rattle.store_core.specs.States.{State, empty}
-use Rattle.store_core.proofs.Lasting.{held_lasts, legal-append, record_lasts}
-use Rattle.store_core.proofs.ParentOrigins.{parent_lasts}
+use Rattle.store_core.specs.States.{State}
 use Rattle.store_calls.specs.Serving.{SeatIsRefused}
 use Rattle.store_shared.specs.Calls.{HasSliceHeld}
-use Rattle.store_shared.proofs.Asking.{right_there}
+use Rattle.store_calls.proofs.Slices.{Keeps, after_there, keeps_seen, right_there}
+use Rattle.store_calls.proofs.Holding.{some_there}
+use Rattle.store_core.specs.declared.history.Call.{Call}
 
 after_on : (bytes : List ℕ) (rest later : Serving) (text : List ℕ) → ((t : List ℕ) → rest ≡ Text t → later ≡ Text t) → after_bytes bytes rest ≡ Text text → after_bytes bytes later ≡ Text text
 after_on bytes NoLength later text on is = let no : NoLength ≡ Text text = is in cc
@@ -48,35 +45,20 @@ serving_on (Some l) later s t start len text length lasts is =
     subst (λ (o : Option ℕ). serving_of o t start len ≡ Text text) (sym (length l refl))
     (after_on (length_text l) (served s (slice_names l start len)) (served t (slice_names l start len)) text (served_on s t lasts (slice_names l start len)) is)
 
-node_lasts : (fixed : Fixed) (history more : List Event) → IsLegal fixed (history ++ more) → (node : Node) (bytes : List ℕ) → node_held (state_after history) node ≡ Some bytes
-    → node_held (state_after (history ++ more)) node ≡ Some bytes
-node_lasts fixed history more legal (Chunk c) bytes known = held_lasts fixed history more c bytes legal known
-node_lasts fixed history more legal (Parent m) bytes known = parent_lasts fixed history more m bytes legal known
-
--- a slice whose nodes are held is served after whatever follows
-serving_lasts : (fixed : Fixed) (history more : List Event) (start len : ℕ) (text : List ℕ) → IsLegal fixed (history ++ more) → serving (state_after history) start len ≡ Text text
-    → serving (state_after (history ++ more)) start len ≡ Text text
-serving_lasts fixed history more start len text legal is =
-    serving_on (state_after history).recorded (state_after (history ++ more)).recorded (state_after history) (state_after (history ++ more)) start len text
-    (λ l known. record_lasts fixed history more l legal known) (node_lasts fixed history more legal) is
-
 -- the answer to a call that serves is this slice
 pub served_there : (start len : ℕ) (answer : Serving) (old new : SeatView) (text : List ℕ) → Called (Serve start len answer) old new → serving (state_after old.seen) start len ≡ Text text
     → answer ≡ Text text
 served_there start len answer old new text called is =
-    let legal = (legal-append new.fixed empty (old.seen ++ called.between) (event_of old (Serve start len answer) ∷ [])
-    (subst (λ (h : List Event). IsLegal new.fixed h) called.goes_on.seen_is called.goes_on.legal)).0 in
-    right_there (Serve start len answer) old new called ∙ serving_lasts new.fixed old.seen called.between start len text legal is
-
-some_bytes : (o : Option (List ℕ)) → is_some o ≡ true → (bytes : List ℕ) × (o ≡ Some bytes)
-some_bytes (Some bytes) is = (bytes, refl)
-some_bytes None is = cc
+    let call : Call = Serve start len answer in
+    let k : Keeps (state_after old.seen) (state_after new.seen) = keeps_seen old new called.between (event_of old call ∷ []) called.goes_on in
+    right_there call old new called ∙ ap (λ (s : State). serving s start len) (sym (after_there call old new called))
+    ∙ serving_on (state_after old.seen).recorded (state_after new.seen).recorded (state_after old.seen) (state_after new.seen) start len text k.recorded k.nodes is
 
 -- nodes that are all held are served
 served_all : (s : State) (nodes : List Node) → ((node : Node) → Contains nodes node → is_some (node_held s node) ≡ true) → (text : List ℕ) × (served s nodes ≡ Text text)
 served_all s [] all = ([], refl)
 served_all s (node ∷ nodes) all =
-    let first = some_bytes (node_held s node) (all node (Contains-head nodes node)) in
+    let first = some_there (node_held s node) (all node (Contains-head nodes node)) in
     let rest = served_all s nodes (λ x there. all x (Contains-tail nodes node x there)) in
     (first.0 ++ rest.0, ap (λ (o : Option (List ℕ)). node_and node o (served s nodes)) first.1 ∙ ap (λ (r : Serving). after_bytes first.0 r) rest.1)
 

@@ -17,14 +17,14 @@ use Rattle.store_core.specs.Names.{Name}
 use Rattle.store_core.specs.Pieces.{IsAcceptedPiece, chunk_bytes, holds_chunk}
 use Rattle.store_core.specs.States.{State, claims, is_claimed}
 use Rattle.store_core.specs.Views.{names_of}
-use Rattle.store_core.proofs.Lasting.{legal_is_sound}
 use Rattle.store_core.proofs.Tells.{claims-claimed}
 use Rattle.store_steps.specs.Layout.{length_code}
 use Rattle.store_steps.specs.Plays.{Gives, Publishes}
 use Rattle.store_steps.specs.Rule.{RuleHolds, StandFor}
 use Rattle.store_core.proofs.Bits.{has_bit-zero}
 use Rattle.store_steps.proofs.Giving.{cells_beside, ended_written}
-use Rattle.store_steps.proofs.StepViews.{Steps, did_step}
+use Rattle.store_steps.proofs.StepViews.{Steps, did_step, sound}
+use Rattle.store_steps.proofs.WrittenWords.{in_none}
 
 module _ (fixed : Fixed) (s : Table Unit (List SeatView)) (k : RuleHolds fixed s) (id : ℕ) (view : SeatView) (seat : get_elem? s.views id ≡ some (view ∷ []))
     (any : 0 < fixed.capacity) (group : ℕ) (none : group < groups fixed → ⊥) where
@@ -39,11 +39,8 @@ module _ (fixed : Fixed) (s : Table Unit (List SeatView)) (k : RuleHolds fixed s
 
   unclaimed : (c : ℕ) → c / 64 ≡ group → claims who state c ≡ false
   unclaimed c here = false_from_ne_true _ (λ ours.
-      let low : c < fixed.capacity = (legal_is_sound fixed k.history k.legal).claimed_below c (claims-claimed who state c ours) in
+      let low : c < fixed.capacity = (sound fixed s k id view seat).claimed_below c (claims-claimed who state c ours) in
       none (omega (arith, here, low)))
-
-  in_none : (c : ℕ) → in_mask group 0 c ≡ false
-  in_none c = and_right _ _ (has_bit-zero (c % 64))
 
   -- the words stand for each state with the same chunks, claims and record
   stands : (t : State) → ((c : ℕ) → t.held c ≡ state.held c) → ((c : ℕ) → t.claim c ≡ state.claim c) → t.recorded ≡ state.recorded
@@ -70,7 +67,7 @@ module _ (fixed : Fixed) (s : Table Unit (List SeatView)) (k : RuleHolds fixed s
   pub give_none_steps : (mask : ℕ) → Steps fixed s id 0 found (λ new. Gives group mask 0 view new)
   give_none_steps mask = did_step fixed s k id view seat (Give group mask 0) 0 found (omega arith) refl
       (record { small = omega arith; bits = λ c here. has_bit-zero (c % 64) ∙ sym (and_right _ _ (unclaimed c here)) })
-      (stands (after_call who (Give group mask 0) state) (λ c. refl) (λ c. claim_stays c (in_none c)) refl)
+      (stands (after_call who (Give group mask 0) state) (λ c. refl) (λ c. claim_stays c (in_none group c)) refl)
       (ended_written fixed s k id view seat (after_call who (Give group mask 0) state) group 0 0 found (omega (arith, any)) claim_stays)
       (λ number c never. cells_beside fixed s k id view seat 0 found number (omega (arith, any)))
 
@@ -78,6 +75,6 @@ module _ (fixed : Fixed) (s : Table Unit (List SeatView)) (k : RuleHolds fixed s
   publish_none_steps piece accepted = did_step fixed s k id view seat (Commit group piece 0) 0 found (omega arith) refl
       (accepted, record { small = omega arith; bits = λ c here. has_bit-zero (c % 64) ∙ sym (and_left _ (holds_chunk piece c) (unclaimed c here)) })
       (stands (after_call who (Commit group piece 0) state)
-      (λ c. ap (λ (b : Bool). if b then chunk_bytes piece c else state.held c) (in_none c)) (λ c. claim_stays c (in_none c)) refl)
+      (λ c. ap (λ (b : Bool). if b then chunk_bytes piece c else state.held c) (in_none group c)) (λ c. claim_stays c (in_none group c)) refl)
       (ended_written fixed s k id view seat (after_call who (Commit group piece 0) state) group 0 0 found (omega (arith, any)) claim_stays)
       (λ number c never. cells_beside fixed s k id view seat 0 found number (omega (arith, any)))

@@ -1,4 +1,5 @@
 -- What a call of its own adds to a seat's calls, and which of its claims it leaves.
+use Rattle.std.proofs.lemmas.Bool.Decides.{nat_tests}
 use Rattle.std.proofs.Common.{◌≡◌, ℕ, ◌<◌, Bool, true, false, not, ◌&&◌, ◌||◌, if◌then◌else◌, List, [], ◌∷◌, length, Option, None, refl, ap, ◌∙◌, arith}
 use Rattle.std.proofs.lemmas.Bool.{or_left}
 use Rattle.store_core.specs.declared.history.Call.{Call}
@@ -32,21 +33,19 @@ own_all names (e ∷ events) shares by =
     let ours : is_by names e ≡ true = ap (λ (ns : List Name). share_name names ns) by.0 ∙ shares in
     rw ours (ap (λ (es : List Event). e ∷ es) (own_all names events shares by.1))
 
+-- what passes a test where a claim is made, or ends
+pub if_taken : {A : Type 0} (test : Option A → Bool) (hit : Bool) (new old : Option A) → test new ≡ true → test (if hit then new else old) ≡ (hit || test old)
+if_taken test hit new old is = grind (arith, nat_tests)
+
+pub if_ended : {A : Type 0} (test : Option A → Bool) (hit : Bool) (old : Option A) → test None ≡ false → test (if hit then None else old) ≡ (not hit && test old)
+if_ended test hit old none = grind (arith, nat_tests)
+
 -- what a caller claims after its call
-if_taken : (names : List Name) (hit : Bool) (least old : Option Name) → is_among names least ≡ true
-    → is_among names (if hit then least else old) ≡ (hit || is_among names old)
-if_taken names true least old is = is
-if_taken names false least old is = refl
-
-if_ended : (names : List Name) (hit : Bool) (old : Option Name) → is_among names (if hit then None else old) ≡ (not hit && is_among names old)
-if_ended names true old = refl
-if_ended names false old = refl
-
 pub claims_then : (names : List Name) (call : Call) (t : State) (c : ℕ) → is_among names (least_name names) ≡ true
     → claims names (after_call names call t) c ≡ claims_after call (λ d. claims names t d) c
-claims_then names (Take group want granted) t c least = if_taken names (in_mask group granted c) (least_name names) (t.claim c) least
-claims_then names (Give group mask given) t c least = if_ended names (in_mask group given c) (t.claim c)
-claims_then names (Commit group piece committed) t c least = if_ended names (in_mask group committed c) (t.claim c)
+claims_then names (Take group want granted) t c least = if_taken (is_among names) (in_mask group granted c) (least_name names) (t.claim c) least
+claims_then names (Give group mask given) t c least = if_ended (is_among names) (in_mask group given c) (t.claim c) refl
+claims_then names (Commit group piece committed) t c least = if_ended (is_among names) (in_mask group committed c) (t.claim c) refl
 claims_then names (Settle piece answer) t c least = refl
 claims_then names (Read at len bytes) t c least = refl
 claims_then names (Length recorded) t c least = refl
@@ -55,11 +54,4 @@ claims_then names (Serve start len answer) t c least = refl
 
 -- by claims that are the same
 pub claims_after-same : (call : Call) (one other : ℕ → Bool) (c : ℕ) → one c ≡ other c → claims_after call one c ≡ claims_after call other c
-claims_after-same (Take group want granted) one other c e = ap (λ (b : Bool). in_mask group granted c || b) e
-claims_after-same (Give group mask given) one other c e = ap (λ (b : Bool). not (in_mask group given c) && b) e
-claims_after-same (Commit group piece committed) one other c e = ap (λ (b : Bool). not (in_mask group committed c) && b) e
-claims_after-same (Settle piece answer) one other c e = e
-claims_after-same (Read at len bytes) one other c e = e
-claims_after-same (Length recorded) one other c e = e
-claims_after-same (Parents group piece answer) one other c e = e
-claims_after-same (Serve start len answer) one other c e = e
+claims_after-same call one other c e = grind (arith, nat_tests)

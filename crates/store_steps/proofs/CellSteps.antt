@@ -1,12 +1,8 @@
 -- A store of a piece's word and a publish are the machine's Write and Publish.
-use Rattle.std.proofs.Common.{[], List, ◌≡◌, ◌≢◌, ℕ, ◌+◌, ◌*◌, ◌/◌, ◌%◌, ◌<◌, ◌==◌, Bool, true, false, not, ◌&&◌, ◌||◌, if◌then◌else◌, ◌∷◌, Option, None, Some, is_some, set, slice_index, refl, sym, ap, subst, ◌∙◌, arith, inl, inr, eq-eqb, eqb-true, append-nil}
+use Rattle.std.proofs.lemmas.Bool.Decides.{nat_tests}
+use Rattle.std.proofs.Common.{List, ◌≡◌, ◌≢◌, ℕ, ◌+◌, ◌*◌, ◌/◌, ◌%◌, ◌<◌, ◌==◌, Bool, true, false, not, ◌&&◌, ◌||◌, if◌then◌else◌, ◌∷◌, Option, None, Some, is_some, set, slice_index, refl, sym, ap, subst, ◌∙◌, arith, inl, inr, eq-eqb, eqb-true}
 use Rattle.std.specs.Int.Bits.{bit_or}
 use Rattle.std.proofs.lemmas.Bool.{and_from, and_parts, both_ways, cases_Bool, cases_eq, false_from_ne_true, ne_eqb}
-use mathlib.Core.Option.{some}
-use lib.ListN.{get_elem?}
-use Rattle.atomic_table.specs.Table.{State as Table}
-use Rattle.store_core.specs.declared.fixed.Fixed.{Fixed}
-use Rattle.store_core.specs.declared.history.Event.{Event}
 use Rattle.store_core.specs.declared.history.Piece.{Piece}
 use Rattle.store_core.specs.declared.micro.MicroStep.{MicroStep}
 use Rattle.store_core.specs.declared.micro.MicroStep.TheVariants.{Publish, Write}
@@ -15,14 +11,11 @@ use Rattle.store_core.specs.declared.micro.Reply.TheVariants.{Committed}
 use Rattle.store_core.specs.declared.view.SeatView.{SeatView}
 use Rattle.store_core.specs.declared.view.StoredWord.{StoredWord}
 use Rattle.store_core.specs.Cells.{cell_word}
-use Rattle.store_core.specs.Histories.{IsLegal}
-use Rattle.store_core.specs.Machine.{Machine, bytes_or_none, current_bytes, current_holds, is_shown, seat_has}
+use Rattle.store_core.specs.Machine.{Machine, bytes_or_none, current_bytes, current_holds, is_shown, seat_has, is_number}
 use Rattle.store_core.specs.Masks.{has_bit, in_mask}
 use Rattle.store_core.specs.Pieces.{holds_chunk}
 use Rattle.store_core.specs.Schedules.{IsLegalStep, IsReply, after_step}
-use Rattle.store_core.specs.States.{empty}
 use Rattle.store_core.specs.Views.{seat_claims, stored}
-use Rattle.store_core.proofs.Lasting.{legal-append}
 use Rattle.store_core.proofs.Running.{one_step}
 use Rattle.store_core.proofs.MachineInvariants.{seat_claim}
 use Rattle.store_core.proofs.StepEvents.{shown_or}
@@ -30,20 +23,10 @@ use Rattle.store_core.proofs.Tells.{masked}
 use Rattle.store_steps.specs.Asks.{AreWordsStored}
 use Rattle.store_steps.specs.Kinds.{chunk_kind}
 use Rattle.store_steps.specs.Layout.{cell_at, cell_place, claim_place, held_word, length_place}
-use Rattle.store_steps.specs.Rule.{ViewFits, RuleHolds}
 use Rattle.store_steps.specs.Simulates.{PublishIsPublish, StoreIsWrite}
-use Rattle.store_steps.proofs.ClaimSteps.{claims_less}
-use Rattle.store_steps.proofs.Simulating.{low, others_not, read_on, seat_is, stands_after, stays_stored, still_read, stored_is}
-use Rattle.store_steps.proofs.WrittenWords.{left, put}
-use Rattle.store_steps.proofs.StepViews.{fitting}
-
--- what a seat has seen is legal
-pub seen_legal : (fixed : Fixed) (s : Table Unit (List SeatView)) (k : RuleHolds fixed s) (id : ℕ) (view : SeatView) → get_elem? s.views id ≡ some (view ∷ [])
-    → IsLegal view.fixed view.seen
-seen_legal fixed s k id view seat =
-    let fits : ViewFits fixed k.history s.words view = fitting fixed s k id view seat in
-    subst (λ (f : Fixed). IsLegal f view.seen) (sym fits.fixed_is)
-    (legal-append fixed empty view.seen fits.continues.between (subst (λ (h : List Event). IsLegal fixed h) fits.continues.is k.legal)).0
+use Rattle.store_steps.proofs.Simulating.{low, others_not, read_on, seat_is, stands_after, stored_is, unseen_read}
+use Rattle.store_steps.proofs.WrittenWords.{left, put, stays_stored}
+use Rattle.store_steps.proofs.Calls.{if_ended}
 
 pub store_is_write : StoreIsWrite
 store_is_write fixed pieces s m id c w value view new here below ours holds value_is stores =
@@ -99,19 +82,14 @@ store_is_write fixed pieces s m id c w value view new here below ours holds valu
           let never : k ≡ id = cc in
           other never) in
           (old, rw miss refl))
-          (λ r is.
-          still_read fixed pieces s m id view here new [] (ap (λ (v : SeatView). v.fixed) stores) (ap (λ (v : SeatView). v.seen) stores ∙ sym (append-nil view.seen))
-          (subst (λ (v : SeatView). IsLegal v.fixed v.seen) (sym stores) (seen_legal fixed s here.kept id view here.is_seat)) r (rw (eq-eqb id id refl) at is))
+          (λ r is. unseen_read fixed pieces s m id view here new (ap (λ (v : SeatView). v.seen) stores) r (rw (eq-eqb id id refl) at is))
           (λ k other. rw (ne_eqb k id other) refl);
     }
 
 -- a bit of the claim word, which stays: chunks that are published were claimed
 publish_bit : (hit shown : Bool) (claim : Option ℕ) → (hit ≡ true → is_some claim ≡ true)
     → (shown || is_some claim) ≡ ((shown || hit) || is_some (if hit then None else claim))
-publish_bit true true claim had = refl
-publish_bit true false claim had = had refl
-publish_bit false true claim had = refl
-publish_bit false false claim had = refl
+publish_bit hit shown claim had = grind (arith, nat_tests)
 
 pub publish_is_publish : PublishIsPublish
 publish_is_publish fixed pieces s m id group mask piece view new here there current wrote_all ours did =
@@ -146,7 +124,7 @@ publish_is_publish fixed pieces s m id group mask piece view new here there curr
         legal = legal;
         right = right;
         stands = stands_after fixed pieces s m id view here new next
-            (λ c. claims_less (in_mask group mask c) id (m.claim c) ∙ ap (λ (b : Bool). not (in_mask group mask c) && b) (seat_is fixed pieces s m id view here c)
+            (λ c. if_ended (is_number id) (in_mask group mask c) (m.claim c) refl ∙ ap (λ (b : Bool). not (in_mask group mask c) && b) (seat_is fixed pieces s m id view here c)
             ∙ sym (did.claims_are c))
             (λ k c other. elim (cases_Bool (in_mask group mask c)) [
               | inl hit ↦ rw hit (sym (others_not fixed pieces s m id view here k c other (both c hit).0))

@@ -1,8 +1,8 @@
 -- Take and Give are the machine's Claim and GiveBack.
-use Rattle.std.proofs.Common.{◌≡◌, ◌≢◌, ℕ, ◌+◌, ◌*◌, ◌/◌, ◌%◌, nat_lt, Bool, true, false, not, ◌&&◌, ◌||◌, if◌then◌else◌, List, Option, None, Some, is_some, refl, sym, ap, subst, ◌∙◌, arith, inl, inr, eq-eqb}
+use Rattle.std.proofs.lemmas.Bool.Decides.{nat_tests}
+use Rattle.std.proofs.Common.{◌≡◌, ◌≢◌, ℕ, ◌+◌, ◌*◌, ◌/◌, ◌%◌, nat_lt, Bool, true, false, not, ◌&&◌, ◌||◌, List, Option, None, Some, is_some, refl, sym, ap, subst, ◌∙◌, arith, inl, inr, eq-eqb}
 use Rattle.std.specs.Int.{bit_not, w64}
 use Rattle.std.specs.Int.Bits.{bit_and, bit_or}
-use Rattle.std.proofs.Math.Bool.{and_assoc}
 use Rattle.std.proofs.lemmas.Bool.{and_parts, both_ways, cases_Bool, ne_eqb, not-true, or_parts}
 use Rattle.store_core.specs.declared.micro.MicroStep.{MicroStep}
 use Rattle.store_core.specs.declared.micro.MicroStep.TheVariants.{Claim, GiveBack}
@@ -18,25 +18,15 @@ use Rattle.store_core.proofs.MachineInvariants.{claim_seat}
 use Rattle.store_core.proofs.Tells.{masked}
 use Rattle.store_steps.specs.Layout.{cell_place, claim_place, claim_word, length_place}
 use Rattle.store_steps.specs.Simulates.{GiveIsGiveBack, TakeIsClaim}
-use Rattle.store_core.proofs.Bits.{and_small}
-use Rattle.store_steps.proofs.Simulating.{hidden, others_not, read_on, seat_is, stands_after, stays_stored, stored_is}
-use Rattle.store_steps.proofs.WrittenWords.{bits_given, bits_granted, granted_bit, left}
-
--- what a seat claims afterwards
-claims_more : (hit : Bool) (n : ℕ) (claim : Option ℕ) → is_number n (if hit then Some n else claim) ≡ (hit || is_number n claim)
-claims_more true n claim = claim_seat n
-claims_more false n claim = refl
-
-pub claims_less : (hit : Bool) (n : ℕ) (claim : Option ℕ) → is_number n (if hit then None else claim) ≡ (not hit && is_number n claim)
-claims_less true n claim = refl
-claims_less false n claim = refl
+use Rattle.store_steps.proofs.Simulating.{hidden, others_not, read_on, seat_is, stands_after, stored_is}
+use Rattle.store_steps.proofs.WrittenWords.{bits_given, bits_granted, left, stays_stored, mask_granted}
+use Rattle.store_steps.proofs.Calls.{if_ended, if_taken}
 
 other_number : (k n : ℕ) → k ≢ n → is_number k (Some n) ≡ false
 other_number k n other = ne_eqb n k (λ e. other (sym e))
 
 none_of : (n : ℕ) (claim : Option ℕ) → is_some claim ≡ false → is_number n claim ≡ false
-none_of n None h = refl
-none_of n (Some k) h = cc
+none_of n claim h = grind (arith, nat_tests)
 
 pub take_is_claim : TakeIsClaim
 take_is_claim fixed pieces s m id group want asked view new here there asks small took =
@@ -48,13 +38,7 @@ take_is_claim fixed pieces s m id group want asked view new here there asks smal
     let right : IsReply fixed m step reply = (
       granted,
       refl,
-      record {
-        small = and_small asked (bit_not w64 found) asks.small;
-        bits = λ c of.
-            granted_bit fixed (claim_place fixed) (λ g h e. omega (arith, e)) s.words (is_shown m) m.claim here.stands.claimed group there asked c small of
-            ∙ ap (λ (b : Bool). b && not (is_shown m c || is_some (m.claim c))) (asks.bits c of)
-            ∙ and_assoc (has_bit want (c % 64)) (nat_lt c fixed.capacity) (not (is_shown m c || is_some (m.claim c)));
-      },
+      mask_granted fixed (claim_place fixed) (λ g h e. omega (arith, e)) s.words (is_shown m) m.claim here.stands.claimed group there asked want fixed.capacity small asks,
     ) in
     let neither : (c : ℕ) → in_mask group granted c ≡ true → (is_shown m c ≡ false) × (is_some (m.claim c) ≡ false) = λ c hit.
     let free = and_parts (nat_lt c fixed.capacity) (not (is_shown m c || is_some (m.claim c)))
@@ -65,7 +49,7 @@ take_is_claim fixed pieces s m id group want asked view new here there asks smal
       legal = there;
       right = right;
       stands = stands_after fixed pieces s m id view here new next
-          (λ c. claims_more (in_mask group granted c) id (m.claim c) ∙ ap (λ (b : Bool). in_mask group granted c || b) (seat_is fixed pieces s m id view here c)
+          (λ c. if_taken (is_number id) (in_mask group granted c) (Some id) (m.claim c) (claim_seat id) ∙ ap (λ (b : Bool). in_mask group granted c || b) (seat_is fixed pieces s m id view here c)
           ∙ sym (took.claims_are c))
           (λ k c other. elim (cases_Bool (in_mask group granted c)) [
             | inl hit ↦ rw hit (other_number k id other ∙ sym (none_of k (m.claim c) (neither c hit).1))
@@ -108,7 +92,7 @@ give_is_give_back fixed pieces s m id group mask given view new here there ours 
       legal = there;
       right = right;
       stands = stands_after fixed pieces s m id view here new next
-          (λ c. claims_less (in_mask group given c) id (m.claim c) ∙ ap (λ (b : Bool). not (in_mask group given c) && b) (seat_is fixed pieces s m id view here c)
+          (λ c. if_ended (is_number id) (in_mask group given c) (m.claim c) refl ∙ ap (λ (b : Bool). not (in_mask group given c) && b) (seat_is fixed pieces s m id view here c)
           ∙ sym (gave.claims_are c))
           (λ k c other. elim (cases_Bool (in_mask group given c)) [
             | inl hit ↦ rw hit (sym (others_not fixed pieces s m id view here k c other (its c hit)))

@@ -1,15 +1,14 @@
 -- Give: one and on the claim word.
-use Rattle.std.proofs.Common.{◌≡◌, ℕ, ◌*◌, ◌/◌, ◌%◌, ◌^◌, ◌<◌, ◌==◌, Bool, true, false, ◌&&◌, if◌then◌else◌, List, [], ◌∷◌, Option, None, Some, slice_index, set, refl, sym, ap, subst, ◌∙◌, arith, inl, inr, eqb-true}
+use Rattle.std.proofs.Common.{◌≡◌, ℕ, ◌*◌, ◌/◌, ◌%◌, ◌^◌, ◌<◌, Bool, true, false, ◌&&◌, if◌then◌else◌, List, [], ◌∷◌, Option, None, Some, slice_index, set, refl, sym, ap, ◌∙◌, arith}
 use Rattle.std.specs.Int.{w64, bit_not}
 use Rattle.std.specs.Int.Bits.{bit_and}
-use Rattle.std.proofs.lemmas.Bool.{and_parts, both_ways, cases_Bool, false_from_ne_true}
+use Rattle.std.proofs.lemmas.Bool.{and_parts, both_ways, false_from_ne_true}
 use mathlib.Core.Option.{some}
 use lib.ListN.{get_elem?}
 use Rattle.atomic_table.specs.Table.{State as Table}
 use Rattle.store_core.specs.declared.fixed.Fixed.{Fixed}
 use Rattle.store_core.specs.declared.history.Call.TheVariants.{Give}
 use Rattle.store_core.specs.declared.view.SeatView.{SeatView}
-use Rattle.store_core.specs.declared.view.StoredWord.{StoredWord}
 use Rattle.store_core.specs.Events.{IsRightReply, after_call}
 use Rattle.store_core.specs.Histories.{state_after}
 use Rattle.store_core.specs.Machine.{groups}
@@ -17,39 +16,19 @@ use Rattle.store_core.specs.Masks.{has_bit, in_mask}
 use Rattle.store_core.specs.Names.{Name}
 use Rattle.store_core.specs.States.{State, claims, is_among, is_held}
 use Rattle.store_core.specs.Views.{names_of, stored, without_chunks}
-use Rattle.store_core.proofs.Lasting.{legal_is_sound}
 use Rattle.store_core.proofs.Tells.{claims-claimed, masked}
 use Rattle.store_steps.specs.Asks.{AreClaimed}
 use Rattle.store_steps.specs.Layout.{cell_at, cell_place, claim_place}
 use Rattle.store_steps.specs.Plays.{Gives}
 use Rattle.store_steps.specs.Rule.{RuleHolds, StandFor}
-use Rattle.store_steps.proofs.WrittenWords.{bits_given, claims_stand, left}
-use Rattle.store_steps.proofs.StepViews.{Steps, did_step, fitting, claims_now}
-
--- a word that still counts as stored did so before, and is of none of the mask's chunks
-pub still_stored : (group mask : ℕ) (words : List StoredWord) (number value : ℕ) → stored (without_chunks group mask words) number ≡ Some value
-    → (in_mask group mask (number / 129) ≡ false) × (stored words number ≡ Some value)
-still_stored group mask [] number value h = cc
-still_stored group mask (w ∷ words) number value h = elim (cases_Bool (in_mask group mask (w.number / 129))) [
-  | inl gone ↦
-      let rest = still_stored group mask words number value (rw gone at h) in
-      let other : (w.number == number) ≡ false = false_from_ne_true _ (λ e.
-      let same : in_mask group mask (number / 129) ≡ true = subst (λ (n : ℕ). in_mask group mask (n / 129) ≡ true) (eqb-true w.number number e) gone in
-      both_ways _ rest.0 same) in
-      (rest.0, rw other rest.1)
-  | inr stays ↦
-      let there : stored (w ∷ without_chunks group mask words) number ≡ Some value = rw stays at h in
-      elim (cases_Bool (w.number == number)) [
-        | inl here ↦ (subst (λ (n : ℕ). in_mask group mask (n / 129) ≡ false) (eqb-true w.number number here) stays, rw here (rw here at there))
-        | inr other ↦ let rest = still_stored group mask words number value (rw other at there) in (rest.0, rw other rest.1)
-      ]
-]
+use Rattle.store_steps.proofs.WrittenWords.{bits_given, claims_stand, left, still_stored}
+use Rattle.store_steps.proofs.StepViews.{Steps, did_step, fitting, claims_now, sound}
 
 module _ (fixed : Fixed) (s : Table Unit (List SeatView)) (k : RuleHolds fixed s) (id : ℕ) (view : SeatView) (seat : get_elem? s.views id ≡ some (view ∷ [])) where
   -- what it claims isn't held
   pub not_held : (c : ℕ) → claims (names_of view) (state_after k.history) c ≡ true → is_held (state_after k.history) c ≡ false
   not_held c ours = false_from_ne_true _ (λ shown.
-      both_ways _ ((legal_is_sound fixed k.history k.legal).apart c shown) (claims-claimed (names_of view) (state_after k.history) c ours))
+      both_ways _ ((sound fixed s k id view seat).apart c shown) (claims-claimed (names_of view) (state_after k.history) c ours))
 
   -- words of cells are left where another kind of word is written
   pub cells_beside : (place n number : ℕ) → place < 2 * groups fixed → cell_at fixed (set s.words place n) number ≡ cell_at fixed s.words number

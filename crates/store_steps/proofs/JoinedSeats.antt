@@ -1,29 +1,32 @@
 -- Seats that enter, join, leave, merge and meet: which machine the table then stands for.
-use Rattle.std.proofs.Common.{◌≡◌, ◌⊎◌, ℕ, ◌/◌, ◌==◌, Bool, true, false, not, ◌&&◌, ◌||◌, if◌then◌else◌, List, [], ◌∷◌, ◌++◌, length, Option, None, Some, is_some, set, slice_index, refl, sym, ap, subst, ◌∙◌, arith, inl, inr, eq-eqb, ne_eqb}
-use Rattle.std.proofs.lemmas.Bool.{and_parts, and_right, both_ways, cases_Bool, cases_eq, false_from_ne_true, not-true, or_cases, or_left, or_right}
+use Rattle.std.proofs.lemmas.Bool.Decides.{nat_tests}
+use Rattle.std.proofs.Common.{◌≡◌, ◌⊎◌, ℕ, ◌/◌, ◌==◌, Bool, true, false, not, ◌&&◌, ◌||◌, if◌then◌else◌, List, [], ◌∷◌, ◌++◌, length, Option, Some, is_some, set, slice_index, refl, sym, ap, subst, ◌∙◌, arith, inl, inr, eq-eqb, ne_eqb}
+use Rattle.std.proofs.lemmas.Bool.{both_ways, cases_Bool, cases_eq, false_from_ne_true, or_cases, or_left, or_right, false≢true}
 use Rattle.std.proofs.lemmas.List.{length-set, set-get_or}
 use mathlib.Core.Option.{some}
 use lib.ListN.{get_elem?}
 use Rattle.atomic_table.specs.Table.{State as Table, keeps, stepped}
 use Rattle.store_core.specs.declared.fixed.Fixed.{Fixed}
-use Rattle.store_core.specs.declared.history.Piece.{Piece}
 use Rattle.store_core.specs.declared.view.SeatView.{SeatView}
 use Rattle.store_core.specs.declared.view.StoredWord.{StoredWord}
 use Rattle.store_core.specs.Histories.{IsLegal, state_after}
 use Rattle.store_core.specs.Machine.{Machine, MachineSeat, ReadUnderWay, no_seat}
 use Rattle.store_core.specs.States.{claims}
-use Rattle.store_core.specs.Views.{names_of, seat_claims, stored}
+use Rattle.store_core.specs.Views.{names_of, seat_claims, stored, Continues}
 use Rattle.store_core.proofs.Joining.{claims_continued, join_keeps}
 use Rattle.store_core.proofs.Tells.{claims_apart}
 use Rattle.store_steps.specs.Machines.{HasRead, StandsForMachine}
 use Rattle.store_steps.specs.Renames.{EnterStays, JoinRenames, LeaveRenames, MeetStays, MergeStays, joined_claim, left_claim}
 use Rattle.store_steps.specs.Rule.{HasView, RuleHolds}
 use Rattle.store_steps.proofs.Lists.{one_part}
-use Rattle.store_steps.proofs.Meeting as meeting
-use Rattle.store_steps.proofs.Regrouping.{Regroups, at_other, entered_regroups, join_to, joined_regroups, leave_to, left_regroups, two_parts}
+use Rattle.store_steps.proofs.Meeting.{part_one, part_two, apart, stored-append}
+use Rattle.store_steps.proofs.Regrouping.{Regroups, entered_regroups, join_to, joined_regroups, leave_to, left_regroups, other_place, same_place, two_parts}
 use Rattle.store_steps.proofs.Simulating.{under_way_later}
-use Rattle.store_steps.proofs.Storers.{gets, had, stays}
+use Rattle.store_steps.proofs.Storers.{at_other, gets, had, stays}
 use Rattle.store_steps.proofs.Renaming.{Stands, claims_now, renamed_served, renamed_stands, same_stands, stays_stands}
+use Rattle.std.proofs.lemmas.Option.{none-some}
+use Rattle.store_steps.proofs.Keeping.{placed}
+use Rattle.store_core.specs.declared.history.Event.{Event}
 
 pub enter_stays : EnterStays
 enter_stays fixed s m k stands =
@@ -36,30 +39,21 @@ enter_stays fixed s m k stands =
 
 -- claims and seats of a joined machine
 joined_some : (seat other : ℕ) (o : Option ℕ) → is_some (joined_claim seat other o) ≡ is_some o
-joined_some seat other None = refl
-joined_some seat other (Some n) = elim (cases_Bool (n == other)) [ inl hit ↦ rw hit refl | inr miss ↦ rw miss refl ]
+joined_some seat other o = grind (arith, nat_tests)
 
 module _ (m : Machine) (other : ℕ) where
   abbrev without : ℕ → MachineSeat
   without n = if n == other then no_seat else m.seat n
 
+  -- what a seat did that counts as none is none's
+  without_is : (n : ℕ) (P : MachineSeat → Type 0) → (P no_seat → ⊥) → P (without n) → ((n == other) ≡ false) × P (m.seat n)
+  without_is n P never is = elim (cases_Bool (n == other)) [ inl hit ↦ absurd (never (rw hit at is)) | inr miss ↦ (miss, rw miss at is) ]
+
   without_wrote : (n c w : ℕ) → (without n).written c w ≡ true → ((n == other) ≡ false) × ((m.seat n).written c w ≡ true)
-  without_wrote n c w is = elim (cases_Bool (n == other)) [
-    | inl hit ↦ let never : false ≡ true = rw hit at is in cc
-    | inr miss ↦ (miss, rw miss at is)
-  ]
+  without_wrote n c w is = without_is n (λ seat. seat.written c w ≡ true) false≢true is
 
   without_read : (n : ℕ) (r : ReadUnderWay) → (without n).reading ≡ Some r → ((n == other) ≡ false) × ((m.seat n).reading ≡ Some r)
-  without_read n r is = elim (cases_Bool (n == other)) [
-    | inl hit ↦ let never : None ≡ Some r = rw hit at is in cc
-    | inr miss ↦ (miss, rw miss at is)
-  ]
-
-  without_piece : (n : ℕ) (piece : Piece) → (without n).piece ≡ Some piece → (m.seat n).piece ≡ Some piece
-  without_piece n piece is = elim (cases_Bool (n == other)) [
-    | inl hit ↦ let never : None ≡ Some piece = rw hit at is in cc
-    | inr miss ↦ rw miss at is
-  ]
+  without_read n r is = without_is n (λ seat. seat.reading ≡ Some r) (none-some r) is
 
   without_same : (n : ℕ) → (n == other) ≡ false → (without n).piece ≡ (m.seat n).piece
   without_same n miss = rw miss refl
@@ -74,7 +68,7 @@ join_renames fixed s m seat other one two k stands at at_two differ =
     let miss : (n == other) ≡ false = (without_wrote m other n c w is).0 in
     let kept : joined_claim seat other (Some n) ≡ Some n = rw miss refl in
     ap (λ (o : Option ℕ). joined_claim seat other o) by ∙ kept)
-    (without_piece m other) (λ n r is. (without_read m other n r is).1) in
+    (λ n piece is. (without_is m other n (λ seat. seat.piece ≡ Some piece) (none-some piece) is).1) (λ n r is. (without_read m other n r is).1) in
     renamed_stands fixed s (record { words = s.words; homes = s.homes; views = views }) m (λ p. (join_to seat other p).0) refl k stands
     (λ i j v h. same_stands fixed views (join_to seat other (i, j)).0 (join_to seat other (i, j)).1 v (r.goes i j v h))
     (λ i j v h c is.
@@ -94,21 +88,14 @@ join_renames fixed s m seat other one two k stands at at_two differ =
 
 -- claims and seats of a machine of which a seat leaves some
 left_some : (seat new : ℕ) (theirs : Bool) (o : Option ℕ) → is_some (left_claim seat new theirs o) ≡ is_some o
-left_some seat new theirs None = refl
-left_some seat new theirs (Some n) = elim (cases_Bool ((n == seat) && theirs)) [ inl hit ↦ rw hit refl | inr miss ↦ rw miss refl ]
+left_some seat new theirs o = grind (arith, nat_tests)
 
 module _ (m : Machine) (seat : ℕ) (view : SeatView) where
   abbrev leaving : ℕ → MachineSeat
   leaving n = if n == seat then record (m.seat n) { written = λ c w. not (seat_claims view c) && (m.seat n).written c w } else m.seat n
 
   leaving_wrote : (n c w : ℕ) → (leaving n).written c w ≡ true → (((n == seat) && seat_claims view c) ≡ false) × ((m.seat n).written c w ≡ true)
-  leaving_wrote n c w is = elim (cases_Bool (n == seat)) [
-    | inl hit ↦
-        let both : (not (seat_claims view c) && (m.seat n).written c w) ≡ true = rw hit at is in
-        let parts = and_parts (not (seat_claims view c)) ((m.seat n).written c w) both in
-        (and_right (n == seat) (seat_claims view c) (not-true (seat_claims view c) parts.0), parts.1)
-    | inr miss ↦ (ap (λ (b : Bool). b && seat_claims view c) miss, rw miss at is)
-  ]
+  leaving_wrote n c w is = grind (arith, nat_tests)
 
   leaving_piece : (n : ℕ) → (leaving n).piece ≡ (m.seat n).piece
   leaving_piece n = elim (cases_Bool (n == seat)) [ inl hit ↦ rw hit refl | inr miss ↦ rw miss refl ]
@@ -116,23 +103,30 @@ module _ (m : Machine) (seat : ℕ) (view : SeatView) where
   leaving_read : (n : ℕ) → (leaving n).reading ≡ (m.seat n).reading
   leaving_read n = elim (cases_Bool (n == seat)) [ inl hit ↦ rw hit refl | inr miss ↦ rw miss refl ]
 
--- no chunk is claimed by both views of a seat
-apart_claims : (fixed : Fixed) (s : Table Unit (List SeatView)) (k : RuleHolds fixed s) (seat : ℕ) (one two : SeatView) → get_elem? s.views seat ≡ some (one ∷ two ∷ [])
-    → (c : ℕ) → seat_claims one c ≡ true → seat_claims two c ≡ false
-apart_claims fixed s k seat one two at c ours = false_from_ne_true _ (λ theirs.
-    let first : HasView s.views seat 0 one = record { parts = one ∷ two ∷ []; is_seat = at; is_part = refl } in
-    let second : HasView s.views seat 1 two = record { parts = one ∷ two ∷ []; is_seat = at; is_part = refl } in
-    let its : claims (names_of two) (state_after k.history) c ≡ true = claims_now fixed s k seat 1 two second c ∙ theirs in
-    let none : claims (names_of one) (state_after k.history) c ≡ false =
-    claims_apart (state_after k.history) (names_of one) (names_of two) c (meeting.apart fixed s k seat one two at) its in
-    both_ways _ (sym (claims_now fixed s k seat 0 one first c) ∙ none) ours)
+-- a seat with two views
+module _ (fixed : Fixed) (s : Table Unit (List SeatView)) (k : RuleHolds fixed s) (seat : ℕ) (one two : SeatView) (at : get_elem? s.views seat ≡ some (one ∷ two ∷ [])) where
+  -- no chunk is claimed by both
+  never_both : (c : ℕ) → claims (names_of one) (state_after k.history) c ≡ true → claims (names_of two) (state_after k.history) c ≡ true → ⊥
+  never_both c ours theirs = both_ways _ (claims_apart (state_after k.history) (names_of one) (names_of two) c (apart fixed s k seat one two at) theirs) ours
 
--- the places that a leaving seat leaves
-first_place : (seat new n : ℕ) → (n == seat) ≡ true → leave_to seat new (n, 0) ≡ (n, 0)
-first_place seat new n hit = rw hit refl
+  apart_claims : (c : ℕ) → seat_claims one c ≡ true → seat_claims two c ≡ false
+  apart_claims c ours = false_from_ne_true _ (λ theirs.
+      never_both c (claims_now fixed s k seat 0 one (part_one fixed s k seat one two at) c ∙ ours) (claims_now fixed s k seat 1 two (part_two fixed s k seat one two at) c ∙ theirs))
 
-away_place : (seat new n part : ℕ) → (n == seat) ≡ false → leave_to seat new (n, part) ≡ (n, part)
-away_place seat new n part miss = rw miss refl
+  -- so that what either stored counts as stored by both
+  stored_first : (number value : ℕ) → stored one.written number ≡ Some value → stored (one.written ++ two.written) number ≡ Some value
+  stored_first number value is = elim (stored-append one.written two.written number) [
+    | inl none ↦ absurd (none-some value (sym none.0 ∙ is))
+    | inr there ↦ there.2 ∙ sym there.1 ∙ is
+  ]
+
+  stored_second : (number value : ℕ) → stored two.written number ≡ Some value → stored (one.written ++ two.written) number ≡ Some value
+  stored_second number value is = elim (stored-append one.written two.written number) [
+    | inl none ↦ none.1 ∙ is
+    | inr there ↦
+        absurd (never_both (number / 129) ((k.views seat 0 one (part_one fixed s k seat one two at)).written number there.0 there.1).0
+        ((k.views seat 1 two (part_two fixed s k seat one two at)).written number value is).0)
+  ]
 
 pub leave_renames : LeaveRenames
 leave_renames fixed s m seat one two k stands at reads =
@@ -177,45 +171,18 @@ leave_renames fixed s m seat one two k stands at reads =
     elim (cases_eq n seat) [
       | inl here ↦
           let first : HasView s.views n 0 one = record { parts = one ∷ two ∷ []; is_seat = ap (λ (p : ℕ). get_elem? s.views p) here ∙ at; is_part = refl } in
-          let hit : (n == seat) ≡ true = eq-eqb n seat here in
-          let place : leave_to seat new (n, 0) ≡ (n, 0) = first_place seat new n hit in
+          let place : leave_to seat new (n, 0) ≡ (n, 0) = same_place n seat (n, 0) (n, 0) here in
           let there : HasView views n 0 one = subst (λ (p : ℕ × ℕ). HasView views p.0 p.1 one) place (r.goes n 0 one first) in
           record { part = 0; view = one; has = there; under_way = reads x (ap (λ (p : ℕ). (m.seat p).reading) (sym here) ∙ reading) }
       | inr away ↦
           let was : HasRead fixed s.views n x = stands.reads n x reading in
-          let miss : (n == seat) ≡ false = ne_eqb n seat away in
-          let place : leave_to seat new (n, was.part) ≡ (n, was.part) = away_place seat new n was.part miss in
+          let place : leave_to seat new (n, was.part) ≡ (n, was.part) = other_place n seat (if was.part == 0 then (n, was.part) else (new, 0)) (n, was.part) away in
           let there : HasView views n was.part was.view = subst (λ (p : ℕ × ℕ). HasView views p.0 p.1 was.view) place (r.goes n was.part was.view was.has) in
           record { part = was.part; view = was.view; has = there; under_way = was.under_way }
     ])
 
--- words stored by the first of two, and by the second where the first stored none
-stored_first : (first second : List StoredWord) (number value : ℕ) → stored first number ≡ Some value → stored (first ++ second) number ≡ Some value
-stored_first [] second number value h = let never : None ≡ Some value = h in cc
-stored_first (w ∷ first) second number value h = elim (cases_Bool (w.number == number)) [
-  | inl here ↦ rw here (rw here at h)
-  | inr other ↦ rw other (stored_first first second number value (rw other at h))
-]
-
-stored_second : (first second : List StoredWord) (number : ℕ) → stored first number ≡ None → stored (first ++ second) number ≡ stored second number
-stored_second [] second number h = refl
-stored_second (w ∷ first) second number h = elim (cases_Bool (w.number == number)) [
-  | inl here ↦ let never : Some w.value ≡ None = rw here at h in cc
-  | inr other ↦ rw other (stored_second first second number (rw other at h))
-]
-
-option_cases : (o : Option ℕ) → (o ≡ None) ⊎ ((n : ℕ) × (o ≡ Some n))
-option_cases None = inl refl
-option_cases (Some n) = inr (n, refl)
-
 module _ (fixed : Fixed) (s : Table Unit (List SeatView)) (m : Machine) (seat place : ℕ) (one two : SeatView) (k : RuleHolds fixed s)
     (stands : StandsForMachine fixed s m) (at : get_elem? s.views seat ≡ some (one ∷ two ∷ [])) where
-  abbrev first : HasView s.views seat 0 one
-  first = record { parts = one ∷ two ∷ []; is_seat = at; is_part = refl }
-
-  abbrev second : HasView s.views seat 1 two
-  second = record { parts = one ∷ two ∷ []; is_seat = at; is_part = refl }
-
   -- a table in which the seat has other views
   abbrev with_views : List SeatView → Table Unit (List SeatView)
   with_views parts = stepped s place (slice_index s.words place) seat [] parts keeps
@@ -229,31 +196,18 @@ module _ (fixed : Fixed) (s : Table Unit (List SeatView)) (m : Machine) (seat pl
   changed_stands parts a b claimed = stays_stands fixed s (with_views parts) m same_words k stands
       (λ i j v h. elim (cases_eq i seat) [
         | inl here ↦ elim (two_parts one two v j (had s.views seat (one ∷ two ∷ []) i j v at here h)) [
-          | inl p ↦ subst (λ (n : ℕ). Stands fixed (set s.views seat parts) n v) (sym here) (subst (λ (u : SeatView). Stands fixed (set s.views seat parts) seat u) (sym p.1) a)
-          | inr p ↦ subst (λ (n : ℕ). Stands fixed (set s.views seat parts) n v) (sym here) (subst (λ (u : SeatView). Stands fixed (set s.views seat parts) seat u) (sym p.1) b)
+          | inl p ↦ placed (λ n part u. Stands fixed (set s.views seat parts) n u) i j seat 0 v one here p.0 p.1 a
+          | inr p ↦ placed (λ n part u. Stands fixed (set s.views seat parts) n u) i j seat 1 v two here p.0 p.1 b
         ]
         | inr away ↦ same_stands fixed (set s.views seat parts) i j v (stays s.views seat parts i j v away h)
       ])
       (λ i j v h c is. elim (at_other s.views seat parts i j v h) [
         | inl here ↦ elim (claimed j v here.1 c is) [
-          | inl ours ↦ record { old_seat = seat; old_part = 0; view = one; has = first; claimed = ours; is = sym here.0 }
-          | inr theirs ↦ record { old_seat = seat; old_part = 1; view = two; has = second; claimed = theirs; is = sym here.0 }
+          | inl ours ↦ record { old_seat = seat; old_part = 0; view = one; has = part_one fixed s k seat one two at; claimed = ours; is = sym here.0 }
+          | inr theirs ↦ record { old_seat = seat; old_part = 1; view = two; has = part_two fixed s k seat one two at; claimed = theirs; is = sym here.0 }
         ]
         | inr away ↦ record { old_seat = i; old_part = j; view = v; has = away.1; claimed = is; is = refl }
       ])
-
-  -- of a word that both would have stored both would claim the chunk
-  never_both : (number x y : ℕ) → stored one.written number ≡ Some x → stored two.written number ≡ Some y → ⊥
-  never_both number x y ours theirs =
-      let a : claims (names_of one) (state_after k.history) (number / 129) ≡ true = ((k.views seat 0 one first).written number x ours).0 in
-      let b : claims (names_of two) (state_after k.history) (number / 129) ≡ true = ((k.views seat 1 two second).written number y theirs).0 in
-      both_ways _ (claims_apart (state_after k.history) (names_of one) (names_of two) (number / 129) (meeting.apart fixed s k seat one two at) b) a
-
-  stored_either : (number value : ℕ) → stored two.written number ≡ Some value → stored (one.written ++ two.written) number ≡ Some value
-  stored_either number value is = elim (option_cases (stored one.written number)) [
-    | inl none ↦ stored_second one.written two.written number none ∙ is
-    | inr some_there ↦ absurd (never_both number some_there.0 value some_there.1 is)
-  ]
 
 pub merge_stays : MergeStays
 merge_stays fixed s m seat place one two merged k stands at told =
@@ -267,7 +221,7 @@ merge_stays fixed s m seat place one two merged k stands at told =
       new = merged;
       has = there;
       claimed = λ c is. all c ∙ or_left _ _ is;
-      wrote = λ number value is. ap (λ (words : List StoredWord). stored words number) wrote ∙ stored_first one.written two.written number value is;
+      wrote = λ number value is. ap (λ (words : List StoredWord). stored words number) wrote ∙ stored_first fixed s k seat one two at number value is;
       reading = λ r is. under_way_later fixed merged.fixed one merged j.after_first.between r j.after_first.is told.legal is;
     })
     (record {
@@ -275,12 +229,24 @@ merge_stays fixed s m seat place one two merged k stands at told =
       new = merged;
       has = there;
       claimed = λ c is. all c ∙ or_right _ _ is;
-      wrote = λ number value is. ap (λ (words : List StoredWord). stored words number) wrote ∙ stored_either fixed s m seat place one two k stands at number value is;
+      wrote = λ number value is. ap (λ (words : List StoredWord). stored words number) wrote ∙ stored_second fixed s k seat one two at number value is;
       reading = λ r is. under_way_later fixed merged.fixed two merged j.after_second.between r j.after_second.is told.legal is;
     })
     (λ n v is c claimed.
     let only = one_part merged v n is in
     or_cases (seat_claims one c) (seat_claims two c) (sym (all c) ∙ subst (λ (u : SeatView). seat_claims u c ≡ true) only.1 claimed))
+
+-- a view that has seen a longer history stands where it does
+met_stands : (fixed of : Fixed) (later : List (List SeatView)) (seat part : ℕ) (view new : SeatView) (history : List Event) → new ≡ record view { seen = history }
+    → Continues view history → IsLegal of history → HasView later seat part new → Stands fixed later seat view
+met_stands fixed of later seat part view new history is on legal has = record {
+  part = part;
+  new = new;
+  has = has;
+  claimed = λ c claims. ap (λ (v : SeatView). seat_claims v c) is ∙ claims_continued of view history on legal c ∙ claims;
+  wrote = λ number value wrote. ap (λ (v : SeatView). stored v.written number) is ∙ wrote;
+  reading = λ r old. under_way_later fixed of view new on.between r (ap (λ (v : SeatView). v.seen) is ∙ on.is) (subst (λ (v : SeatView). IsLegal of v.seen) (sym is) legal) old;
+}
 
 pub meet_stays : MeetStays
 meet_stays fixed s m seat place one two new_one new_two k stands at met =
@@ -289,25 +255,10 @@ meet_stays fixed s m seat place one two new_one new_two k stands at met =
     λ c. ap (λ (v : SeatView). seat_claims v c) met.first_is ∙ claims_continued one.fixed one met.history met.after_first met.legal c in
     let theirs : (c : ℕ) → seat_claims new_two c ≡ seat_claims two c =
     λ c. ap (λ (v : SeatView). seat_claims v c) met.second_is ∙ claims_continued one.fixed two met.history met.after_second met.legal c in
-    let legal_one : IsLegal one.fixed new_one.seen = subst (λ (v : SeatView). IsLegal one.fixed v.seen) (sym met.first_is) met.legal in
-    let legal_two : IsLegal one.fixed new_two.seen = subst (λ (v : SeatView). IsLegal one.fixed v.seen) (sym met.second_is) met.legal in
+    let later : List (List SeatView) = set s.views seat parts in
     changed_stands fixed s m seat place one two k stands at parts
-    (record {
-      part = 0;
-      new = new_one;
-      has = gets s.views seat (one ∷ two ∷ []) parts 0 new_one at refl;
-      claimed = λ c is. its c ∙ is;
-      wrote = λ number value is. ap (λ (v : SeatView). stored v.written number) met.first_is ∙ is;
-      reading = λ r is. under_way_later fixed one.fixed one new_one met.after_first.between r (ap (λ (v : SeatView). v.seen) met.first_is ∙ met.after_first.is) legal_one is;
-    })
-    (record {
-      part = 1;
-      new = new_two;
-      has = gets s.views seat (one ∷ two ∷ []) parts 1 new_two at refl;
-      claimed = λ c is. theirs c ∙ is;
-      wrote = λ number value is. ap (λ (v : SeatView). stored v.written number) met.second_is ∙ is;
-      reading = λ r is. under_way_later fixed one.fixed two new_two met.after_second.between r (ap (λ (v : SeatView). v.seen) met.second_is ∙ met.after_second.is) legal_two is;
-    })
+    (met_stands fixed one.fixed later seat 0 one new_one met.history met.first_is met.after_first met.legal (gets s.views seat (one ∷ two ∷ []) parts 0 new_one at refl))
+    (met_stands fixed one.fixed later seat 1 two new_two met.history met.second_is met.after_second met.legal (gets s.views seat (one ∷ two ∷ []) parts 1 new_two at refl))
     (λ n v is c claimed. elim (two_parts new_one new_two v n is) [
       | inl p ↦ inl (sym (its c) ∙ subst (λ (u : SeatView). seat_claims u c ≡ true) p.1 claimed)
       | inr p ↦ inr (sym (theirs c) ∙ subst (λ (u : SeatView). seat_claims u c ≡ true) p.1 claimed)

@@ -4,7 +4,6 @@ use Rattle.std.proofs.lemmas.Bool.{false≢true, or_cases}
 use mathlib.Core.Option.{some}
 use lib.ListN.{get_elem?}
 use Rattle.atomic_table.specs.Table.{State as Table, keeps, stepped}
-use Rattle.atomic_table.proofs.Lists.{at_set}
 use Rattle.store_core.specs.declared.fixed.Fixed.{Fixed}
 use Rattle.store_core.specs.declared.history.Event.{Event}
 use Rattle.store_core.specs.declared.view.Named.{Named}
@@ -19,33 +18,65 @@ use Rattle.store_core.proofs.Joining.{plain}
 use Rattle.store_core.proofs.Lasting.{claims_from, legal-append, run-append}
 use Rattle.store_core.proofs.Tells.{claims-claimed, claims_apart, same_name-true}
 use Rattle.store_steps.specs.Layout.{cell_at, parent_at, parent_word_place}
-use Rattle.store_steps.specs.Rule.{AreApart, AreParentsKept, ViewFits, FitsParents, HasView, RuleHolds, IsLater, IsNamed, StandFor, StandForParents, StoresAt}
+use Rattle.store_steps.specs.Rule.{AreApart, AreParentsKept, ViewFits, FitsParents, HasView, HaveCallers, RuleHolds, IsLater, IsNamed, StandFor, StandForParents, StoresAt}
 use Rattle.store_steps.proofs.ParentsStanding.{LeavesParents, fits_left, fits_same, parents_left}
-use Rattle.store_steps.proofs.Storers.{stores_on}
-use Rattle.store_steps.proofs.Callers.{callers-append, callers_by}
+use Rattle.store_steps.proofs.Storers.{at_other, gets, stores_on}
 use Rattle.store_core.proofs.Naming.{apart_from, entry_of}
 use Rattle.store_steps.proofs.Lists.{AreBy, one_part, others_by}
 use Rattle.store_core.proofs.Going.{others-append}
-
--- the names of views that have the same entries
-names_same : (names others : List Named) → names ≡ others → plain names ≡ plain others
-names_same names others e = ap (λ (ns : List Named). plain ns) e
 
 -- what holds of a view at a place
 pub placed : (P : ℕ → ℕ → SeatView → Type 0) (i j id part : ℕ) (v view : SeatView) → i ≡ id → j ≡ part → v ≡ view → P id part view → P i j v
 placed P i j id part v view seat_is part_is view_is h = subst (λ (a : ℕ). P a j v) (sym seat_is) (subst (λ (b : ℕ). P id b v) (sym part_is) (subst (λ (u : SeatView). P id part u) (sym view_is) h))
 
--- a view at a place, with the entries of another
-pub record Before (views : List (List SeatView)) (seat part : ℕ) (view : SeatView) : Type 0 where
-  pub old : SeatView
-  pub has : HasView views seat part old
-  pub names : old.names ≡ view.names
+-- what the rule asks of a view at a place, by who owns names, who is storing parents, and what is so of each entry
+pub record Fits (fixed : Fixed) (history : List Event) (words : List ℕ) (owner : Name → ℕ × ℕ) (storer : ℕ → Option (ℕ × ℕ)) (Entry : Named → Type 0)
+    (seat part : ℕ) (view : SeatView) : Type 0 where
+  pub fits : ViewFits fixed history words view
+  pub owned : (name : Name) → has_name (names_of view) name ≡ true → owner name ≡ (seat, part)
+  pub named : 0 < length view.names
+  pub ordered : AreInOrder (names_of view)
+  pub entries : (named : Named) → Contains view.names named → Entry named
+  pub parents : FitsParents fixed words storer seat part view
 
-named_before : (views later : List (List SeatView)) → ((seat part : ℕ) (view : SeatView) → HasView later seat part view → Before views seat part view)
-    → (named : Named) → IsNamed later named → IsNamed views named
-named_before views later before named k =
-    let b = before k.seat k.part k.view k.has in
-    record { seat = k.seat; part = k.part; view = b.old; has = b.has; among = subst (λ (ns : List Named). Contains ns named) (sym b.names) k.among }
+-- the rule holds where it does of each view
+pub rule_by : (fixed : Fixed) (t : Table Unit (List SeatView)) (history : List Event) → IsLegal fixed history → StandFor fixed t.words (state_after history) → HaveCallers history
+    → (owner : Name → ℕ × ℕ) (storer : ℕ → Option (ℕ × ℕ)) (Entry : Named → Type 0)
+    → ((i j : ℕ) (v : SeatView) → HasView t.views i j v → Fits fixed history t.words owner storer Entry i j v)
+    → ((one other : Named) → Entry one → Entry other → IsLater one other.name → ⊥)
+    → ((named : Named) → Entry named → (name : Name) → IsLater named name → AreOfOthers (name ∷ []) history)
+    → StandForParents fixed t.words (state_after history).parents storer → ((m i j : ℕ) → storer m ≡ Some (i, j) → StoresAt t.views i j m) → RuleHolds fixed t
+rule_by fixed t history legal words callers owner storer Entry each new_to_views new_to_calls stand by = record {
+  history = history;
+  legal = legal;
+  words = words;
+  views = λ i j v h. (each i j v h).fits;
+  names = record {
+    owner = owner;
+    owned = λ i j v h. (each i j v h).owned;
+    named = λ i j v h. (each i j v h).named;
+    ordered = λ i j v h. (each i j v h).ordered;
+    new_to_views = λ one other a b. new_to_views one other ((each a.seat a.part a.view a.has).entries one a.among) ((each b.seat b.part b.view b.has).entries other b.among);
+    new_to_calls = λ named k. new_to_calls named ((each k.seat k.part k.view k.has).entries named k.among);
+    callers = callers;
+  };
+  parents = record { storer = storer; stand = stand; fit = λ i j v h. (each i j v h).parents; by = by };
+}
+
+-- events that have callers
+callers-append : (first second : List Event) → HaveCallers first → HaveCallers second → HaveCallers (first ++ second)
+callers-append [] second a b = b
+callers-append (e ∷ first) second a b = (a.0, callers-append first second a.1 b)
+
+some_plain : (names : List Named) → 0 < length names → 0 < length (plain names)
+some_plain [] more = more
+some_plain (named ∷ names) more = omega arith
+
+-- calls by a caller with names
+callers_by : (names : List Named) (own : List Event) → 0 < length names → AreBy (plain names) own → HaveCallers own
+callers_by names [] more by = tt
+callers_by names (e ∷ own) more by =
+    (subst (λ (who : List Name). 0 < length who) (sym by.0) (some_plain names more), callers_by names own more by.1)
 
 -- the only name of a set
 pub single : (name other : Name) → has_name (name ∷ []) other ≡ true → other ≡ name
@@ -60,26 +91,6 @@ new_names_by views history apart seat part view has own by named is name later =
     let same : name ≡ e.0.name = sym (single name other one) ∙ sym e.2 in
     apart.new_to_views named e.0 is (record { seat = seat; part = part; view = view; has = has; among = e.1 })
     (subst (λ (n : Name). IsLater named n) same later))) by
-
--- names stay apart where each view has the entries that it had, and a seat calls
-pub apart_still : (views later : List (List SeatView)) (history own : List Event) → AreApart views history
-    → ((seat part : ℕ) (view : SeatView) → HasView later seat part view → Before views seat part view)
-    → (seat part : ℕ) (view : SeatView) → HasView views seat part view → AreBy (names_of view) own → AreApart later (history ++ own)
-apart_still views later history own apart before id at view has by = record {
-  owner = apart.owner;
-  owned = λ seat part v h name ours.
-      let b = before seat part v h in
-      apart.owned seat part b.old b.has name (subst (λ (ns : List Name). has_name ns name ≡ true) (names_same v.names b.old.names (sym b.names)) ours);
-  named = λ seat part v h.
-      let b = before seat part v h in subst (λ (ns : List Named). 0 < length ns) b.names (apart.named seat part b.old b.has);
-  ordered = λ seat part v h.
-      let b = before seat part v h in subst (λ (ns : List Name). AreInOrder ns) (names_same b.old.names v.names b.names) (apart.ordered seat part b.old b.has);
-  new_to_views = λ one other a b l. apart.new_to_views one other (named_before views later before one a) (named_before views later before other b) l;
-  new_to_calls = λ named k name l.
-      let is = named_before views later before named k in
-      others-append (name ∷ []) history own (apart.new_to_calls named is name l) (new_names_by views history apart id at view has own by named is name l);
-  callers = callers-append history own apart.callers (callers_by view.names own (apart.named id at view has) by);
-}
 
 -- a view goes on to fit where others call and its chunks' cells are left
 fits_on : (fixed : Fixed) (history own : List Event) (words later : List ℕ) (view : SeatView) → IsLegal fixed (history ++ own)
@@ -112,38 +123,25 @@ module _ (fixed : Fixed) (s : Table Unit (List SeatView)) (k : RuleHolds fixed s
   Found i j v = ((i ≡ id) × (j ≡ 0) × (v ≡ new)) ⊎ ((i ≢ id) × HasView s.views i j v)
 
   pub found : (i j : ℕ) (v : SeatView) → HasView (set s.views id (new ∷ [])) i j v → Found i j v
-  found i j v h = elim (at_set s.views id i (new ∷ []) h.parts h.is_seat) [
-    | inl here ↦
-        let one = one_part new v j (subst (λ (vs : List SeatView). get_elem? vs j ≡ some v) (sym here.1) h.is_part) in inl (here.0, one.0, one.1)
-    | inr other ↦ inr (other.0, record { parts = h.parts; is_seat = other.1; is_part = h.is_part })
+  found i j v h = elim (at_other s.views id (new ∷ []) i j v h) [
+    | inl here ↦ let one = one_part new v j here.1 in inl (here.0, one.0, one.1)
+    | inr other ↦ inr other
   ]
 
-  before_from : (i j : ℕ) (v : SeatView) → Found i j v → Before s.views i j v
-  before_from i j v (inl here) = record {
-    old = view;
-    has = subst (λ (p : ℕ). HasView s.views p j view) (sym here.0) (subst (λ (q : ℕ). HasView s.views id q view) (sym here.1) its);
-    names = sym same ∙ ap (λ (u : SeatView). u.names) (sym here.2);
-  }
-  before_from i j v (inr other) = record { old = v; has = other.1; names = refl }
-
   -- another seat's names are none of this one's
-  strangers : (i j : ℕ) (v : SeatView) → i ≢ id → HasView s.views i j v → share_name (names_of v) (names_of view) ≡ false
-  strangers i j v other h = apart_from (names_of v) (names_of view) (λ name their our.
+  strangers : (i j : ℕ) (v : SeatView) → i ≢ id → HasView s.views i j v → (name : Name) → has_name (names_of v) name ≡ true → has_name (names_of view) name ≡ true → ⊥
+  strangers i j v other h name their our =
       let place : (i, j) ≡ (id, 0) = sym (k.names.owned i j v h name their) ∙ k.names.owned id 0 view its name our in
-      other (ap (λ (p : ℕ × ℕ). p.0) place))
+      other (ap (λ (p : ℕ × ℕ). p.0) place)
 
-  fits_from : (own : List Event) (later : List ℕ) → AreBy (names_of view) own → IsLegal fixed (k.history ++ own) → ViewFits fixed (k.history ++ own) later new
+  others_fit : (own : List Event) (later : List ℕ) → AreBy (names_of view) own → IsLegal fixed (k.history ++ own)
       → ((number : ℕ) → is_claimed (state_after k.history) (number / 129) ≡ true → claims (names_of view) (state_after k.history) (number / 129) ≡ false
       → cell_at fixed later number ≡ cell_at fixed s.words number)
-      → (i j : ℕ) (v : SeatView) → Found i j v → ViewFits fixed (k.history ++ own) later v
-  fits_from own later by legal fits cells i j v (inl here) = subst (λ (u : SeatView). ViewFits fixed (k.history ++ own) later u) (sym here.2) fits
-  fits_from own later by legal fits cells i j v (inr other) =
-      let apart : share_name (names_of v) (names_of view) ≡ false = strangers i j v other.0 other.1 in
-      let turned : share_name (names_of view) (names_of v) ≡ false = apart_from (names_of view) (names_of v) (λ name our their.
-      let place : (i, j) ≡ (id, 0) = sym (k.names.owned i j v other.1 name their) ∙ k.names.owned id 0 view its name our in
-      let away : i ≢ id = other.0 in
-      away (ap (λ (p : ℕ × ℕ). p.0) place)) in
-      fits_on fixed k.history own s.words later v legal (k.views i j v other.1) (others_by (names_of v) (names_of view) own apart by) (λ number c.
+      → (i j : ℕ) (v : SeatView) → i ≢ id → HasView s.views i j v → ViewFits fixed (k.history ++ own) later v
+  others_fit own later by legal cells i j v other h =
+      let apart : share_name (names_of v) (names_of view) ≡ false = apart_from (names_of v) (names_of view) (strangers i j v other h) in
+      let turned : share_name (names_of view) (names_of v) ≡ false = apart_from (names_of view) (names_of v) (λ name our their. strangers i j v other h name their our) in
+      fits_on fixed k.history own s.words later v legal (k.views i j v h) (others_by (names_of v) (names_of view) own apart by) (λ number c.
       cells number (claims-claimed (names_of v) (state_after k.history) (number / 129) c)
       (claims_apart (state_after k.history) (names_of view) (names_of v) (number / 129) turned c))
 
@@ -156,18 +154,18 @@ module _ (fixed : Fixed) (s : Table Unit (List SeatView)) (k : RuleHolds fixed s
   parents_then later parents storer stand ours owned cells by = record {
     storer = storer;
     stand = stand;
-    fit = λ i j v h. fit_from i j v (found i j v h);
+    fit = λ i j v h. elim (found i j v h) [
+      | inl here ↦ placed (FitsParents fixed later storer) i j id 0 v new here.0 here.1 here.2 ours
+      | inr other ↦
+          let f = k.parents.fit i j v other.1 in
+          record {
+            low = f.low;
+            owned = λ m is. owned m i j other.0 (f.owned m is);
+            written = λ number value is. let w = f.written number value is in (w.0, cells number i j other.0 (f.owned (number / 8) w.0) ∙ w.1);
+          }
+    ];
     by = by;
-  } where
-    fit_from : (i j : ℕ) (v : SeatView) → Found i j v → FitsParents fixed later storer i j v
-    fit_from i j v (inl here) = placed (FitsParents fixed later storer) i j id 0 v new here.0 here.1 here.2 ours
-    fit_from i j v (inr other) =
-        let f = k.parents.fit i j v other.1 in
-        record {
-          low = f.low;
-          owned = λ m is. owned m i j other.0 (f.owned m is);
-          written = λ number value is. let w = f.written number value is in (w.0, cells number i j other.0 (f.owned (number / 8) w.0) ∙ w.1);
-        }
+  }
 
   -- Where the words of parents are left, and the parents held are the same, those that are held or being
   -- stored are kept, since the seat is storing the same.
@@ -188,11 +186,29 @@ module _ (fixed : Fixed) (s : Table Unit (List SeatView)) (k : RuleHolds fixed s
       → cell_at fixed (set s.words i n) number ≡ cell_at fixed s.words number)
       → AreParentsKept fixed (set s.words i n) (set s.views id (new ∷ [])) (state_after (k.history ++ own)).parents
       → RuleHolds fixed (stepped s i n id [] (new ∷ []) keeps)
-  kept_step own i n by legal words fits cells parents = record {
-    history = k.history ++ own;
-    legal = legal;
-    words = words;
-    views = λ seat part v h. fits_from own (set s.words i n) by legal fits cells seat part v (found seat part v h);
-    names = apart_still s.views (set s.views id (new ∷ [])) k.history own k.names (λ seat part v h. before_from seat part v (found seat part v h)) id 0 view its by;
-    parents = parents;
-  }
+  kept_step own i n by legal words fits cells parents =
+      let Now : ℕ → ℕ → SeatView → Type 0 = Fits fixed (k.history ++ own) (set s.words i n) k.names.owner parents.storer (IsNamed s.views) in
+      rule_by fixed (stepped s i n id [] (new ∷ []) keeps) (k.history ++ own) legal words
+      (callers-append k.history own k.names.callers (callers_by view.names own (k.names.named id 0 view its) by)) k.names.owner parents.storer (IsNamed s.views)
+      (λ a b v h. elim (found a b v h) [
+        | inl here ↦ placed Now a b id 0 v new here.0 here.1 here.2 (record {
+          fits = fits;
+          owned = λ name ours. k.names.owned id 0 view its name (subst (λ (ns : List Named). has_name (plain ns) name ≡ true) same ours);
+          named = subst (λ (ns : List Named). 0 < length ns) (sym same) (k.names.named id 0 view its);
+          ordered = subst (λ (ns : List Named). AreInOrder (plain ns)) (sym same) (k.names.ordered id 0 view its);
+          entries = λ named among. record { seat = id; part = 0; view = view; has = its; among = subst (λ (ns : List Named). Contains ns named) same among };
+          parents = parents.fit id 0 new (gets s.views id (view ∷ []) (new ∷ []) 0 new seat refl);
+        })
+        | inr other ↦ record {
+          fits = others_fit own (set s.words i n) by legal cells a b v other.0 other.1;
+          owned = k.names.owned a b v other.1;
+          named = k.names.named a b v other.1;
+          ordered = k.names.ordered a b v other.1;
+          entries = λ named among. record { seat = a; part = b; view = v; has = other.1; among = among };
+          parents = parents.fit a b v h;
+        }
+      ])
+      k.names.new_to_views
+      (λ named is name l.
+      others-append (name ∷ []) k.history own (k.names.new_to_calls named is name l) (new_names_by s.views k.history k.names id 0 view its own by named is name l))
+      parents.stand parents.by

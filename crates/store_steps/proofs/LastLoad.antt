@@ -1,5 +1,6 @@
 -- Which load is a read's last, by where its bytes end.
-use Rattle.std.proofs.Common.{◌≡◌, ◌⊎◌, ℕ, ◌+◌, ◌<◌, ◌≤◌, Bool, true, false, ◌||◌, length, inl, inr}
+use Rattle.std.proofs.lemmas.Bool.Decides.{nat_tests}
+use Rattle.std.proofs.Common.{arith, ◌≡◌, ◌⊎◌, ℕ, ◌+◌, ◌<◌, ◌≤◌, Bool, true, false, ◌||◌, length, inl, inr}
 use Rattle.std.proofs.lemmas.Bool.{le-leb, le-ltb, lt-leb, lt-ltb, or_left, or_right}
 use Rattle.store_core.specs.declared.fixed.Fixed.{Fixed}
 use Rattle.store_core.specs.States.{State, read_bytes}
@@ -14,9 +15,7 @@ is_last-true fixed group at len s (inr (inl ends)) = or_right _ _ (or_left _ _ (
 is_last-true fixed group at len s (inr (inr stops)) = or_right _ _ (or_right _ _ (lt-ltb _ _ stops))
 
 none_of : (a b c : Bool) → a ≡ false → b ≡ false → c ≡ false → (a || (b || c)) ≡ false
-none_of true b c p q r = p
-none_of false true c p q r = q
-none_of false false c p q r = r
+none_of a b c p q r = grind (arith, nat_tests)
 
 -- the read goes on where all is held up to the group's end, and more is asked that could be
 pub is_last-false : (fixed : Fixed) (group at len : ℕ) (s : State) → at < read_end fixed at len → group_end group < read_end fixed at len

@@ -22,6 +22,7 @@ use Rattle.store_steps.specs.Plays.{length_in}
 use Rattle.store_steps.specs.Simulates.{LengthIsLength, LookIsTooLarge, SettleIsSettle, after_load}
 use Rattle.store_steps.proofs.Looking.{length_back}
 use Rattle.store_steps.proofs.Settling.{word_then}
+use Rattle.store_steps.proofs.SideSteps.{look_stays}
 use Rattle.store_steps.proofs.Simulating.{read_on, seat_is, stands_after, stays_after, stored_is}
 use Rattle.store_steps.proofs.WrittenWords.{left, put}
 
@@ -87,6 +88,5 @@ look_is_too_large fixed pieces s m id place piece view new events here current e
       legal = subst (λ (o : Option Piece). HasTail o) (sym current) ends;
       right = ap (λ (a : Answer). Some (Settling a)) (sym answer);
       stands = subst (λ (x : Machine). StandsForMachine fixed (after_load s place id new) x) (sym next)
-          (stays_after fixed pieces s m id view here new place looked.claims_are (λ n. ap (λ (words : List StoredWord). stored words n) looked.written_are)
-          (read_on fixed pieces s m id view here new looked.between _ looked.goes_on));
+          (look_stays fixed pieces s m id place view new events here looked);
     }

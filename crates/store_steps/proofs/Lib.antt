@@ -1,6 +1,5 @@
 pub mod WrittenWords
 pub mod Lists
-pub mod Callers
 pub mod Calls
 pub mod Keeping
 pub mod Opening
@@ -12,7 +11,6 @@ pub mod Publishing
 pub mod Absent
 pub mod Looking
 pub mod Settling
-pub mod Naming
 pub mod Regrouping
 pub mod Parting
 pub mod Meeting

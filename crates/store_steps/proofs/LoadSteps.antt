@@ -1,6 +1,7 @@
 -- A load of a held word for a read is the machine's Load.
-use Rattle.std.proofs.Common.{◌≡◌, ◌≢◌, ◌⊎◌, ℕ, ◌+◌, ◌-◌, ◌*◌, ◌/◌, ◌%◌, ◌<◌, ◌≤◌, min, nat_le, ◌==◌, Bool, true, false, ◌&&◌, ◌||◌, if◌then◌else◌, List, [], ◌∷◌, ◌++◌, length, Option, None, Some, is_some, is_none, option_and_then, set, slice_get, slice_index, refl, sym, ap, subst, ◌∙◌, arith, inl, inr, eq-eqb, eqb-true, length-append}
-use Rattle.std.proofs.lemmas.Bool.{both_ways, cases_Bool, cases_lt, le-leb, leb-false, leb-true, lt-ltb, ne_eqb, or_cases, or_left, or_parts, or_right}
+use Rattle.std.proofs.lemmas.Bool.Decides.{nat_tests}
+use Rattle.std.proofs.Common.{◌≡◌, ◌≢◌, ◌⊎◌, ℕ, ◌+◌, ◌-◌, ◌*◌, ◌/◌, ◌%◌, ◌<◌, ◌≤◌, min, nat_le, ◌==◌, Bool, true, false, ◌&&◌, ◌||◌, if◌then◌else◌, List, [], ◌∷◌, ◌++◌, length, Option, None, Some, is_some, is_none, option_and_then, set, slice_get, slice_index, refl, sym, ap, subst, ◌∙◌, arith, inl, inr, eq-eqb, length-append}
+use Rattle.std.proofs.lemmas.Bool.{both_ways, cases_Bool, cases_lt, le-leb, leb-false, lt-ltb, ne_eqb, or_left, or_parts, or_right}
 use Rattle.std.proofs.lemmas.List.{get_or_append_left, set-get_or}
 use Rattle.atomic_table.specs.Table.{State as Table, keeps, stepped}
 use Rattle.bao_check.specs.declared.checked.Checked.{Checked}
@@ -19,10 +20,10 @@ use Rattle.store_core.specs.Pieces.{places_in}
 use Rattle.store_core.specs.Schedules.{after_step, is_last_load, read_after, read_before}
 use Rattle.store_core.specs.MachineInvariant.{IsReadSoFar}
 use Rattle.store_core.specs.ScheduleRuns.{carried_on}
-use Rattle.store_core.specs.States.{State, byte_at, empty, read_bytes}
+use Rattle.store_core.specs.States.{State, byte_at, read_bytes}
 use Rattle.store_core.specs.Views.{stored}
 use Rattle.store_core.proofs.CellWords.{cell_is}
-use Rattle.store_core.proofs.Lasting.{held_lasts, legal_is_sound, run-append}
+use Rattle.store_core.proofs.Lasting.{held_lasts, legal_is_sound}
 use Rattle.store_core.proofs.Loading.{carried_loaded, over_same}
 use Rattle.store_core.proofs.Origins.{held_is_committed}
 use Rattle.store_core.proofs.ReadLaws.{is_read, read_is}
@@ -37,8 +38,10 @@ use Rattle.store_steps.specs.Simulates.{LoadIsLoad, load_events, load_reply}
 use Rattle.store_core.specs.Knowledge.{event_of}
 use Rattle.store_steps.proofs.LastLoad.{is_last-false, is_last-true}
 use Rattle.store_steps.proofs.Looking.{reads_quiet}
-use Rattle.store_steps.proofs.Simulating.{read_is_of, read_on, seat_is, set_at, stands_after, stored_is}
+use Rattle.store_steps.proofs.Simulating.{read_is_of, read_on, seat_is, stands_after, stored_is}
 use Rattle.store_steps.proofs.StepViews.{fitting}
+use Rattle.store_steps.proofs.Storers.{gets}
+use Rattle.store_core.proofs.Going.{looked_state}
 
 -- what is held, by a bit that shows it
 held_by_bit : (o : Option (List ℕ)) (shown : Bool) (bytes : List ℕ) → shown ≡ is_some o → ((b : List ℕ) → o ≡ Some b → bytes ≡ b) → o ≡ (if shown then Some bytes else None)
@@ -48,26 +51,19 @@ held_by_bit (Some b) shown bytes is each = rw is (ap (λ (x : List ℕ). Some x)
 -- a read begins, or goes on below the limit
 begun : (o : Option ReadUnderWay) (at len limit : ℕ) → ((r : ReadUnderWay) → o ≡ Some r → position r < limit)
     → (length (read_of o at len).bytes ≡ 0) ⊎ (position (read_of o at len) < limit)
-begun None at len limit each = inl refl
-begun (Some r) at len limit each = inr (each r refl)
+begun o at len limit each = grind (arith, nat_tests)
 
 -- how far a read comes
 reaches : (s : State) (at len n : ℕ) → n ≤ len → ((i : ℕ) → i < n → is_some (byte_at s (at + i)) ≡ true) → n ≤ length (read_bytes s at len)
-reaches s at len n within held = elim (cases_lt (length (read_bytes s at len)) n) [
-  | inl short ↦
-      let r : IsRead s at len (read_bytes s at len) = read_is s at len in
-      let none : is_some (byte_at s (at + length (read_bytes s at len))) ≡ false = ap (λ (o : Option ℕ). is_some o) (r.missing (omega (arith, short, within))) in
-      absurd (both_ways _ none (held (length (read_bytes s at len)) short))
-  | inr there ↦ there
-]
+reaches s at len n within held =
+    let r : IsRead s at len (read_bytes s at len) = read_is s at len in
+    let here = held (length (read_bytes s at len)) in
+    let missing = r.missing in grind (arith, nat_tests)
 
 stops_at : (s : State) (at len n : ℕ) → byte_at s (at + n) ≡ None → length (read_bytes s at len) ≤ n
-stops_at s at len n none = elim (cases_lt n (length (read_bytes s at len))) [
-  | inl further ↦
-      let r : IsRead s at len (read_bytes s at len) = read_is s at len in
-      let never : None ≡ Some (slice_index (read_bytes s at len) n) = sym none ∙ r.held n further in cc
-  | inr there ↦ there
-]
+stops_at s at len n none =
+    let r : IsRead s at len (read_bytes s at len) = read_is s at len in
+    let held = r.held n in grind (arith, nat_tests)
 
 module _ (fixed : Fixed) (pieces : List Checked) (s : Table Unit (List SeatView)) (m : Machine) (id group at len : ℕ) (view new : SeatView)
     (here : IsAtMachine fixed pieces s m id view) (there : group < groups fixed) (reading : IsReading m id at len)
@@ -99,10 +95,7 @@ module _ (fixed : Fixed) (pieces : List Checked) (s : Table Unit (List SeatView)
 
   -- the read's event leaves the state
   seen_is : state_after (view.seen ++ loads.looked.between) ≡ seen
-  seen_is =
-      let old : State = state_after (view.seen ++ loads.looked.between) in
-      sym (ap (λ (h : List Event). state_after h) loads.looked.goes_on.seen_is ∙ run-append empty (view.seen ++ loads.looked.between) (read_events view group at len old)
-      ∙ reads_quiet view group at len old)
+  seen_is = sym (looked_state (read_events view group at len) view new (λ s. reads_quiet view group at len s) loads.looked)
 
   words_same : set s.words group (held_word s.words group) ≡ s.words
   words_same = set-get_or s.words group 0
@@ -110,7 +103,7 @@ module _ (fixed : Fixed) (pieces : List Checked) (s : Table Unit (List SeatView)
   -- what the view has seen held is held in the words
   held_now : (c : ℕ) (bytes : List ℕ) → seen.held c ≡ Some bytes → (state_after after.history).held c ≡ Some bytes
   held_now c bytes h =
-      let has : HasView (set s.views id (new ∷ [])) id 0 new = record { parts = new ∷ []; is_seat = set_at s.views id (view ∷ []) (new ∷ []) here.is_seat; is_part = refl } in
+      let has : HasView (set s.views id (new ∷ [])) id 0 new = gets s.views id (view ∷ []) (new ∷ []) 0 new here.is_seat refl in
       let on = (after.views id 0 new has).continues in
       ap (λ (t : List Event). (state_after t).held c) on.is
       ∙ held_lasts fixed new.seen on.between c bytes (subst (λ (t : List Event). IsLegal fixed t) on.is after.legal) h
@@ -243,15 +236,13 @@ module _ (fixed : Fixed) (pieces : List Checked) (s : Table Unit (List SeatView)
         ≡ (is_whole later || ((position later / 65536 == position before / 65536) || nat_le limit (position later)))
     over_is = over_same fixed m before sound_words in_words.part
 
+    -- it is the last for that, or since it is whole
+    why_last : is_last_load fixed m id at len ≡ true → length later.bytes < later.len → (position later / 65536 ≡ position before / 65536) ⊎ (limit ≤ position later)
+    why_last over less = let why : (is_whole later || ((position later / 65536 == position before / 65536) || nat_le limit (position later))) ≡ true = sym over_is ∙ over in grind (arith, nat_tests)
+
     -- where it stops
     none_later : is_last_load fixed m id at len ≡ true → length later.bytes < later.len → byte_at seen (position later) ≡ None
-    none_later over less = elim (or_cases (is_whole later) ((position later / 65536 == position before / 65536) || nat_le limit (position later)) (sym over_is ∙ over)) [
-      | inl whole ↦ absurd (omega (arith, eqb-true (length later.bytes) later.len whole, less))
-      | inr other ↦ elim (or_cases (position later / 65536 == position before / 65536) (nat_le limit (position later)) other) [
-        | inl of ↦ stops less (eqb-true (position later / 65536) (position before / 65536) of)
-        | inr past ↦ past_none fixed seen (position later) sound (leb-true limit (position later) past)
-      ]
-    ]
+    none_later over less = elim (why_last over less) [ inl of ↦ stops less of | inr past ↦ past_none fixed seen (position later) sound past ]
 
     -- in the group or at its end
     in_group : position later ≤ group_end group
@@ -266,13 +257,7 @@ module _ (fixed : Fixed) (pieces : List Checked) (s : Table Unit (List SeatView)
           elim (cases_lt (position later) (group_end group)) [
             | inl before_end ↦ is_last-true fixed group at len seen (inr (inr (omega (arith, short, before_end, in_view.at_is))))
             | inr at_end ↦
-                let past : limit ≤ position later = elim (or_cases (is_whole later) ((position later / 65536 == position before / 65536) || nat_le limit (position later)) (sym over_is ∙ over)) [
-                  | inl whole ↦ absurd (omega (arith, eqb-true (length later.bytes) later.len whole, less))
-                  | inr other ↦ elim (or_cases (position later / 65536 == position before / 65536) (nat_le limit (position later)) other) [
-                    | inl of ↦ absurd (omega (arith, eqb-true (position later / 65536) (position before / 65536) of, at_end, group_at))
-                    | inr past ↦ leb-true limit (position later) past
-                  ]
-                ] in
+                let past : limit ≤ position later = elim (why_last over less) [ inl of ↦ absurd (omega (arith, of, at_end, group_at)) | inr past ↦ past ] in
                 is_last-true fixed group at len seen (inr (inl (omega (arith, past, in_group))))
           ]
       | inr whole ↦ is_last-true fixed group at len seen (inr (inl (omega (arith, whole, in_group, in_view.at_is, in_view.len_is))))

@@ -1,13 +1,15 @@
 -- Loads: of a held word, of the length word, and of a word of a chunk's cell or of a parent.
-use Rattle.std.proofs.Common.{ne_eqb, ◌++◌, ◌≡◌, ℕ, ◌+◌, ◌*◌, ◌-◌, ◌%◌, ◌<◌, ◌==◌, false, List, [], ◌∷◌, Option, None, Some, slice_index, refl, sym, ap, ◌∙◌, arith, Bool, true, if◌then◌else◌, ◌≢◌, ◌/◌, nat_lt, ◌||◌, is_none, is_some, inl, inr, eq-eqb, eqb-true}
+use Rattle.std.proofs.lemmas.Bool.Decides.{nat_tests}
+use Rattle.std.proofs.Common.{◌++◌, ◌≡◌, ℕ, ◌+◌, ◌*◌, ◌-◌, ◌%◌, ◌<◌, false, List, [], ◌∷◌, Option, Some, slice_index, refl, sym, ap, ◌∙◌, arith, Bool, true, if◌then◌else◌, ◌≢◌, nat_lt, ◌||◌, is_none, is_some}
 use mathlib.Core.Option.{some}
 use lib.ListN.{get_elem?}
 use Rattle.atomic_table.specs.Table.{State as Table}
 use Rattle.store_core.specs.declared.fixed.Fixed.{Fixed}
+use Rattle.store_core.specs.declared.history.Call.{Call}
 use Rattle.store_core.specs.declared.history.Call.TheVariants.{Length, Read, Parents, Serve}
 use Rattle.store_core.specs.declared.history.Event.{Event}
 use Rattle.store_core.specs.declared.view.SeatView.{SeatView}
-use Rattle.store_core.specs.Histories.{AreLegalFrom, IsLegal, run, state_after}
+use Rattle.store_core.specs.Histories.{IsLegal, run, state_after}
 use Rattle.store_core.specs.Machine.{groups}
 use Rattle.store_core.specs.Masks.{has_bit, in_mask}
 use Rattle.store_core.specs.Names.{Name}
@@ -20,65 +22,56 @@ use Rattle.store_steps.specs.Plays.{LoadsLength, CopiesWord, Loads, length_in, L
 use Rattle.store_steps.specs.Reads.{is_last, read_events}
 use Rattle.store_steps.specs.Rule.{RuleHolds}
 use Rattle.store_core.specs.Knowledge.{event_of}
-use Rattle.store_steps.proofs.Lists.{AreBy}
-use Rattle.store_steps.proofs.StepViews.{Steps, look_step, still, still_step}
-use Rattle.std.proofs.lemmas.Bool.{both_ways, cases_Bool, false≢true}
+use Rattle.store_steps.proofs.StepViews.{AreIdle, Steps, look_step, still, still_step}
+use Rattle.std.proofs.lemmas.Bool.{both_ways}
 use Rattle.bao_text.specs.declared.walk.Node.{Node}
 use Rattle.bao_text.specs.declared.walk.Node.TheVariants.{Chunk, Parent}
 use Rattle.store_core.specs.declared.history.Piece.{Piece}
 use Rattle.store_core.specs.declared.history.Storing.TheVariants.{OtherLength, Stored}
-use Rattle.store_core.specs.Events.{after_call, parents_after}
+use Rattle.store_core.specs.Events.{IsRightReply, after_call, parents_after}
 use Rattle.store_core.specs.Pieces.{IsAcceptedPiece, length_of, parent_bytes}
 use Rattle.store_core.specs.Serves.{node_held, serving}
-use Rattle.store_core.proofs.Bits.{has_bit-zero}
 use Rattle.store_core.proofs.ParentOrigins.{parent_lasts}
 use Rattle.store_steps.specs.Slices.{is_recorded, node_events, node_number, node_place, unserved_events, unstored_events}
+use Rattle.store_steps.proofs.WrittenWords.{in_none}
 
--- a choice between a list and another by a bit
-pub either_legal : (fixed : Fixed) (s : State) (b : Bool) (mine others : List Event) → (b ≡ true → AreLegalFrom fixed s mine) → (b ≡ false → AreLegalFrom fixed s others)
-    → AreLegalFrom fixed s (if b then mine else others)
-either_legal fixed s true mine others one other = one refl
-either_legal fixed s false mine others one other = other refl
+module _ (fixed : Fixed) (t : State) (view : SeatView) where
+  abbrev Idle : List Event → Type 0
+  Idle own = AreIdle fixed t (names_of view) own
 
-pub either_quiet : (s : State) (b : Bool) (mine others : List Event) → run s mine ≡ s → run s others ≡ s → run s (if b then mine else others) ≡ s
-either_quiet s true mine others one other = one
-either_quiet s false mine others one other = other
+  idle_none : Idle []
+  idle_none = record { legal = tt; quiet = refl; by = tt }
 
-pub either_by : (names : List Name) (b : Bool) (mine others : List Event) → AreBy names mine → AreBy names others → AreBy names (if b then mine else others)
-either_by names true mine others one other = one
-either_by names false mine others one other = other
+  idle_call : (call : Call) → IsRightReply fixed t (names_of view) call → after_call (names_of view) call t ≡ t → Idle (event_of view call ∷ [])
+  idle_call call right quiet = record { legal = (right, tt); quiet = quiet; by = (refl, tt) }
+
+  -- a choice between a list and another by a bit
+  either_idle : (b : Bool) (mine others : List Event) → (b ≡ true → Idle mine) → (b ≡ false → Idle others) → Idle (if b then mine else others)
+  either_idle true mine others one other = one refl
+  either_idle false mine others one other = other refl
+
+  maybe_idle : (b : Bool) (call : Call) → IsRightReply fixed t (names_of view) call → after_call (names_of view) call t ≡ t → Idle (if b then event_of view call ∷ [] else [])
+  maybe_idle b call right quiet = either_idle b (event_of view call ∷ []) [] (λ is. idle_call call right quiet) (λ is. idle_none)
 
 -- a load's event leaves the state
 pub reads_quiet : (view : SeatView) (group at len : ℕ) (s : State) → run s (read_events view group at len s) ≡ s
-reads_quiet view group at len s = either_quiet s (is_last view.fixed group at len s) (event_of view (Read at len (read_bytes s at len)) ∷ []) [] refl refl
+reads_quiet view group at len s = (maybe_idle view.fixed s view (is_last view.fixed group at len s) (Read at len (read_bytes s at len)) refl refl).quiet
 
 -- the length that a length's word stands for
 pub length_back : (o : Option ℕ) → length_in (length_code o) ≡ o
-length_back None = refl
-length_back (Some l) =
-    let some : (l + 1 == 0) ≡ false = ne_eqb (l + 1) 0 (λ e. omega (arith, e)) in
-    let back : l + 1 - 1 ≡ l = omega arith in
-    rw some (ap (λ (n : ℕ). Some n) back)
+length_back o = grind (arith, nat_tests)
 
 is_recorded-true : (o : Option ℕ) (l : ℕ) → is_recorded o l ≡ true → o ≡ Some l
-is_recorded-true None l h = cc
-is_recorded-true (Some known) l h = ap (λ (n : ℕ). Some n) (eqb-true known l h)
+is_recorded-true o l h = grind (arith, nat_tests)
 
 is_recorded-false : (o : Option ℕ) (l : ℕ) → is_recorded o l ≡ false → o ≢ Some l
-is_recorded-false None l h e = cc
-is_recorded-false (Some known) l h e = let same : known ≡ l = cc in false≢true (sym h ∙ eq-eqb known l same)
+is_recorded-false o l h e = grind (arith, nat_tests)
 
 -- a mask of no bits is of no boundary, so that nothing is stored
-no_boundary : (group m : ℕ) → in_mask group 0 m ≡ false
-no_boundary group m = elim (cases_Bool (m / 64 == group)) [
-  | inl here ↦ rw here (has_bit-zero (m % 64))
-  | inr other ↦ rw other refl
-]
-
-none_after : (group : ℕ) (piece : Piece) (s : State) (names : List Name) → after_call names (Parents group piece (Stored 0)) s ≡ s
+pub none_after : (group : ℕ) (piece : Piece) (s : State) (names : List Name) → after_call names (Parents group piece (Stored 0)) s ≡ s
 none_after group piece s names =
     let each : (m : ℕ) → parents_after (Stored 0) group piece s.parents m ≡ s.parents m = λ m.
-    ap (λ (b : Bool). if b then parent_bytes piece m else s.parents m) (no_boundary group m) in
+    ap (λ (b : Bool). if b then parent_bytes piece m else s.parents m) (in_none group m) in
     λ i. record s { parents = λ m. each m i }
 
 -- an item that is held stays held, with the same bytes
@@ -93,33 +86,28 @@ module _ (fixed : Fixed) (s : Table Unit (List SeatView)) (k : RuleHolds fixed s
 
   pub load_steps : (group at len : ℕ) → group < groups fixed
       → Steps fixed s id group (slice_index s.words group) (λ new. Loads group at len (slice_index s.words group) view new)
-  load_steps group at len there =
-      let b : Bool = is_last view.fixed group at len state in
-      let read : List Event = event_of view (Read at len (read_bytes state at len)) ∷ [] in
-      let t = look_step fixed s k id view seat (read_events view group at len) group (either_legal fixed state b read [] (λ is. (refl, tt)) (λ is. tt))
-      (reads_quiet view group at len state) (either_by (names_of view) b read [] (refl, tt) tt) in
-      record {
-        new = t.new;
-        kept = t.kept;
-        told = record {
-          looked = t.told.0;
-          finds = λ c here.
-              ap (λ (g : ℕ). has_bit (held_word s.words g) (c % 64)) (sym here) ∙ k.words.held c (omega (arith, here, there))
-              ∙ ap (λ (t : State). is_held t c) (sym t.told.1);
-        };
-      }
+  load_steps group at len there = look_step fixed s k id view seat (read_events view group at len) group _
+      (maybe_idle fixed state view (is_last view.fixed group at len state) (Read at len (read_bytes state at len)) refl refl)
+      (λ new looked same. record {
+        looked = looked;
+        finds = λ c here.
+            ap (λ (g : ℕ). has_bit (held_word s.words g) (c % 64)) (sym here) ∙ k.words.held c (omega (arith, here, there)) ∙ ap (λ (t : State). is_held t c) (sym same);
+      })
+
+  -- the length word stands for the recorded length
+  length_found : length_in (slice_index s.words (length_place fixed)) ≡ state.recorded
+  length_found = ap (λ (n : ℕ). length_in n) k.words.recorded ∙ length_back state.recorded
 
   pub length_steps : Steps fixed s id (length_place fixed) (slice_index s.words (length_place fixed)) (λ new. LoadsLength (slice_index s.words (length_place fixed)) view new)
   length_steps =
-      let answer : length_in (slice_index s.words (length_place fixed)) ≡ state.recorded =
-      ap (λ (n : ℕ). length_in n) k.words.recorded ∙ length_back state.recorded in
-      let events : State → List Event = λ t. event_of view (Length (length_in (slice_index s.words (length_place fixed)))) ∷ [] in
-      let t = look_step fixed s k id view seat events (length_place fixed) (answer, tt) refl (refl, tt) in
-      record {
-        new = t.new;
-        kept = t.kept;
-        told = record { between = t.told.0.between; goes_on = t.told.0.goes_on; claims_are = t.told.0.claims_are; written_are = t.told.0.written_are; storing_is = t.told.0.storing_is };
-      }
+      let call : Call = Length (length_in (slice_index s.words (length_place fixed))) in
+      look_step fixed s k id view seat (λ t. event_of view call ∷ []) (length_place fixed) _ (idle_call fixed state view call length_found refl) (λ new looked same. record {
+        between = looked.between;
+        goes_on = looked.goes_on;
+        claims_are = looked.claims_are;
+        written_are = looked.written_are;
+        storing_is = looked.storing_is;
+      })
 
   -- what a word of a held item is
   word_held : (kind : Kind) (item w : ℕ) (bytes : List ℕ) → held_in kind state item ≡ Some bytes → w < width kind
@@ -149,54 +137,28 @@ module _ (fixed : Fixed) (s : Table Unit (List SeatView)) (k : RuleHolds fixed s
   pub load_node_steps : (node : Node) (last : Bool) (start len : ℕ) → node_number node < fixed.capacity
       → Steps fixed s id (node_place fixed node) (slice_index s.words (node_place fixed node))
       (λ new. LoadsNode node last start len (slice_index s.words (node_place fixed node)) view new)
-  load_node_steps node last start len below =
-      let serve : List Event = event_of view (Serve start len (serving state start len)) ∷ [] in
-      let b : Bool = last || is_none (node_held state node) in
-      let t = look_step fixed s k id view seat (node_events view node last start len) (node_place fixed node)
-      (either_legal fixed state b serve [] (λ is. (refl, tt)) (λ is. tt)) (either_quiet state b serve [] refl refl) (either_by (names_of view) b serve [] (refl, tt) tt) in
-      record {
-        new = t.new;
-        kept = t.kept;
-        told = record {
-          looked = t.told.0;
-          finds = held_node node below ∙ ap (λ (t : State). is_some (node_held t node)) (sym t.told.1);
-        };
-      }
-
-  -- the length word stands for the recorded length
-  length_found : length_in (slice_index s.words (length_place fixed)) ≡ state.recorded
-  length_found = ap (λ (n : ℕ). length_in n) k.words.recorded ∙ length_back state.recorded
+  load_node_steps node last start len below = look_step fixed s k id view seat (node_events view node last start len) (node_place fixed node) _
+      (maybe_idle fixed state view (last || is_none (node_held state node)) (Serve start len (serving state start len)) refl refl)
+      (λ new looked same. record { looked = looked; finds = held_node node below ∙ ap (λ (t : State). is_some (node_held t node)) (sym same) })
 
   pub length_to_serve_steps : (start len : ℕ) → Steps fixed s id (length_place fixed) (slice_index s.words (length_place fixed))
       (λ new. LoadsToServe start len (slice_index s.words (length_place fixed)) view new)
-  length_to_serve_steps start len =
-      let serve : List Event = event_of view (Serve start len (serving state start len)) ∷ [] in
-      let b : Bool = is_none state.recorded in
-      let t = look_step fixed s k id view seat (unserved_events view start len) (length_place fixed)
-      (either_legal fixed state b serve [] (λ is. (refl, tt)) (λ is. tt)) (either_quiet state b serve [] refl refl) (either_by (names_of view) b serve [] (refl, tt) tt) in
-      record {
-        new = t.new;
-        kept = t.kept;
-        told = record { looked = t.told.0; finds = length_found ∙ ap (λ (t : State). t.recorded) (sym t.told.1) };
-      }
+  length_to_serve_steps start len = look_step fixed s k id view seat (unserved_events view start len) (length_place fixed) _
+      (maybe_idle fixed state view (is_none state.recorded) (Serve start len (serving state start len)) refl refl)
+      (λ new looked same. record { looked = looked; finds = length_found ∙ ap (λ (t : State). t.recorded) (sym same) })
 
   pub length_to_store_steps : (group : ℕ) (piece : Piece) → IsAcceptedPiece fixed piece → Steps fixed s id (length_place fixed) (slice_index s.words (length_place fixed))
       (λ new. LoadsToStore group piece (slice_index s.words (length_place fixed)) view new)
   length_to_store_steps group piece accepted =
-      let none : List Event = event_of view (Parents group piece (Stored 0)) ∷ [] in
-      let other : List Event = event_of view (Parents group piece OtherLength) ∷ [] in
-      let known : Bool = is_recorded state.recorded (length_of piece) in
+      let none : Call = Parents group piece (Stored 0) in
+      let other : Call = Parents group piece OtherLength in
       let there : Bool = nat_lt group (groups view.fixed) in
-      let inner : List Event = if there then [] else none in
-      let t = look_step fixed s k id view seat (unstored_events view group piece) (length_place fixed)
-      (either_legal fixed state known inner other
-      (λ is. either_legal fixed state there [] none (λ within. tt)
-      (λ absent. ((accepted, (is_recorded-true state.recorded (length_of piece) is, λ m hit. absurd (both_ways (in_mask group 0 m) (no_boundary group m) hit))), tt)))
-      (λ isnt. ((accepted, is_recorded-false state.recorded (length_of piece) isnt), tt)))
-      (either_quiet state known inner other (either_quiet state there [] none refl (none_after group piece state (names_of view))) refl)
-      (either_by (names_of view) known inner other (either_by (names_of view) there [] none tt (refl, tt)) (refl, tt)) in
-      record {
-        new = t.new;
-        kept = t.kept;
-        told = record { looked = t.told.0; finds = length_found ∙ ap (λ (t : State). t.recorded) (sym t.told.1) };
-      }
+      let inner : List Event = if there then [] else event_of view none ∷ [] in
+      look_step fixed s k id view seat (unstored_events view group piece) (length_place fixed) _
+      (either_idle fixed state view (is_recorded state.recorded (length_of piece)) inner (event_of view other ∷ [])
+      (λ is. either_idle fixed state view there [] (event_of view none ∷ []) (λ within. idle_none fixed state view)
+      (λ absent. idle_call fixed state view none
+      (accepted, (is_recorded-true state.recorded (length_of piece) is, λ m hit. absurd (both_ways (in_mask group 0 m) (in_none group m) hit)))
+      (none_after group piece state (names_of view))))
+      (λ isnt. idle_call fixed state view other (accepted, is_recorded-false state.recorded (length_of piece) isnt) refl))
+      (λ new looked same. record { looked = looked; finds = length_found ∙ ap (λ (t : State). t.recorded) (sym same) })

@@ -1,5 +1,5 @@
 -- Words of zeros, one seat that has seen nothing, and no call: the rule holds.
-use Rattle.std.proofs.Common.{zero, suc, ◌≡◌, ℕ, ◌+◌, ◌/◌, ◌%◌, ◌<◌, [], ◌∷◌, ◌++◌, length, replicate, slice_index, Contains, None, true, false, inl, inr, refl, sym, ap, subst, ◌∙◌, arith}
+use Rattle.std.proofs.Common.{zero, suc, ◌≡◌, ℕ, ◌+◌, ◌/◌, ◌%◌, ◌<◌, [], ◌∷◌, ◌++◌, length, replicate, slice_index, Contains, None, false, inl, inr, refl, sym, ap, subst, ◌∙◌, arith}
 use Rattle.std.proofs.lemmas.List.{get_or-replicate, length-replicate}
 use Rattle.atomic_table.specs.Table.{opening}
 use mathlib.Core.Option.{some-injective, some-ne-none}
@@ -14,9 +14,10 @@ use Rattle.store_core.specs.States.{empty}
 use Rattle.store_core.specs.Views.{names_of}
 use Rattle.store_core.specs.Knowledge.{opening_view}
 use Rattle.store_steps.specs.Layout.{claim_place, length_place, parent_claim_place, parent_held_place, word_count}
-use Rattle.store_steps.specs.Rule.{ViewFits, FitsParents, HasView, RuleHolds, IsNamed, StandFor}
+use Rattle.store_steps.specs.Rule.{ViewFits, HasView, RuleHolds, IsNamed, StandFor}
 use Rattle.store_core.proofs.Bits.{has_bit-zero}
 use Rattle.store_steps.proofs.Lists.{one_part}
+use Rattle.store_steps.proofs.ParentsStanding.{fits_none}
 
 pub zero_at : (count i : ℕ) → i < count → slice_index (replicate count 0) i ≡ 0
 zero_at count i within = get_or-replicate count i 0 0 within
@@ -84,11 +85,7 @@ opens fixed = record {
     };
     fit = λ seat part view h.
         let is = (the_view fixed seat part view h).2 in
-        subst (λ (v : SeatView). FitsParents fixed (replicate (word_count fixed) 0) (λ m. None) seat part v) (sym is) (record {
-          low = λ m is. let never : false ≡ true = is in cc;
-          owned = λ m is. let never : false ≡ true = is in cc;
-          written = λ number value w. cc;
-        });
+        fits_none fixed (replicate (word_count fixed) 0) (λ m. None) seat part view (ap (λ (v : SeatView). v.storing) is) (ap (λ (v : SeatView). v.parent_words) is);
     by = λ m seat part is. cc;
   };
 }

@@ -1,5 +1,5 @@
 -- A step on a word of parents: what is known of chunks and of the length stays.
-use Rattle.std.proofs.Common.{◌≡◌, ℕ, ◌/◌, ◌≤◌, true, List, [], ◌∷◌, ◌++◌, set, refl, ap, ◌∙◌, arith}
+use Rattle.std.proofs.Common.{◌≡◌, ℕ, ◌≤◌, List, [], ◌∷◌, ◌++◌, set, refl, ap, ◌∙◌, arith}
 use mathlib.Core.Option.{some}
 use lib.ListN.{get_elem?}
 use Rattle.atomic_table.specs.Table.{State as Table, keeps, stepped}
@@ -14,41 +14,27 @@ use Rattle.store_core.specs.declared.view.SeatView.{SeatView}
 use Rattle.store_core.specs.declared.view.StoredWord.{StoredWord}
 use Rattle.store_core.specs.Events.{IsRightReply, after_call, parents_after}
 use Rattle.store_core.specs.Histories.{state_after}
-use Rattle.store_core.specs.Laws.{IsSound}
-use Rattle.store_core.specs.States.{State, claims, empty, is_claimed}
+use Rattle.store_core.specs.States.{State, claims, empty}
 use Rattle.store_core.specs.Views.{names_of}
-use Rattle.store_core.proofs.Lasting.{legal_is_sound, run-append}
-use Rattle.store_core.proofs.Tells.{claims-claimed}
-use Rattle.store_steps.specs.Layout.{cell_at, cell_place, parents_place}
+use Rattle.store_core.proofs.Lasting.{run-append}
+use Rattle.store_steps.specs.Layout.{parents_place}
 use Rattle.store_steps.specs.Rule.{AreParentsKept, RuleHolds}
 use Rattle.store_core.specs.Knowledge.{EndsStoring, event_of}
-use Rattle.store_steps.proofs.WrittenWords.{aside_stands, left}
-use Rattle.store_steps.proofs.StepViews.{CellsAreStored, Steps, claims_now, fitting, goes_on, quiet_step, seen_step, seen_then}
+use Rattle.store_steps.proofs.WrittenWords.{aside_stands}
+use Rattle.store_steps.proofs.StepViews.{Steps, cells_past, claims_now, fitting, goes_on, quiet_step, seen_step, seen_then, sound, stored_past}
 
 module _ (fixed : Fixed) (s : Table Unit (List SeatView)) (k : RuleHolds fixed s) (id : ℕ) (view : SeatView) (seat : get_elem? s.views id ≡ some (view ∷ []))
     (i n : ℕ) (high : parents_place fixed ≤ i) where
   abbrev now : State
   now = state_after k.history
 
-  sound : IsSound fixed now
-  sound = legal_is_sound fixed k.history k.legal
-
-  pub cells_aside : (number : ℕ) → is_claimed now (number / 129) ≡ true → cell_at fixed (set s.words i n) number ≡ cell_at fixed s.words number
-  cells_aside number claimed =
-      let below = sound.claimed_below (number / 129) claimed in
-      left s.words i n (cell_place fixed number) (λ e. omega (arith, e, below, high))
-
-  -- what the seat stored stands there still
-  stored_aside : CellsAreStored fixed s k id view seat view.written now (set s.words i n)
-  stored_aside number value is =
-      let w = (fitting fixed s k id view seat).written number value is in (w.0, cells_aside number (claims-claimed (names_of view) now (number / 129) w.0) ∙ w.1)
-
   -- a step with no event, after which the seat is storing these
   pub aside_step : (storing : List Boundaries) (parent_words : List StoredWord)
       → AreParentsKept fixed (set s.words i n) (set s.views id (record view { storing = storing; parent_words = parent_words } ∷ [])) now.parents
       → RuleHolds fixed (stepped s i n id [] (record view { storing = storing; parent_words = parent_words } ∷ []) keeps)
   aside_step storing parent_words parents = quiet_step fixed s k id view seat view.written storing parent_words i n
-      (aside_stands fixed s.words now k.words sound now.parents i n high) stored_aside (λ number claimed others. cells_aside number claimed) parents
+      (aside_stands fixed s.words now k.words (sound fixed s k id view seat) now.parents i n high) (stored_past fixed s k id view seat i n (omega (arith, high)))
+      (λ number claimed others. cells_past fixed s k id view seat i n (omega (arith, high)) number claimed) parents
 
   -- a step at which parents are stored, or aren't: the seat is storing none then
   pub parents_step : (group : ℕ) (piece : Piece) (answer : Storing) → IsRightReply fixed now (names_of view) (Parents group piece answer)
@@ -63,8 +49,9 @@ module _ (fixed : Fixed) (s : Table Unit (List SeatView)) (k : RuleHolds fixed s
       record {
         new = seen_then fixed s k id view seat own view.written [] [];
         kept = seen_step fixed s k id view seat own (after_call (names_of view) call now) refl (right, tt) (refl, tt) view.written [] [] i n
-            (aside_stands fixed s.words now k.words sound (λ m. parents_after answer group piece now.parents m) i n high) stored_aside
-            (λ number claimed others. cells_aside number claimed) parents;
+            (aside_stands fixed s.words now k.words (sound fixed s k id view seat) (λ m. parents_after answer group piece now.parents m) i n high)
+            (stored_past fixed s k id view seat i n (omega (arith, high)))
+            (λ number claimed others. cells_past fixed s k id view seat i n (omega (arith, high)) number claimed) parents;
         told = (
           record {
             between = (fitting fixed s k id view seat).continues.between;

@@ -1,5 +1,5 @@
 -- Parents that are held or being stored, where a word of another kind is written.
-use Rattle.std.proofs.Common.{◌≡◌, ℕ, ◌+◌, ◌*◌, ◌/◌, ◌%◌, ◌<◌, ◌≤◌, List, Option, None, Some, set, slice_index, sym, ap, ◌∙◌, arith}
+use Rattle.std.proofs.Common.{◌≡◌, ℕ, ◌+◌, ◌*◌, ◌/◌, ◌%◌, ◌<◌, ◌≤◌, List, Option, Some, set, slice_index, sym, ap, ◌∙◌, arith, [], true}
 use Rattle.std.proofs.lemmas.List.{set-get_or}
 use Rattle.store_core.specs.declared.fixed.Fixed.{Fixed}
 use Rattle.store_core.specs.declared.view.Boundaries.{Boundaries}
@@ -10,6 +10,8 @@ use Rattle.store_core.specs.Views.{is_boundary, is_storing, stored}
 use Rattle.store_steps.specs.Layout.{parents_place, parent_claim_place, parent_held_place, parent_word_place}
 use Rattle.store_steps.specs.Rule.{FitsParents, StandForParents}
 use Rattle.store_steps.proofs.WrittenWords.{left}
+use Rattle.std.proofs.lemmas.Option.{none-some, same_Some}
+use Rattle.std.proofs.lemmas.Bool.{false≢true}
 
 -- the words of parents are as they were
 abbrev pub LeavesParents : Fixed → List ℕ → List ℕ → Type 0
@@ -51,10 +53,17 @@ fits_same fixed words storer seat part view new storing parent_words h =
           let w = h.written number value (sym (ap (λ (ws : List StoredWord). stored ws number) parent_words) ∙ is) in (same (number / 8) ∙ w.0, w.1);
     }
 
--- one place is one seat
-abbrev seat_of : Option (ℕ × ℕ) → ℕ
-seat_of None = 0
-seat_of (Some place) = place.0
+-- one that is storing none
+pub fits_none : (fixed : Fixed) (words : List ℕ) (storer : ℕ → Option (ℕ × ℕ)) (seat part : ℕ) (view : SeatView) → view.storing ≡ [] → view.parent_words ≡ []
+    → FitsParents fixed words storer seat part view
+fits_none fixed words storer seat part view none empty =
+    let never : (m : ℕ) → is_storing view m ≡ true → ⊥ = λ m is. false≢true (sym (ap (λ (bs : List Boundaries). is_boundary bs m) none) ∙ is) in
+    record {
+      low = λ m is. absurd (never m is);
+      owned = λ m is. absurd (never m is);
+      written = λ number value is. absurd (none-some value (sym (ap (λ (ws : List StoredWord). stored ws number) empty) ∙ is));
+    }
 
+-- one place is one seat
 pub same_seat : (i j id part : ℕ) → ◌≡◌ {A = Option (ℕ × ℕ)} (Some (i, j)) (Some (id, part)) → i ≡ id
-same_seat i j id part e = ap seat_of e
+same_seat i j id part e = ap (λ (p : ℕ × ℕ). p.0) (same_Some {A = ℕ × ℕ} (i, j) (id, part) e)

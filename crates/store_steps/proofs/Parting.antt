@@ -1,7 +1,6 @@
 -- A seat with one view parts: its first name splits, and a new seat gets the name that comes of it.
-use Rattle.std.proofs.Common.{slice_index, ◌≡◌, ◌≢◌, ℕ, ◌+◌, ◌<◌, true, false, if◌then◌else◌, List, [], ◌∷◌, ◌++◌, length, set, Contains, refl, sym, ap, subst, ◌∙◌, arith, inl, inr, length-append, ◌/◌}
+use Rattle.std.proofs.Common.{slice_index, ◌≡◌, ◌≢◌, ℕ, ◌+◌, ◌<◌, true, false, if◌then◌else◌, List, [], ◌∷◌, ◌++◌, length, set, Contains, refl, sym, ap, subst, ◌∙◌, arith, inl, inr, length-append, ◌/◌, append_assoc}
 use Rattle.std.proofs.lemmas.Bool.{false_from_ne_true}
-use Rattle.std.proofs.lemmas.List.Elements.{filter-append}
 use mathlib.Core.Option.{some}
 use lib.ListN.{get_elem?}
 use Rattle.atomic_table.specs.Table.{Splits, State as Table}
@@ -10,33 +9,49 @@ use Rattle.store_core.specs.declared.fixed.Fixed.{Fixed}
 use Rattle.store_core.specs.declared.history.Event.{Event}
 use Rattle.store_core.specs.declared.view.Named.{Named}
 use Rattle.store_core.specs.declared.view.SeatView.{SeatView}
-use Rattle.store_core.specs.Histories.{AreOfOthers, IsLegal, events_of, is_by, state_after}
+use Rattle.store_core.specs.Histories.{AreOfOthers, state_after}
 use Rattle.store_core.specs.Names.{Name, has_name, same_name}
 use Rattle.store_core.specs.Orders.{AreInOrder}
 use Rattle.store_core.specs.States.{claims, empty}
 use Rattle.store_core.specs.Views.{names_of, split_first, split_second}
 use Rattle.store_core.proofs.Joining.{plain, split_keeps}
-use Rattle.store_core.proofs.Lasting.{claims_from, legal-append}
+use Rattle.store_core.proofs.Lasting.{claims_from}
 use Rattle.store_core.proofs.Ordering.{split_keeps_order}
 use Rattle.store_core.proofs.Tells.{same_name-true, same_name-refl}
 use Rattle.store_steps.specs.Layout.{cell_at}
 use Rattle.store_core.specs.Knowledge.{ArePartsOf}
-use Rattle.store_steps.specs.Rule.{ViewFits, FitsParents, HasView, RuleHolds, IsLater, IsNamed}
+use Rattle.store_steps.specs.Rule.{ViewFits, HasView, RuleHolds, IsLater, IsNamed}
+use Rattle.store_steps.specs.declared.words.Words.{Words}
 use Rattle.store_steps.specs.Grips.{first_of}
 use Rattle.store_steps.specs.Plays.{PartsInTwo}
-use Rattle.store_steps.proofs.StepViews.{Steps, still_step}
-use Rattle.store_steps.proofs.Keeping.{its, placed, single}
+use Rattle.store_steps.proofs.StepViews.{Steps, seen_legal, still_step}
+use Rattle.store_steps.proofs.Keeping.{Fits, its, placed, single}
 use Rattle.store_core.proofs.Naming.{child, entry_of, first_entry, first_there, later_cases, name_there, new_names-are, raise-length, raised, raised_cases, same_rest}
-use Rattle.store_steps.proofs.Lists.{one_part}
-use Rattle.store_steps.proofs.Naming.{child_later, later_child, later_raised}
-use Rattle.store_steps.proofs.ParentsStanding.{fits_same}
-use Rattle.store_steps.proofs.Regrouping.{at_end, at_other, rekept}
-use Rattle.store_steps.proofs.Storers.{stores_longer, stores_on}
+use Rattle.store_steps.proofs.Lists.{one_part, others_split}
+use Rattle.store_steps.proofs.ParentsStanding.{fits_same, fits_none}
+use Rattle.store_steps.proofs.Regrouping.{at_end, rekept}
+use Rattle.store_steps.proofs.Storers.{at_other, stores_on, longer}
 
--- nothing joined is nothing
-none_first : (xs ys : List Event) → xs ++ ys ≡ [] → (xs ≡ []) × (ys ≡ [])
-none_first [] ys h = (refl, h)
-none_first (x ∷ xs) ys h = cc
+-- what comes of an entry's next count, or of its next child, comes of it
+later_raised : (named : Named) (name : Name) → IsLater (raised named) name → IsLater named name
+later_raised named name k =
+    let number : named.splits + 1 + k.number ≡ named.splits + (k.number + 1) = omega arith in
+    record { number = k.number + 1; rest = k.rest; is = k.is ∙ ap (λ (n : ℕ). named.name ++ n ∷ k.rest) number }
+
+later_child : (named : Named) (name : Name) → IsLater (child named) name → IsLater named name
+later_child named name k =
+    let number : named.splits ≡ named.splits + 0 = omega arith in
+    record {
+      number = 0;
+      rest = (0 + k.number) ∷ k.rest;
+      is = k.is ∙ append_assoc named.name (named.splits ∷ []) ((0 + k.number) ∷ k.rest)
+          ∙ ap (λ (n : ℕ). named.name ++ n ∷ (0 + k.number) ∷ k.rest) number;
+    }
+
+child_later : (named : Named) → IsLater named (child named).name
+child_later named =
+    let number : named.splits ≡ named.splits + 0 = omega arith in
+    record { number = 0; rest = []; is = ap (λ (n : ℕ). named.name ++ n ∷ []) number }
 
 module _ (fixed : Fixed) (s : Table Unit (List SeatView)) (k : RuleHolds fixed s) (id : ℕ) (view : SeatView) (at : get_elem? s.views id ≡ some (view ∷ [])) where
   abbrev entry : Named
@@ -63,17 +78,8 @@ module _ (fixed : Fixed) (s : Table Unit (List SeatView)) (k : RuleHolds fixed s
 
   -- nobody has called by that name, neither in what was seen nor since
   both_none : AreOfOthers (names_of (split_second view)) view.seen × AreOfOthers (names_of (split_second view)) fits.continues.between
-  both_none =
-      let all : AreOfOthers ((child entry).name ∷ []) (view.seen ++ fits.continues.between) =
-      subst (λ (h : List Event). AreOfOthers ((child entry).name ∷ []) h) fits.continues.is no_call in
-      let parts = none_first (events_of ((child entry).name ∷ []) view.seen) (events_of ((child entry).name ∷ []) fits.continues.between)
-      (sym (filter-append (is_by ((child entry).name ∷ [])) view.seen fits.continues.between) ∙ all) in (
-        subst (λ (ns : List Name). AreOfOthers ns view.seen) (sym new_name) parts.0,
-        subst (λ (ns : List Name). AreOfOthers ns fits.continues.between) (sym new_name) parts.1,
-      )
-
-  seen_legal : IsLegal fixed view.seen
-  seen_legal = (legal-append fixed empty view.seen fits.continues.between (subst (λ (h : List Event). IsLegal fixed h) fits.continues.is k.legal)).0
+  both_none = subst (λ (ns : List Name). AreOfOthers ns view.seen × AreOfOthers ns fits.continues.between) (sym new_name)
+      (others_split ((child entry).name ∷ []) view.seen fits.continues.between (subst (λ (h : List Event). AreOfOthers ((child entry).name ∷ []) h) fits.continues.is no_call))
 
   both_ordered : AreInOrder (names_of (split_first view)) × AreInOrder (names_of (split_second view))
   both_ordered = split_keeps_order view (k.names.ordered id 0 view here)
@@ -83,7 +89,7 @@ module _ (fixed : Fixed) (s : Table Unit (List SeatView)) (k : RuleHolds fixed s
     first_is = refl;
     second_is = refl;
     no_calls = both_none.0;
-    no_claims = λ c. claims_from fixed empty view.seen (names_of (split_second view)) seen_legal both_none.0 c;
+    no_claims = λ c. claims_from fixed empty view.seen (names_of (split_second view)) (seen_legal fixed s k id view at) both_none.0 c;
   }
 
   -- the views afterwards
@@ -93,46 +99,11 @@ module _ (fixed : Fixed) (s : Table Unit (List SeatView)) (k : RuleHolds fixed s
   abbrev later : List (List SeatView)
   later = first_views ++ (split_second view ∷ []) ∷ []
 
-  data Found : ℕ → ℕ → SeatView → Type 0 where
-    is_first : (i j : ℕ) (v : SeatView) → i ≡ id → j ≡ 0 → v ≡ split_first view → Found i j v
-    is_second : (i j : ℕ) (v : SeatView) → i ≡ length first_views → j ≡ 0 → v ≡ split_second view → Found i j v
-    is_other : (i j : ℕ) (v : SeatView) → i ≢ id → HasView s.views i j v → Found i j v
-
-  found : (i j : ℕ) (v : SeatView) → HasView later i j v → Found i j v
-  found i j v h = elim (at_end first_views (split_second view ∷ []) h.parts i h.is_seat) [
-    | inl before ↦ elim (at_other s.views id (split_first view ∷ []) i j v (record { parts = h.parts; is_seat = before; is_part = h.is_part })) [
-      | inl mine ↦ let only = one_part (split_first view) v j mine.1 in is_first i j v mine.0 only.0 only.1
-      | inr other ↦ is_other i j v other.0 other.1
-    ]
-    | inr last ↦
-        let only = one_part (split_second view) v j (subst (λ (ps : List SeatView). get_elem? ps j ≡ some v) (sym last.1) h.is_part) in
-        is_second i j v last.0 only.0 only.1
-  ]
-
   -- an entry afterwards is the one that split, the new one, or another
   data Entry : Named → Type 0 where
     is_raised : (one : Named) → one ≡ raised entry → Entry one
     is_child : (one : Named) → one ≡ child entry → Entry one
     is_old : (one : Named) → IsNamed s.views one → (one.name ≡ entry.name → ⊥) → Entry one
-
-  entry_in : (one : Named) (i j : ℕ) (v : SeatView) → Found i j v → Contains v.names one → Entry one
-  entry_in one i j v (is_first _ _ _ p q is) among =
-      elim (raised_cases view.names (k.names.ordered id 0 view here) one (subst (λ (u : SeatView). Contains u.names one) is among)) [
-        | inl first ↦ is_raised one first
-        | inr rest ↦ is_old one (record { seat = id; part = 0; view = view; has = here; among = rest.0 }) rest.1
-      ]
-  entry_in one i j v (is_second _ _ _ p q is) among =
-      let there : Contains (child entry ∷ []) one =
-      subst (λ (ns : List Named). Contains ns one) (new_names-are view.names some_names) (subst (λ (u : SeatView). Contains u.names one) is among) in
-      elim (Contains-cons_cases [] (child entry) one there) [ inl first ↦ is_child one first | inr never ↦ absurd (omega (arith, never.1)) ]
-  entry_in one i j v (is_other _ _ _ differ h) among = is_old one (record { seat = i; part = j; view = v; has = h; among = among }) (λ same.
-      let theirs = k.names.owned i j v h one.name (name_there v.names one among) in
-      let ours = k.names.owned id 0 view here entry.name (name_there view.names entry (first_there view.names some_names)) in
-      let place : (p : ℕ × ℕ) × (p ≡ (i, j)) × (p ≡ (id, 0)) = (k.names.owner entry.name, ap (λ (n : Name). k.names.owner n) (sym same) ∙ theirs, ours) in
-      differ (ap (λ (p : ℕ × ℕ). p.0) (sym place.1 ∙ place.2)))
-
-  entry_of_later : (one : Named) → IsNamed later one → Entry one
-  entry_of_later one h = entry_in one h.seat h.part h.view (found h.seat h.part h.view h.has) h.among
 
   -- what comes of an entry came of one before
   pub record Older (one : Named) : Type 0 where
@@ -179,93 +150,92 @@ module _ (fixed : Fixed) (s : Table Unit (List SeatView)) (k : RuleHolds fixed s
   abbrev owner : Name → ℕ × ℕ
   owner name = if same_name name (child entry).name then (length first_views, 0) else k.names.owner name
 
-  owned_in : (i j : ℕ) (v : SeatView) → Found i j v → (name : Name) → has_name (names_of v) name ≡ true → owner name ≡ (i, j)
-  owned_in i j v (is_first _ _ _ p q is) name ours =
-      let mine : has_name (names_of view) name ≡ true =
-      subst (λ (ns : List Name). has_name ns name ≡ true) (split_keeps view) (subst (λ (u : SeatView). has_name (names_of u) name ≡ true) is ours) in
-      rw (not_new id 0 view here name mine) (k.names.owned id 0 view here name mine ∙ (λ x. (sym p x, sym q x)))
-  owned_in i j v (is_second _ _ _ p q is) name ours =
-      let new : has_name ((child entry).name ∷ []) name ≡ true =
-      subst (λ (ns : List Name). has_name ns name ≡ true) new_name (subst (λ (u : SeatView). has_name (names_of u) name ≡ true) is ours) in
-      let same : name ≡ (child entry).name = single (child entry).name name new in
-      let test : same_name name (child entry).name ≡ true = subst (λ (n : Name). same_name name n ≡ true) same (same_name-refl name) in
-      rw test (λ x. (sym p x, sym q x))
-  owned_in i j v (is_other _ _ _ differ h) name ours = rw (not_new i j v h name ours) (k.names.owned i j v h name ours)
+  abbrev Now : ℕ → ℕ → SeatView → Type 0
+  Now = Fits fixed k.history s.words owner k.parents.storer Entry
 
-  named_in : (i j : ℕ) (v : SeatView) → Found i j v → 0 < length v.names
-  named_in i j v (is_first _ _ _ p q is) =
-      subst (λ (u : SeatView). 0 < length u.names) (sym is) (omega (arith, some_names, raise-length view.names))
-  named_in i j v (is_second _ _ _ p q is) =
-      subst (λ (u : SeatView). 0 < length u.names) (sym is) (subst (λ (ns : List Named). 0 < length ns) (sym (new_names-are view.names some_names)) (omega arith))
-  named_in i j v (is_other _ _ _ differ h) = k.names.named i j v h
-
-  ordered_in : (i j : ℕ) (v : SeatView) → Found i j v → AreInOrder (names_of v)
-  ordered_in i j v (is_first _ _ _ p q is) = subst (λ (u : SeatView). AreInOrder (names_of u)) (sym is) both_ordered.0
-  ordered_in i j v (is_second _ _ _ p q is) = subst (λ (u : SeatView). AreInOrder (names_of u)) (sym is) both_ordered.1
-  ordered_in i j v (is_other _ _ _ differ h) = k.names.ordered i j v h
-
-  first_fits : ViewFits fixed k.history s.words (split_first view)
-  first_fits = record {
-    fixed_is = fits.fixed_is;
-    continues = record {
-      between = fits.continues.between;
-      is = fits.continues.is;
-      others = subst (λ (ns : List Name). AreOfOthers ns fits.continues.between) (sym (split_keeps view)) fits.continues.others;
+  first_now : Now id 0 (split_first view)
+  first_now = record {
+    fits = record {
+      fixed_is = fits.fixed_is;
+      continues = record {
+        between = fits.continues.between;
+        is = fits.continues.is;
+        others = subst (λ (ns : List Name). AreOfOthers ns fits.continues.between) (sym (split_keeps view)) fits.continues.others;
+      };
+      written = λ number value is.
+          subst (λ (ns : List Name). (claims ns (state_after k.history) (number / 129) ≡ true) × (cell_at fixed s.words number ≡ value)) (sym (split_keeps view))
+          (fits.written number value is);
     };
-    written = λ number value is.
-        subst (λ (ns : List Name). (claims ns (state_after k.history) (number / 129) ≡ true) × (cell_at fixed s.words number ≡ value)) (sym (split_keeps view))
-        (fits.written number value is);
+    owned = λ name ours.
+        let mine : has_name (names_of view) name ≡ true = subst (λ (ns : List Name). has_name ns name ≡ true) (split_keeps view) ours in
+        rw (not_new id 0 view here name mine) (k.names.owned id 0 view here name mine);
+    named = omega (arith, some_names, raise-length view.names);
+    ordered = both_ordered.0;
+    entries = λ one among. elim (raised_cases view.names (k.names.ordered id 0 view here) one among) [
+      | inl first ↦ is_raised one first
+      | inr rest ↦ is_old one (record { seat = id; part = 0; view = view; has = here; among = rest.0 }) rest.1
+    ];
+    parents = fits_same fixed s.words k.parents.storer id 0 view (split_first view) refl refl (k.parents.fit id 0 view here);
   }
 
-  second_fits : ViewFits fixed k.history s.words (split_second view)
-  second_fits = record {
-    fixed_is = fits.fixed_is;
-    continues = record { between = fits.continues.between; is = fits.continues.is; others = both_none.1 };
-    written = λ number value is. cc;
+  second_now : Now (length first_views) 0 (split_second view)
+  second_now = record {
+    fits = record {
+      fixed_is = fits.fixed_is;
+      continues = record { between = fits.continues.between; is = fits.continues.is; others = both_none.1 };
+      written = λ number value is. cc;
+    };
+    owned = λ name ours.
+        let same : name ≡ (child entry).name = single (child entry).name name (subst (λ (ns : List Name). has_name ns name ≡ true) new_name ours) in
+        let test : same_name name (child entry).name ≡ true = subst (λ (n : Name). same_name name n ≡ true) same (same_name-refl name) in
+        rw test refl;
+    named = subst (λ (ns : List Named). 0 < length ns) (sym (new_names-are view.names some_names)) (omega arith);
+    ordered = both_ordered.1;
+    entries = λ one among.
+        let there : Contains (child entry ∷ []) one = subst (λ (ns : List Named). Contains ns one) (new_names-are view.names some_names) among in
+        elim (Contains-cons_cases [] (child entry) one there) [ inl first ↦ is_child one first | inr never ↦ absurd (omega (arith, never.1)) ];
+    parents = fits_none fixed s.words k.parents.storer (length first_views) 0 (split_second view) refl refl;
   }
 
-  fits_in : (i j : ℕ) (v : SeatView) → Found i j v → ViewFits fixed k.history s.words v
-  fits_in i j v (is_first _ _ _ p q is) = subst (λ (u : SeatView). ViewFits fixed k.history s.words u) (sym is) first_fits
-  fits_in i j v (is_second _ _ _ p q is) = subst (λ (u : SeatView). ViewFits fixed k.history s.words u) (sym is) second_fits
-  fits_in i j v (is_other _ _ _ differ h) = k.views i j v h
+  other_now : (i j : ℕ) (v : SeatView) → i ≢ id → HasView s.views i j v → Now i j v
+  other_now i j v differ h = record {
+    fits = k.views i j v h;
+    owned = λ name ours. rw (not_new i j v h name ours) (k.names.owned i j v h name ours);
+    named = k.names.named i j v h;
+    ordered = k.names.ordered i j v h;
+    entries = λ one among. is_old one (record { seat = i; part = j; view = v; has = h; among = among }) (λ same.
+        let theirs = k.names.owned i j v h one.name (name_there v.names one among) in
+        let ours = k.names.owned id 0 view here entry.name (name_there view.names entry (first_there view.names some_names)) in
+        let place : (p : ℕ × ℕ) × (p ≡ (i, j)) × (p ≡ (id, 0)) = (k.names.owner entry.name, ap (λ (n : Name). k.names.owner n) (sym same) ∙ theirs, ours) in
+        differ (ap (λ (p : ℕ × ℕ). p.0) (sym place.1 ∙ place.2)));
+    parents = k.parents.fit i j v h;
+  }
 
-  parents_in : (i j : ℕ) (v : SeatView) → Found i j v → FitsParents fixed s.words k.parents.storer i j v
-  parents_in i j v (is_first _ _ _ p q is) =
-      placed (FitsParents fixed s.words k.parents.storer) i j id 0 v (split_first view) p q is
-      (fits_same fixed s.words k.parents.storer id 0 view (split_first view) refl refl (k.parents.fit id 0 view here))
-  parents_in i j v (is_second _ _ _ p q is) =
-      subst (λ (u : SeatView). FitsParents fixed s.words k.parents.storer i j u) (sym is) (record {
-        low = λ m is. let never : false ≡ true = is in cc;
-        owned = λ m is. let never : false ≡ true = is in cc;
-        written = λ number value w. cc;
-      })
-  parents_in i j v (is_other _ _ _ differ h) = k.parents.fit i j v h
+  now : (i j : ℕ) (v : SeatView) → HasView later i j v → Now i j v
+  now i j v h = elim (at_end first_views (split_second view ∷ []) h.parts i h.is_seat) [
+    | inl before ↦ elim (at_other s.views id (split_first view ∷ []) i j v (record { parts = h.parts; is_seat = before; is_part = h.is_part })) [
+      | inl mine ↦ let only = one_part (split_first view) v j mine.1 in placed Now i j id 0 v (split_first view) mine.0 only.0 only.1 first_now
+      | inr other ↦ other_now i j v other.0 other.1
+    ]
+    | inr last ↦
+        let only = one_part (split_second view) v j (subst (λ (ps : List SeatView). get_elem? ps j ≡ some v) (sym last.1) h.is_part) in
+        placed Now i j (length first_views) 0 v (split_second view) last.0 only.0 only.1 second_now
+  ]
 
   pub parted_kept : RuleHolds fixed (record { words = s.words; homes = s.homes; views = set s.views id (split_first view ∷ []) ++ (split_second view ∷ []) ∷ [] })
-  parted_kept = rekept fixed s (record { words = s.words; homes = s.homes; views = later }) refl k (λ i j v h. fits_in i j v (found i j v h)) (record {
-    owner = owner;
-    owned = λ i j v h. owned_in i j v (found i j v h);
-    named = λ i j v h. named_in i j v (found i j v h);
-    ordered = λ i j v h. ordered_in i j v (found i j v h);
-    new_to_views = λ one other a b. never_later one other (entry_of_later one a) (entry_of_later other b);
-    new_to_calls = λ one is name l.
-        let o = older one (entry_of_later one is) in k.names.new_to_calls o.old o.is name (o.later_too name l);
-    callers = k.names.callers;
-  }) (record {
-    storer = k.parents.storer;
-    stand = k.parents.stand;
-    fit = λ i j v h. parents_in i j v (found i j v h);
-    by = λ m i j is.
-        stores_longer first_views ((split_second view ∷ []) ∷ []) i j m (stores_on s.views id view (split_first view) at m (λ h. h) i j (k.parents.by m i j is));
-  })
+  parted_kept = rekept fixed s k (record { words = s.words; homes = s.homes; views = later }) refl owner k.parents.storer Entry now never_later
+      (λ one is name l. let o = older one is in k.names.new_to_calls o.old o.is name (o.later_too name l)) k.parents.stand
+      (λ m i j is.
+      let on = stores_on s.views id view (split_first view) at m (λ h. h) i j (k.parents.by m i j is) in
+      record { view = on.view; has = longer first_views ((split_second view ∷ []) ∷ []) i j on.view on.has; storing = on.storing })
 
   -- the load before it
   pub part_steps : Steps fixed s id 0 (slice_index s.words 0) (λ new. PartsInTwo view new)
   part_steps = record { new = view; kept = still_step fixed s k id view at 0; told = record { same = refl; parts = parts_told } }
 
 -- that is what the table asks where a seat's only view parts
-pub part_asks : (fixed key : Fixed) → key ≡ fixed → (id : ℕ) (views : List SeatView) → views ≡ first_of views ∷ []
-    → Splits (RuleHolds key) id views (split_first (first_of views) ∷ []) (split_second (first_of views) ∷ [])
-part_asks fixed key key_is id views one =
-    subst (λ (f : Fixed). Splits (RuleHolds f) id views (split_first (first_of views) ∷ []) (split_second (first_of views) ∷ [])) (sym key_is)
-    (λ s k at. parted_kept fixed s k id (first_of views) (at ∙ ap (λ (vs : List SeatView). some vs) one))
+pub part_asks : (words : Words) (id : ℕ) (views : List SeatView) → views ≡ first_of views ∷ []
+    → Splits (RuleHolds words.table.shared.key) id views (split_first (first_of views) ∷ []) (split_second (first_of views) ∷ [])
+part_asks words id views one =
+    subst (λ (f : Fixed). Splits (RuleHolds f) id views (split_first (first_of views) ∷ []) (split_second (first_of views) ∷ [])) (sym words.key_is)
+    (λ s k at. parted_kept words.fixed s k id (first_of views) (at ∙ ap (λ (vs : List SeatView). some vs) one))

@@ -1,4 +1,5 @@
 -- One or on a held word, once all words are stored: of chunks, and of parents.
+use Rattle.std.proofs.lemmas.Bool.Decides.{nat_tests}
 use Rattle.std.proofs.Common.{◌≡◌, ℕ, ◌+◌, ◌*◌, ◌<◌, Bool, true, ◌&&◌, ◌||◌, if◌then◌else◌, List, [], ◌∷◌, Option, None, Some, slice_index, set, refl, sym, ap, ◌∙◌, arith, inl, inr, ◌≢◌, false, ◌++◌, is_some}
 use Rattle.std.specs.Int.Bits.{bit_or}
 use Rattle.std.proofs.lemmas.Bool.{and_parts, cases_Bool, false≢true}
@@ -34,7 +35,7 @@ use Rattle.store_core.proofs.Lasting.{record_lasts}
 use Rattle.store_core.specs.Knowledge.{event_of}
 use Rattle.store_steps.proofs.Keeping.{its, parents_then}
 use Rattle.store_steps.proofs.ParentsAside.{parents_step}
-use Rattle.store_steps.proofs.ParentsStanding.{same_seat}
+use Rattle.store_steps.proofs.ParentsStanding.{fits_none}
 use Rattle.store_steps.proofs.Storers.{stores_on}
 
 module _ (fixed : Fixed) (s : Table Unit (List SeatView)) (k : RuleHolds fixed s) (id : ℕ) (view : SeatView) (seat : get_elem? s.views id ≡ some (view ∷ []))
@@ -150,18 +151,8 @@ module _ (fixed : Fixed) (s : Table Unit (List SeatView)) (k : RuleHolds fixed s
     ];
   }
 
-  its_fit : FitsParents fixed later storer_then id 0 new
-  its_fit = record {
-    low = λ m is. let never : false ≡ true = is in cc;
-    owned = λ m is. let never : false ≡ true = is in cc;
-    written = λ number value is. cc;
-  }
-
   owned_then : (m i j : ℕ) → i ≢ id → k.parents.storer m ≡ Some (i, j) → storer_then m ≡ Some (i, j)
-  owned_then m i j other is = elim (cases_Bool (in_mask group mask m)) [
-    | inl hit ↦ absurd (other (same_seat i j id 0 (sym is ∙ owner m hit)))
-    | inr miss ↦ rw miss is
-  ]
+  owned_then m i j other is = let was = owner m in grind (arith, nat_tests)
 
   by_then : (m i j : ℕ) → storer_then m ≡ Some (i, j) → StoresAt (set s.views id (new ∷ [])) i j m
   by_then m i j is = elim (cases_Bool (in_mask group mask m)) [
@@ -174,5 +165,6 @@ module _ (fixed : Fixed) (s : Table Unit (List SeatView)) (k : RuleHolds fixed s
   pub publish_parents_steps : Steps fixed s id place (bit_or found_word mask) (λ new. PublishesParents group piece mask view new)
   publish_parents_steps =
       let t = parents_step fixed s k id view seat place (bit_or found_word mask) (omega arith) group piece (Stored mask) right
-      (parents_then fixed s k id view new seat refl later parents_by storer_then stand its_fit owned_then (λ number i j other is. cells_left number) by_then) in
+      (parents_then fixed s k id view new seat refl later parents_by storer_then stand (fits_none fixed later storer_then id 0 new refl refl) owned_then
+      (λ number i j other is. cells_left number) by_then) in
       record { new = t.new; kept = t.kept; told = record { called = t.told.0; written_are = t.told.1 } }

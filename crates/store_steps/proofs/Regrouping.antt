@@ -1,34 +1,72 @@
 -- Views that move from seat to seat: the words, the history and each view are as they were.
-use Rattle.std.proofs.Common.{◌≡◌, ◌≢◌, ◌⊎◌, ℕ, zero, suc, ◌==◌, if◌then◌else◌, Bool, ◌||◌, Option, None, Some, is_some, List, [], ◌∷◌, ◌++◌, length, set, refl, sym, ap, subst, ◌∙◌, inl, inr, ne_eqb, eq-eqb, arith}
+use Rattle.std.proofs.Common.{◌≡◌, ◌≢◌, ◌⊎◌, ℕ, zero, suc, ◌==◌, if◌then◌else◌, Bool, ◌||◌, Option, Some, is_some, List, [], ◌∷◌, ◌++◌, length, set, refl, sym, ap, subst, ◌∙◌, inl, inr, ne_eqb, eq-eqb, arith}
 use Rattle.std.specs.Option.{option_map}
 use Rattle.std.proofs.lemmas.Bool.{cases_eq}
 use mathlib.Core.Option.{some, some-injective, some-ne-none}
 use lib.ListN.{get_elem?}
 use Rattle.atomic_table.specs.Table.{State as Table}
-use Rattle.atomic_table.proofs.Lists.{at_last, at_set, set_else}
+use Rattle.atomic_table.proofs.Lists.{at_last, set_else}
 use Rattle.store_core.specs.declared.fixed.Fixed.{Fixed}
 use Rattle.store_core.specs.declared.view.Named.{Named}
 use Rattle.store_core.specs.declared.view.SeatView.{SeatView}
-use Rattle.store_core.specs.Histories.{state_after}
-use Rattle.store_steps.specs.Rule.{AreApart, AreParentsKept, ViewFits, HasView, RuleHolds, IsNamed, StandFor, StandForParents, StoresAt}
+use Rattle.store_core.specs.Histories.{AreOfOthers, state_after}
+use Rattle.store_core.specs.Names.{Name}
+use Rattle.store_steps.specs.Rule.{FitsParents, HasView, RuleHolds, IsLater, IsNamed, StandForParents, StoresAt}
 use Rattle.atomic_table.specs.Table.{Enters, Joins, Splits}
+use Rattle.store_steps.specs.declared.words.Words.{Words}
 use Rattle.store_steps.specs.Grips.{first_of}
 use Rattle.store_steps.specs.Plays.{later_views}
-use Rattle.store_steps.proofs.Lists.{one_part}
-use Rattle.store_steps.proofs.Storers.{gets, had, longer, moved_from, stays}
+use Rattle.store_steps.proofs.Keeping.{Fits, rule_by, placed}
+use Rattle.store_steps.proofs.Lists.{one_part, is_some-map}
+use Rattle.store_steps.proofs.Storers.{at_other, gets, had, longer, moved_from, stays}
 
--- the rule of another table with the same words, whose views fit and whose names are apart
-pub rekept : (fixed : Fixed) (s t : Table Unit (List SeatView)) → t.words ≡ s.words → (k : RuleHolds fixed s)
-    → ((seat part : ℕ) (view : SeatView) → HasView t.views seat part view → ViewFits fixed k.history s.words view)
-    → AreApart t.views k.history → AreParentsKept fixed s.words t.views (state_after k.history).parents → RuleHolds fixed t
-rekept fixed s t same k fits names parents = record {
-  history = k.history;
-  legal = k.legal;
-  words = subst (λ (words : List ℕ). StandFor fixed words (state_after k.history)) (sym same) k.words;
-  views = λ seat part view h. subst (λ (words : List ℕ). ViewFits fixed k.history words view) (sym same) (fits seat part view h);
-  names = names;
-  parents = subst (λ (words : List ℕ). AreParentsKept fixed words t.views (state_after k.history).parents) (sym same) parents;
+stand_moved : (fixed : Fixed) (words : List ℕ) (parents : ℕ → Option (List ℕ)) (storer : ℕ → Option (ℕ × ℕ)) (to : ℕ × ℕ → ℕ × ℕ)
+    → StandForParents fixed words parents storer → StandForParents fixed words parents (λ m. option_map to (storer m))
+stand_moved fixed words parents storer to h = record {
+  held = h.held;
+  claimed = λ m below. h.claimed m below ∙ ap (λ (b : Bool). is_some (parents m) || b) (sym (is_some-map to (storer m)));
+  cells = h.cells;
+  apart = λ m is. h.apart m (sym (is_some-map to (storer m)) ∙ is);
 }
+
+module _ (fixed : Fixed) (s : Table Unit (List SeatView)) (k : RuleHolds fixed s) where
+  -- what the rule asks of a view of another table with the same words, of whose names and parents owners and storers moved
+  abbrev pub FitsTo : (ℕ × ℕ → ℕ × ℕ) → ℕ → ℕ → SeatView → Type 0
+  FitsTo to = Fits fixed k.history s.words (λ name. to (k.names.owner name)) (λ m. option_map to (k.parents.storer m)) (IsNamed s.views)
+
+  pub fits_to : (to : ℕ × ℕ → ℕ × ℕ) (a b i j : ℕ) (view : SeatView) → to (a, b) ≡ (i, j) → HasView s.views a b view → FitsTo to i j view
+  fits_to to a b i j view is h =
+      let f : FitsParents fixed s.words k.parents.storer a b view = k.parents.fit a b view h in
+      record {
+        fits = k.views a b view h;
+        owned = λ name ours. ap to (k.names.owned a b view h name ours) ∙ is;
+        named = k.names.named a b view h;
+        ordered = k.names.ordered a b view h;
+        entries = λ named among. record { seat = a; part = b; view = view; has = h; among = among };
+        parents = record {
+          low = f.low;
+          owned = λ m stores. ap (λ (o : Option (ℕ × ℕ)). option_map to o) (f.owned m stores) ∙ ap (λ (p : ℕ × ℕ). Some p) is;
+          written = f.written;
+        };
+      }
+
+  -- the rule of that table
+  pub rekept : (t : Table Unit (List SeatView)) → t.words ≡ s.words → (owner : Name → ℕ × ℕ) (storer : ℕ → Option (ℕ × ℕ)) (Entry : Named → Type 0)
+      → ((i j : ℕ) (v : SeatView) → HasView t.views i j v → Fits fixed k.history s.words owner storer Entry i j v)
+      → ((one other : Named) → Entry one → Entry other → IsLater one other.name → ⊥)
+      → ((named : Named) → Entry named → (name : Name) → IsLater named name → AreOfOthers (name ∷ []) k.history)
+      → StandForParents fixed s.words (state_after k.history).parents storer → ((m i j : ℕ) → storer m ≡ Some (i, j) → StoresAt t.views i j m) → RuleHolds fixed t
+  rekept t same owner storer Entry each new_to_views new_to_calls stand by =
+      subst (λ (words : List ℕ). RuleHolds fixed (record { words = words; homes = t.homes; views = t.views })) (sym same)
+      (rule_by fixed (record { words = s.words; homes = t.homes; views = t.views }) k.history k.legal k.words k.names.callers owner storer Entry each new_to_views new_to_calls stand by)
+
+  -- where owners and storers moved
+  pub rekept_to : (t : Table Unit (List SeatView)) → t.words ≡ s.words → (to : ℕ × ℕ → ℕ × ℕ) → ((i j : ℕ) (v : SeatView) → HasView t.views i j v → FitsTo to i j v)
+      → ((m : ℕ) (p : ℕ × ℕ) → StoresAt s.views p.0 p.1 m → StoresAt t.views (to p).0 (to p).1 m) → RuleHolds fixed t
+  rekept_to t same to each goes = rekept t same (λ name. to (k.names.owner name)) (λ m. option_map to (k.parents.storer m)) (IsNamed s.views) each k.names.new_to_views k.names.new_to_calls
+      (stand_moved fixed s.words (state_after k.history).parents k.parents.storer to k.parents.stand) (λ m i j is.
+      let from = moved_from (k.parents.storer m) to (i, j) is in
+      subst (λ (q : ℕ × ℕ). StoresAt t.views q.0 q.1 m) from.2 (goes m from.0 (k.parents.by m from.0.0 from.0.1 from.1)))
 
 -- a view that stood at a place, and where it stands now
 pub record Moved (views : List (List SeatView)) (to : ℕ × ℕ → ℕ × ℕ) (seat part : ℕ) (view : SeatView) : Type 0 where
@@ -36,26 +74,6 @@ pub record Moved (views : List (List SeatView)) (to : ℕ × ℕ → ℕ × ℕ)
   pub old_part : ℕ
   pub has : HasView views old_seat old_part view
   pub is : to (old_seat, old_part) ≡ (seat, part)
-
-moved_named : (views later : List (List SeatView)) (to : ℕ × ℕ → ℕ × ℕ)
-    → ((seat part : ℕ) (view : SeatView) → HasView later seat part view → Moved views to seat part view)
-    → (named : Named) → IsNamed later named → IsNamed views named
-moved_named views later to moved named k =
-    let m = moved k.seat k.part k.view k.has in
-    record { seat = m.old_seat; part = m.old_part; view = k.view; has = m.has; among = k.among }
-
-option_same : (storer : Option (ℕ × ℕ)) (to : ℕ × ℕ → ℕ × ℕ) → is_some (option_map to storer) ≡ is_some storer
-option_same None to = refl
-option_same (Some place) to = refl
-
-pub stand_moved : (fixed : Fixed) (words : List ℕ) (parents : ℕ → Option (List ℕ)) (storer : ℕ → Option (ℕ × ℕ)) (to : ℕ × ℕ → ℕ × ℕ)
-    → StandForParents fixed words parents storer → StandForParents fixed words parents (λ m. option_map to (storer m))
-stand_moved fixed words parents storer to h = record {
-  held = h.held;
-  claimed = λ m below. h.claimed m below ∙ ap (λ (b : Bool). is_some (parents m) || b) (sym (option_same (storer m) to));
-  cells = h.cells;
-  apart = λ m is. h.apart m (sym (option_same (storer m) to) ∙ is);
-}
 
 -- each view stands where its place goes
 abbrev pub Goes : List (List SeatView) → List (List SeatView) → (ℕ × ℕ → ℕ × ℕ) → Type 0
@@ -66,43 +84,10 @@ pub record Regroups (views later : List (List SeatView)) (to : ℕ × ℕ → �
   pub moved : (seat part : ℕ) (view : SeatView) → HasView later seat part view → Moved views to seat part view
   pub goes : Goes views later to
 
--- parents that are being stored are so by the views where these stand now
-pub parents_moved : (fixed : Fixed) (words : List ℕ) (views later : List (List SeatView)) (parents : ℕ → Option (List ℕ)) → AreParentsKept fixed words views parents → (to : ℕ × ℕ → ℕ × ℕ)
-    → ((seat part : ℕ) (view : SeatView) → HasView later seat part view → Moved views to seat part view) → Goes views later to → AreParentsKept fixed words later parents
-parents_moved fixed words views later parents k to moved goes = record {
-  storer = λ m. option_map to (k.storer m);
-  stand = stand_moved fixed words parents k.storer to k.stand;
-  fit = λ seat part view h.
-      let w = moved seat part view h in
-      let f = k.fit w.old_seat w.old_part view w.has in
-      record {
-        low = f.low;
-        owned = λ m is. ap (λ (o : Option (ℕ × ℕ)). option_map to o) (f.owned m is) ∙ ap (λ (p : ℕ × ℕ). Some p) w.is;
-        written = f.written;
-      };
-  by = λ m i j is.
-      let from = moved_from (k.storer m) to (i, j) is in
-      let at_old : StoresAt views from.0.0 from.0.1 m = k.by m from.0.0 from.0.1 from.1 in
-      subst (λ (q : ℕ × ℕ). StoresAt later q.0 q.1 m) from.2
-      (record { view = at_old.view; has = goes from.0.0 from.0.1 at_old.view at_old.has; storing = at_old.storing });
-}
-
-pub regroup : (fixed : Fixed) (s t : Table Unit (List SeatView)) → t.words ≡ s.words → RuleHolds fixed s → (to : ℕ × ℕ → ℕ × ℕ)
-    → ((seat part : ℕ) (view : SeatView) → HasView t.views seat part view → Moved s.views to seat part view) → Goes s.views t.views to → RuleHolds fixed t
-regroup fixed s t same k to moved goes = rekept fixed s t same k
-    (λ seat part view h. let m = moved seat part view h in k.views m.old_seat m.old_part view m.has)
-    (record {
-      owner = λ name. to (k.names.owner name);
-      owned = λ seat part view h name ours.
-          let m = moved seat part view h in
-          ap (λ (p : ℕ × ℕ). to p) (k.names.owned m.old_seat m.old_part view m.has name ours) ∙ m.is;
-      named = λ seat part view h. let m = moved seat part view h in k.names.named m.old_seat m.old_part view m.has;
-      ordered = λ seat part view h. let m = moved seat part view h in k.names.ordered m.old_seat m.old_part view m.has;
-      new_to_views = λ one other a b. k.names.new_to_views one other (moved_named s.views t.views to moved one a) (moved_named s.views t.views to moved other b);
-      new_to_calls = λ named is. k.names.new_to_calls named (moved_named s.views t.views to moved named is);
-      callers = k.names.callers;
-    })
-    (parents_moved fixed s.words s.views t.views (state_after k.history).parents k.parents to moved goes)
+pub regroup : (fixed : Fixed) (s t : Table Unit (List SeatView)) → t.words ≡ s.words → RuleHolds fixed s → (to : ℕ × ℕ → ℕ × ℕ) → Regroups s.views t.views to → RuleHolds fixed t
+regroup fixed s t same k to r = rekept_to fixed s k t same to
+    (λ i j v h. let m = r.moved i j v h in fits_to fixed s k to m.old_seat m.old_part i j v m.is m.has)
+    (λ m p old. record { view = old.view; has = r.goes p.0 p.1 old.view old.has; storing = old.storing })
 
 -- places of a list with one more at its end
 pub at_end : {A : Type 0} (xs : List A) (x y : A) (i : ℕ) → get_elem? (xs ++ x ∷ []) i ≡ some y → (get_elem? xs i ≡ some y) ⊎ ((i ≡ length xs) × (x ≡ y))
@@ -125,15 +110,6 @@ two_parts one two view zero h = inl (refl, sym (some-injective one view h))
 two_parts one two view (suc zero) h = inr (refl, sym (some-injective two view h))
 two_parts one two view (suc (suc part)) h = absurd (some-ne-none view (sym h))
 
-module _ (views : List (List SeatView)) (id : ℕ) where
-  -- the views of a table where one seat has others
-  pub at_other : (parts : List SeatView) (i j : ℕ) (v : SeatView) → HasView (set views id parts) i j v
-      → ((i ≡ id) × (get_elem? parts j ≡ some v)) ⊎ ((i ≢ id) × HasView views i j v)
-  at_other parts i j v h = elim (at_set views id i parts h.parts h.is_seat) [
-    | inl here ↦ inl (here.0, subst (λ (ps : List SeatView). get_elem? ps j ≡ some v) (sym here.1) h.is_part)
-    | inr other ↦ inr (other.0, record { parts = h.parts; is_seat = other.1; is_part = h.is_part })
-  ]
-
 -- a place is another where the seats are
 pub other_place : (i id : ℕ) (place other : ℕ × ℕ) → i ≢ id → (if i == id then place else other) ≡ other
 other_place i id place other differ = rw (ne_eqb i id differ) refl
@@ -150,25 +126,19 @@ pub joined_regroups : (views : List (List SeatView)) (id other : ℕ) (one two :
     → Regroups views (set (set views id (one ∷ two ∷ [])) other []) (join_to id other)
 joined_regroups views id other one two at differ two_seat =
     let both : List (List SeatView) = set views id (one ∷ two ∷ []) in
+    let one_there : HasView views id 0 one = record { parts = one ∷ []; is_seat = at; is_part = refl } in
     let two_there : HasView views other 0 two = record { parts = two ∷ []; is_seat = two_seat; is_part = refl } in
+    let Old : ℕ → ℕ → SeatView → Type 0 = Moved views (join_to id other) in
     record {
       moved = (λ i j v h.
           elim (at_other both other [] i j v h) [
             | inl spent ↦ absurd (no_part v j spent.1)
             | inr away ↦ elim (at_other views id (one ∷ two ∷ []) i j v away.1) [
               | inl here ↦ elim (two_parts one two v j here.1) [
-                | inl first ↦ record {
-                  old_seat = id;
-                  old_part = 0;
-                  has = subst (λ (u : SeatView). HasView views id 0 u) (sym first.1) (record { parts = one ∷ []; is_seat = at; is_part = refl });
-                  is = other_place id other (id, 1) (id, 0) (λ e. differ (sym e)) ∙ (λ x. (sym here.0 x, sym first.0 x));
-                }
-                | inr second ↦ record {
-                  old_seat = other;
-                  old_part = 0;
-                  has = subst (λ (u : SeatView). HasView views other 0 u) (sym second.1) two_there;
-                  is = same_place other other (id, 1) (other, 0) refl ∙ (λ x. (sym here.0 x, sym second.0 x));
-                }
+                | inl first ↦ placed Old i j id 0 v one here.0 first.0 first.1
+                    (record { old_seat = id; old_part = 0; has = one_there; is = other_place id other (id, 1) (id, 0) (λ e. differ (sym e)) })
+                | inr second ↦ placed Old i j id 1 v two here.0 second.0 second.1
+                    (record { old_seat = other; old_part = 0; has = two_there; is = same_place other other (id, 1) (other, 0) refl })
               ]
               | inr there ↦ record { old_seat = i; old_part = j; has = there.1; is = other_place i other (id, 1) (i, j) away.0 }
             ]
@@ -194,8 +164,8 @@ pub joined_kept : (fixed : Fixed) (s : Table Unit (List SeatView)) → RuleHolds
     → get_elem? s.views id ≡ some (one ∷ []) → other ≢ id → get_elem? (set s.views id (one ∷ two ∷ [])) other ≡ some (two ∷ [])
     → RuleHolds fixed (record { words = s.words; homes = s.homes; views = set (set s.views id (one ∷ two ∷ [])) other [] })
 joined_kept fixed s k id other one two at differ at_two =
-    let r = joined_regroups s.views id other one two at differ (sym (set_else s.views id other (one ∷ two ∷ []) differ) ∙ at_two) in
-    regroup fixed s (record { words = s.words; homes = s.homes; views = set (set s.views id (one ∷ two ∷ [])) other [] }) refl k (join_to id other) r.moved r.goes
+    regroup fixed s (record { words = s.words; homes = s.homes; views = set (set s.views id (one ∷ two ∷ [])) other [] }) refl k (join_to id other)
+    (joined_regroups s.views id other one two at differ (sym (set_else s.views id other (one ∷ two ∷ []) differ) ∙ at_two))
 
 -- A new seat with no view comes in.
 pub entered_regroups : (views : List (List SeatView)) → Regroups views (views ++ [] ∷ []) (λ p. p)
@@ -209,9 +179,7 @@ entered_regroups views = record {
 
 pub entered_kept : (fixed : Fixed) (s : Table Unit (List SeatView)) → RuleHolds fixed s
     → RuleHolds fixed (record { words = s.words; homes = s.homes; views = s.views ++ [] ∷ [] })
-entered_kept fixed s k =
-    let r = entered_regroups s.views in
-    regroup fixed s (record { words = s.words; homes = s.homes; views = s.views ++ [] ∷ [] }) refl k (λ p. p) r.moved r.goes
+entered_kept fixed s k = regroup fixed s (record { words = s.words; homes = s.homes; views = s.views ++ [] ∷ [] }) refl k (λ p. p) (entered_regroups s.views)
 
 -- A seat with two views leaves the second to a new one.
 abbrev pub leave_to : ℕ → ℕ → ℕ × ℕ → ℕ × ℕ
@@ -222,6 +190,7 @@ pub left_regroups : (views : List (List SeatView)) (id : ℕ) (one two : SeatVie
 left_regroups views id one two at =
     let first : List (List SeatView) = set views id (one ∷ []) in
     let to : ℕ × ℕ → ℕ × ℕ = leave_to id (length first) in
+    let Old : ℕ → ℕ → SeatView → Type 0 = Moved views to in
     let seat : (j : ℕ) (v : SeatView) → get_elem? (one ∷ two ∷ []) j ≡ some v → HasView views id j v =
     λ j v h. record { parts = one ∷ two ∷ []; is_seat = at; is_part = h } in
     record {
@@ -230,22 +199,13 @@ left_regroups views id one two at =
             | inl there ↦ elim (at_other views id (one ∷ []) i j v (record { parts = h.parts; is_seat = there; is_part = h.is_part })) [
               | inl here ↦
                   let only = one_part one v j here.1 in
-                  record {
-                    old_seat = id;
-                    old_part = 0;
-                    has = subst (λ (u : SeatView). HasView views id 0 u) (sym only.1) (seat 0 one refl);
-                    is = same_place id id (id, 0) (id, 0) refl ∙ (λ x. (sym here.0 x, sym only.0 x));
-                  }
+                  placed Old i j id 0 v one here.0 only.0 only.1 (record { old_seat = id; old_part = 0; has = seat 0 one refl; is = same_place id id (id, 0) (id, 0) refl })
               | inr other ↦ record { old_seat = i; old_part = j; has = other.1; is = other_place i id (if j == 0 then (i, j) else (length first, 0)) (i, j) other.0 }
             ]
             | inr last ↦
                 let only = one_part two v j (subst (λ (ps : List SeatView). get_elem? ps j ≡ some v) (sym last.1) h.is_part) in
-                record {
-                  old_seat = id;
-                  old_part = 1;
-                  has = subst (λ (u : SeatView). HasView views id 1 u) (sym only.1) (seat 1 two refl);
-                  is = same_place id id (length first, 0) (id, 1) refl ∙ (λ x. (sym last.0 x, sym only.0 x));
-                }
+                placed Old i j (length first) 0 v two last.0 only.0 only.1
+                (record { old_seat = id; old_part = 1; has = seat 1 two refl; is = same_place id id (length first, 0) (id, 1) refl })
           ]);
       goes = (λ i j v h. elim (cases_eq i id) [
         | inl here ↦
@@ -270,25 +230,24 @@ pub left_kept : (fixed : Fixed) (s : Table Unit (List SeatView)) → RuleHolds f
     → get_elem? s.views id ≡ some (one ∷ two ∷ [])
     → RuleHolds fixed (record { words = s.words; homes = s.homes; views = set s.views id (one ∷ []) ++ (two ∷ []) ∷ [] })
 left_kept fixed s k id one two at =
-    let r = left_regroups s.views id one two at in
-    regroup fixed s (record { words = s.words; homes = s.homes; views = set s.views id (one ∷ []) ++ (two ∷ []) ∷ [] }) refl k (leave_to id (length (set s.views id (one ∷ [])))) r.moved r.goes
+    regroup fixed s (record { words = s.words; homes = s.homes; views = set s.views id (one ∷ []) ++ (two ∷ []) ∷ [] }) refl k (leave_to id (length (set s.views id (one ∷ []))))
+    (left_regroups s.views id one two at)
 
 -- What the table asks of these.
-pub join_asks : (fixed key : Fixed) → key ≡ fixed → (id other : ℕ) (ours theirs : List SeatView) → ours ≡ first_of ours ∷ [] → theirs ≡ first_of theirs ∷ []
-    → Joins (RuleHolds key) id ours other theirs (ours ++ theirs) []
-join_asks fixed key key_is id other ours theirs one two =
-    subst (λ (f : Fixed). Joins (RuleHolds f) id ours other theirs (ours ++ theirs) []) (sym key_is)
-    (subst (λ (xs : List SeatView). Joins (RuleHolds fixed) id xs other theirs (xs ++ theirs) []) (sym one)
-    (subst (λ (ys : List SeatView). Joins (RuleHolds fixed) id (first_of ours ∷ []) other ys ((first_of ours ∷ []) ++ ys) []) (sym two)
-    (λ s k at differ at_other. joined_kept fixed s k id other (first_of ours) (first_of theirs) at differ at_other)))
+pub join_asks : (words : Words) (id other : ℕ) (ours theirs : List SeatView) → ours ≡ first_of ours ∷ [] → theirs ≡ first_of theirs ∷ []
+    → Joins (RuleHolds words.table.shared.key) id ours other theirs (ours ++ theirs) []
+join_asks words id other ours theirs one two =
+    subst (λ (f : Fixed). Joins (RuleHolds f) id ours other theirs (ours ++ theirs) []) (sym words.key_is)
+    (subst (λ (vs : List SeatView × List SeatView). Joins (RuleHolds words.fixed) id vs.0 other vs.1 (vs.0 ++ vs.1) []) (λ i. (sym one i, sym two i))
+    (λ s k at differ at_other. joined_kept words.fixed s k id other (first_of ours) (first_of theirs) at differ at_other))
 
-pub enter_asks : (fixed key : Fixed) → key ≡ fixed → (slots i : ℕ) → Enters (RuleHolds key) slots i (λ n views. views ≡ [])
-enter_asks fixed key key_is slots i =
-    subst (λ (f : Fixed). Enters (RuleHolds f) slots i (λ n views. views ≡ [])) (sym key_is) (λ s k homes small. ([], entered_kept fixed s k, refl))
+pub enter_asks : (words : Words) (slots i : ℕ) → Enters (RuleHolds words.table.shared.key) slots i (λ n views. views ≡ [])
+enter_asks words slots i =
+    subst (λ (f : Fixed). Enters (RuleHolds f) slots i (λ n views. views ≡ [])) (sym words.key_is) (λ s k homes small. ([], entered_kept words.fixed s k, refl))
 
-pub leave_asks : (fixed key : Fixed) → key ≡ fixed → (id : ℕ) (views : List SeatView) (one two : SeatView) → views ≡ one ∷ two ∷ []
-    → Splits (RuleHolds key) id views (first_of views ∷ []) (later_views views)
-leave_asks fixed key key_is id views one two both =
-    subst (λ (f : Fixed). Splits (RuleHolds f) id views (first_of views ∷ []) (later_views views)) (sym key_is)
-    (subst (λ (vs : List SeatView). Splits (RuleHolds fixed) id vs (first_of vs ∷ []) (later_views vs)) (sym both)
-    (λ s k at. left_kept fixed s k id one two at))
+pub leave_asks : (words : Words) (id : ℕ) (views : List SeatView) (one two : SeatView) → views ≡ one ∷ two ∷ []
+    → Splits (RuleHolds words.table.shared.key) id views (first_of views ∷ []) (later_views views)
+leave_asks words id views one two both =
+    subst (λ (f : Fixed). Splits (RuleHolds f) id views (first_of views ∷ []) (later_views views)) (sym words.key_is)
+    (subst (λ (vs : List SeatView). Splits (RuleHolds words.fixed) id vs (first_of vs ∷ []) (later_views vs)) (sym both)
+    (λ s k at. left_kept words.fixed s k id one two at))

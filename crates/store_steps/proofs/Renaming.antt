@@ -17,23 +17,18 @@ use Rattle.store_core.proofs.MachineInvariants.{claim_seat, seat_claim}
 use Rattle.store_steps.specs.Layout.{cell_at, claim_word, held_word, length_word}
 use Rattle.store_steps.specs.Machines.{HasClaim, HasRead, HasStored, IsUnderWay, StandsForMachine}
 use Rattle.store_steps.specs.Rule.{HasView, RuleHolds}
+use Rattle.std.proofs.lemmas.Option.{same_Some}
+use Rattle.store_steps.proofs.Lists.{is_some-map}
 
 some_of : (o : Option ℕ) → is_some o ≡ true → (n : ℕ) × (o ≡ Some n)
 some_of None h = let never : false ≡ true = h in cc
 some_of (Some n) h = (n, refl)
 
-some_one : (n k : ℕ) → Some n ≡ Some k → n ≡ k
-some_one n k e = cc
-
-some_name : (o : Option ℕ) → is_some (option_map (λ (n : ℕ). n ∷ []) o) ≡ is_some o
-some_name None = refl
-some_name (Some n) = refl
-
 -- what is claimed isn't shown
 dark : (fixed : Fixed) (m : Machine) (c : ℕ) → IsSoundMachine fixed m → is_some (m.claim c) ≡ true → is_shown m c ≡ false
 dark fixed m c served claimed = false_from_ne_true _ (λ shown.
     let held : is_held (store_of m) c ≡ true = rw shown refl in
-    both_ways _ (served.sound.apart c held) (some_name (m.claim c) ∙ claimed))
+    both_ways _ (served.sound.apart c held) (is_some-map (λ (n : ℕ). n ∷ []) (m.claim c) ∙ claimed))
 
 -- who wrote a word of a claimed chunk claims it
 writer : (fixed : Fixed) (m : Machine) (n c w : ℕ) → IsSoundMachine fixed m → (m.seat n).written c w ≡ true → is_some (m.claim c) ≡ true → m.claim c ≡ Some n
@@ -48,7 +43,7 @@ pub renamed_served : (fixed : Fixed) (m : Machine) (f : ℕ → Option ℕ) (g :
     → IsSoundMachine fixed (record m { claim = f; seat = g })
 renamed_served fixed m f g served same wrote keeps_claim pieces readings =
     let claimed_same : (c : ℕ) → is_some (option_map (λ (n : ℕ). n ∷ []) (f c)) ≡ is_claimed (store_of m) c =
-    λ c. some_name (f c) ∙ same c ∙ sym (some_name (m.claim c)) in
+    λ c. is_some-map (λ (n : ℕ). n ∷ []) (f c) ∙ same c ∙ sym (is_some-map (λ (n : ℕ). n ∷ []) (m.claim c)) in
     record {
       sound = record {
         apart = λ c held. claimed_same c ∙ served.sound.apart c held;
@@ -115,7 +110,7 @@ module _ (fixed : Fixed) (s t : Table Unit (List SeatView)) (m : Machine) (to : 
       let old = some_of (m.claim c) there in
       let was : HasClaim s.views old.0 c = (stands.claims old.0 c).0 old.1 in
       let now = forth old.0 was.part was.view was.has in
-      subst (λ (x : ℕ). HasClaim t.views x c) (some_one (to (old.0, was.part)) n (sym (its old.0 was.part was.view was.has c was.claims) ∙ is))
+      subst (λ (x : ℕ). HasClaim t.views x c) (same_Some (to (old.0, was.part)) n (sym (its old.0 was.part was.view was.has c was.claims) ∙ is))
       (record { part = now.part; view = now.new; has = now.has; claims = now.claimed c was.claims })
 
   claims_back : (n c : ℕ) → HasClaim t.views n c → f c ≡ Some n
@@ -131,7 +126,7 @@ module _ (fixed : Fixed) (s t : Table Unit (List SeatView)) (m : Machine) (to : 
       subst (λ (x : ℕ). claims (names_of was.view) (state_after k.history) x ≡ true) chunk ((k.views old was.part was.view was.has).written (129 * c + w) (m.cell c w) was.is).0 in
       let ours : seat_claims was.view c ≡ true = sym (claims_now fixed s k old was.part was.view was.has c) ∙ claimed in
       let now = forth old was.part was.view was.has in
-      subst (λ (x : ℕ). HasStored t.views x (129 * c + w) (m.cell c w)) (some_one (to (old, was.part)) n (sym (its old was.part was.view was.has c ours) ∙ is))
+      subst (λ (x : ℕ). HasStored t.views x (129 * c + w) (m.cell c w)) (same_Some (to (old, was.part)) n (sym (its old was.part was.view was.has c ours) ∙ is))
       (record { part = now.part; view = now.new; has = now.has; is = now.wrote (129 * c + w) (m.cell c w) was.is })
 
   pub renamed_stands : IsSoundMachine fixed (record m { claim = f; seat = g })

@@ -1,22 +1,18 @@
 -- What a step of a seat with one view changes, and that the table then stands for the machine after it.
-use Rattle.std.proofs.Common.{◌≡◌, ◌≢◌, ℕ, zero, suc, ◌+◌, ◌*◌, ◌/◌, ◌%◌, ◌<◌, ◌≤◌, ◌==◌, true, false, ◌||◌, List, [], ◌∷◌, Option, Some, is_some, option_map, set, refl, sym, ap, subst, ◌∙◌, arith, inl, inr, eqb-true, ◌++◌, append_assoc, slice_index}
+use Rattle.std.proofs.Common.{◌≡◌, ◌≢◌, ℕ, ◌+◌, ◌*◌, ◌/◌, ◌%◌, ◌<◌, ◌≤◌, true, false, ◌||◌, List, [], ◌∷◌, Option, Some, is_some, option_map, set, refl, sym, ap, subst, ◌∙◌, arith, inl, inr, ◌++◌, append-nil, append_assoc, slice_index}
 use Rattle.std.proofs.lemmas.Bool.{both_ways, cases_Bool, cases_eq, false_from_ne_true}
 use Rattle.std.proofs.lemmas.List.{set-get_or}
-use mathlib.Core.Option.{some, some-injective, some-ne-none}
-use lib.ListN.{get_elem?}
 use Rattle.atomic_table.specs.Table.{State as Table, keeps, stepped}
-use Rattle.atomic_table.proofs.Lists.{set_else}
 use Rattle.bao_check.specs.declared.checked.Checked.{Checked}
 use Rattle.store_core.specs.declared.fixed.Fixed.{Fixed}
 use Rattle.store_core.specs.declared.history.Event.{Event}
 use Rattle.store_core.specs.declared.view.SeatView.{SeatView}
-use Rattle.store_core.specs.declared.view.StoredWord.{StoredWord}
 use Rattle.store_core.specs.Histories.{IsLegal, state_after}
 use Rattle.store_core.specs.Machine.{Machine, ReadUnderWay, groups, is_number, is_shown, seat_has}
-use Rattle.store_core.specs.Masks.{has_bit, in_mask}
+use Rattle.store_core.specs.Masks.{has_bit}
 use Rattle.store_core.specs.MachineInvariant.{IsSoundMachine}
 use Rattle.store_core.specs.States.{State, byte_at, empty}
-use Rattle.store_core.specs.Views.{seat_claims, stored, without_chunks}
+use Rattle.store_core.specs.Views.{seat_claims, stored}
 use Rattle.store_core.proofs.Lasting.{legal-append, legal_is_sound, run-append}
 use Rattle.store_core.proofs.MachineInvariants.{byte_lasts, claim_seat, claimed_hidden, seat_claim}
 use Rattle.store_steps.specs.Layout.{cell_at, cell_place, claim_place, claim_word, held_word, length_code, length_place, length_word, parents_place}
@@ -25,28 +21,9 @@ use Rattle.store_steps.specs.Rule.{HasView}
 use Rattle.store_steps.specs.Simulates.{after_load}
 use Rattle.store_core.specs.Knowledge.{GoesOn}
 use Rattle.store_steps.proofs.Lists.{one_part}
+use Rattle.store_steps.proofs.StepViews.{seen_legal}
+use Rattle.store_steps.proofs.Storers.{at_other, gets, had, stays}
 use Rattle.store_steps.proofs.WrittenWords.{left}
-
--- a seat that has other views
-pub set_at : {A : Type 0} (xs : List A) (i : ℕ) (x y : A) → get_elem? xs i ≡ some x → get_elem? (set xs i y) i ≡ some y
-set_at [] i x y h = absurd (some-ne-none x (sym h))
-set_at (z ∷ xs) zero x y h = refl
-set_at (z ∷ xs) (suc i) x y h = set_at xs i x y h
-
--- what still counts as stored of a chunk whose claim goes on
-pub stays_stored : (group mask number : ℕ) (words : List StoredWord) → in_mask group mask (number / 129) ≡ false
-    → stored (without_chunks group mask words) number ≡ stored words number
-stays_stored group mask number [] miss = refl
-stays_stored group mask number (w ∷ words) miss = elim (cases_Bool (in_mask group mask (w.number / 129))) [
-  | inl gone ↦
-      let other : (w.number == number) ≡ false = false_from_ne_true _ (λ e.
-      both_ways _ miss (subst (λ (n : ℕ). in_mask group mask (n / 129) ≡ true) (eqb-true w.number number e) gone)) in
-      rw (gone, other) (stays_stored group mask number words miss)
-  | inr stays ↦ elim (cases_Bool (w.number == number)) [
-    | inl here ↦ rw (stays, here) refl
-    | inr other ↦ rw (stays, other) (stays_stored group mask number words miss)
-  ]
-]
 
 -- a read under way goes on in all that is seen later
 pub under_way_later : (fixed of : Fixed) (view new : SeatView) (more : List Event) (r : ReadUnderWay) → new.seen ≡ view.seen ++ more → IsLegal of new.seen
@@ -71,9 +48,7 @@ claimer_of m n c is = ap (λ (o : Option ℕ). is_number n o) is ∙ claim_seat 
 module _ (fixed : Fixed) (pieces : List Checked) (s : Table Unit (List SeatView)) (m : Machine) (id : ℕ) (view : SeatView) (here : IsAtMachine fixed pieces s m id view) where
   -- the seat's one view
   the_view : (part : ℕ) (v : SeatView) → HasView s.views id part v → v ≡ view
-  the_view part v h =
-      let parts : h.parts ≡ view ∷ [] = some-injective h.parts (view ∷ []) (sym h.is_seat ∙ here.is_seat) in
-      (one_part view v part (subst (λ (vs : List SeatView). get_elem? vs part ≡ some v) parts h.is_part)).1
+  the_view part v h = (one_part view v part (had s.views id (view ∷ []) id part v here.is_seat refl h)).1
 
   -- what it claims and what it stored
   pub seat_is : (c : ℕ) → seat_has m id c ≡ seat_claims view c
@@ -99,14 +74,16 @@ module _ (fixed : Fixed) (pieces : List Checked) (s : Table Unit (List SeatView)
       subst (λ (v : SeatView). IsUnderWay fixed v r) (the_view k.part k.view k.has) k.under_way
 
   -- it is so of what is seen later
-  pub still_read : (new : SeatView) (more : List Event) → new.fixed ≡ view.fixed → new.seen ≡ view.seen ++ more → IsLegal new.fixed new.seen
+  still_read : (of : Fixed) (new : SeatView) (more : List Event) → new.seen ≡ view.seen ++ more → IsLegal of new.seen
       → (r : ReadUnderWay) → (m.seat id).reading ≡ Some r → IsUnderWay fixed new r
-  still_read new more same is legal r reading =
-      under_way_later fixed view.fixed view new more r is (subst (λ (f : Fixed). IsLegal f new.seen) same legal) (read_is_of r reading)
+  still_read of new more is legal r reading = under_way_later fixed of view new more r is legal (read_is_of r reading)
 
   pub read_on : (new : SeatView) (between own : List Event) → GoesOn view new between own → (r : ReadUnderWay) → (m.seat id).reading ≡ Some r → IsUnderWay fixed new r
-  read_on new between own on r reading =
-      still_read new (between ++ own) on.fixed_is (on.seen_is ∙ append_assoc view.seen between own) on.legal r reading
+  read_on new between own on = still_read new.fixed new (between ++ own) (on.seen_is ∙ append_assoc view.seen between own) on.legal
+
+  pub unseen_read : (new : SeatView) → new.seen ≡ view.seen → (r : ReadUnderWay) → (m.seat id).reading ≡ Some r → IsUnderWay fixed new r
+  unseen_read new seen = still_read fixed new [] (seen ∙ sym (append-nil view.seen))
+      (subst (λ (h : List Event). IsLegal fixed h) (sym seen) (seen_legal fixed s here.kept id view here.is_seat))
 
   -- what it claims isn't shown, and lies below the capacity
   pub hidden : (c : ℕ) → seat_has m id c ≡ true → is_shown m c ≡ false
@@ -127,18 +104,7 @@ module _ (fixed : Fixed) (pieces : List Checked) (s : Table Unit (List SeatView)
     later = set s.views id (new ∷ [])
 
     its_new : HasView later id 0 new
-    its_new = record { parts = new ∷ []; is_seat = set_at s.views id (view ∷ []) (new ∷ []) here.is_seat; is_part = refl }
-
-    new_view : (part : ℕ) (v : SeatView) → HasView later id part v → v ≡ new
-    new_view part v h =
-        let parts : h.parts ≡ new ∷ [] = some-injective h.parts (new ∷ []) (sym h.is_seat ∙ set_at s.views id (view ∷ []) (new ∷ []) here.is_seat) in
-        (one_part new v part (subst (λ (vs : List SeatView). get_elem? vs part ≡ some v) parts h.is_part)).1
-
-    other_has : (k part : ℕ) (v : SeatView) → k ≢ id → HasView s.views k part v → HasView later k part v
-    other_has k part v other h = record { parts = h.parts; is_seat = set_else s.views id k (new ∷ []) other ∙ h.is_seat; is_part = h.is_part }
-
-    other_had : (k part : ℕ) (v : SeatView) → k ≢ id → HasView later k part v → HasView s.views k part v
-    other_had k part v other h = record { parts = h.parts; is_seat = sym (set_else s.views id k (new ∷ []) other) ∙ h.is_seat; is_part = h.is_part }
+    its_new = gets s.views id (view ∷ []) (new ∷ []) 0 new here.is_seat refl
 
     module _ (next : Machine) (ours : (c : ℕ) → seat_has next id c ≡ seat_claims new c) (others : (k c : ℕ) → k ≢ id → seat_has next k c ≡ seat_has m k c) where
       claimed_by : (k c : ℕ) → next.claim c ≡ Some k → HasClaim later k c
@@ -148,17 +114,17 @@ module _ (fixed : Fixed) (pieces : List Checked) (s : Table Unit (List SeatView)
             subst (λ (x : ℕ). HasClaim later x c) (sym its) (record { part = 0; view = new; has = its_new; claims = sym (ours c) ∙ has })
         | inr other ↦
             let had : HasClaim s.views k c = (here.stands.claims k c).0 (seat_claim k (m.claim c) (sym (others k c other) ∙ claimer_of next k c is)) in
-            record { part = had.part; view = had.view; has = other_has k had.part had.view other had.has; claims = had.claims }
+            record { part = had.part; view = had.view; has = stays s.views id (new ∷ []) k had.part had.view other had.has; claims = had.claims }
       ]
 
       claims_it : (k c : ℕ) → HasClaim later k c → next.claim c ≡ Some k
-      claims_it k c has = elim (cases_eq k id) [
+      claims_it k c has = elim (at_other s.views id (new ∷ []) k has.part has.view has.has) [
         | inl its ↦
-            let view_is : has.view ≡ new = new_view has.part has.view (subst (λ (x : ℕ). HasView later x has.part has.view) its has.has) in
-            seat_claim id (next.claim c) (ours c ∙ subst (λ (v : SeatView). seat_claims v c ≡ true) view_is has.claims) ∙ ap (λ (x : ℕ). Some x) (sym its)
+            let view_is : has.view ≡ new = (one_part new has.view has.part its.1).1 in
+            seat_claim id (next.claim c) (ours c ∙ subst (λ (v : SeatView). seat_claims v c ≡ true) view_is has.claims) ∙ ap (λ (x : ℕ). Some x) (sym its.0)
         | inr other ↦
-            let had : HasClaim s.views k c = record { part = has.part; view = has.view; has = other_had k has.part has.view other has.has; claims = has.claims } in
-            seat_claim k (next.claim c) (others k c other ∙ claimer_of m k c ((here.stands.claims k c).1 had))
+            let had : HasClaim s.views k c = record { part = has.part; view = has.view; has = other.1; claims = has.claims } in
+            seat_claim k (next.claim c) (others k c other.0 ∙ claimer_of m k c ((here.stands.claims k c).1 had))
       ]
 
       pub stands_after : (i n : ℕ) → IsSoundMachine fixed next
@@ -190,7 +156,7 @@ module _ (fixed : Fixed) (pieces : List Checked) (s : Table Unit (List SeatView)
               let claim : m.claim c ≡ Some k = seat_claim k (m.claim c) (sym (others k c other) ∙ claimer_of next k c by) in
               let old = theirs k c w other is claim below in
               let had : HasStored s.views k (129 * c + w) (m.cell c w) = here.stands.written k c w old.0 claim below in
-              record { part = had.part; view = had.view; has = other_has k had.part had.view other had.has; is = had.is ∙ ap (λ (x : ℕ). Some x) (sym old.1) }
+              record { part = had.part; view = had.view; has = stays s.views id (new ∷ []) k had.part had.view other had.has; is = had.is ∙ ap (λ (x : ℕ). Some x) (sym old.1) }
         ];
         reads = λ k r is. elim (cases_eq k id) [
           | inl its ↦
@@ -198,7 +164,7 @@ module _ (fixed : Fixed) (pieces : List Checked) (s : Table Unit (List SeatView)
               (record { part = 0; view = new; has = its_new; under_way = reads r (subst (λ (x : ℕ). (next.seat x).reading ≡ Some r) its is) })
           | inr other ↦
               let had : HasRead fixed s.views k r = here.stands.reads k r (sym (others_read k other) ∙ is) in
-              record { part = had.part; view = had.view; has = other_has k had.part had.view other had.has; under_way = had.under_way }
+              record { part = had.part; view = had.view; has = stays s.views id (new ∷ []) k had.part had.view other had.has; under_way = had.under_way }
         ];
       }
 

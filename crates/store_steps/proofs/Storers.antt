@@ -1,14 +1,15 @@
 -- Where views that are storing parents stand after a step.
-use Rattle.std.proofs.Common.{◌≡◌, ◌≢◌, ℕ, zero, suc, ◌<◌, true, List, [], ◌∷◌, ◌++◌, length, Option, None, Some, set, refl, sym, ap, subst, ◌∙◌, arith, inl, inr}
+use Rattle.std.proofs.Common.{◌≡◌, ◌≢◌, ◌⊎◌, ℕ, zero, suc, ◌<◌, true, List, [], ◌∷◌, ◌++◌, length, Option, None, Some, set, refl, sym, ap, subst, ◌∙◌, arith, inl, inr}
 use Rattle.std.specs.Option.{option_map}
 use Rattle.std.proofs.lemmas.Bool.{cases_eq}
 use mathlib.Core.Option.{some, some-injective, some-ne-none}
 use lib.ListN.{get_elem?}
-use Rattle.atomic_table.proofs.Lists.{at_longer, set_else, set_here}
+use Rattle.atomic_table.proofs.Lists.{at_longer, at_set, set_else, set_here}
 use Rattle.store_core.specs.declared.view.SeatView.{SeatView}
 use Rattle.store_core.specs.Views.{is_storing}
 use Rattle.store_steps.specs.Rule.{HasView, StoresAt}
 use Rattle.store_steps.proofs.Lists.{one_part}
+use Rattle.std.proofs.lemmas.Option.{same_Some}
 
 -- a seat that is there has a number below the count of seats
 pub seat_below : (views : List (List SeatView)) (id : ℕ) (parts : List SeatView) → get_elem? views id ≡ some parts → id < length views
@@ -16,19 +17,11 @@ seat_below [] id parts e = absurd (some-ne-none parts (sym e))
 seat_below (v ∷ views) zero parts e = omega arith
 seat_below (v ∷ views) (suc id) parts e = omega (arith, seat_below views id parts e)
 
--- the place that an option has
-abbrev place_of : Option (ℕ × ℕ) → ℕ × ℕ
-place_of None = (0, 0)
-place_of (Some place) = place
-
-pub one_place : (place other : ℕ × ℕ) → Some place ≡ Some other → place ≡ other
-one_place place other e = ap place_of e
-
 -- where a storer that moved was
 pub moved_from : (storer : Option (ℕ × ℕ)) (to : ℕ × ℕ → ℕ × ℕ) (place : ℕ × ℕ) → option_map to storer ≡ Some place
     → (old : ℕ × ℕ) × (storer ≡ Some old) × (to old ≡ place)
 moved_from None to place e = cc
-moved_from (Some old) to place e = (old, refl, one_place (to old) place e)
+moved_from (Some old) to place e = (old, refl, same_Some {A = ℕ × ℕ} (to old) place e)
 
 module _ (views : List (List SeatView)) (id : ℕ) where
   -- the views of other seats stay where one seat gets others
@@ -45,11 +38,19 @@ module _ (views : List (List SeatView)) (id : ℕ) where
       let same : parts ≡ h.parts = some-injective parts h.parts (sym seat ∙ ap (λ (p : ℕ). get_elem? views p) (sym here) ∙ h.is_seat) in
       subst (λ (ps : List SeatView). get_elem? ps j ≡ some v) (sym same) h.is_part
 
+  -- the views of a table where one seat has others
+  pub at_other : (parts : List SeatView) (i j : ℕ) (v : SeatView) → HasView (set views id parts) i j v
+      → ((i ≡ id) × (get_elem? parts j ≡ some v)) ⊎ ((i ≢ id) × HasView views i j v)
+  at_other parts i j v h = elim (at_set views id i parts h.parts h.is_seat) [
+    | inl here ↦ inl (here.0, subst (λ (ps : List SeatView). get_elem? ps j ≡ some v) (sym here.1) h.is_part)
+    | inr other ↦ inr (other.0, record { parts = h.parts; is_seat = other.1; is_part = h.is_part })
+  ]
+
   module _ (view new : SeatView) (seat : get_elem? views id ≡ some (view ∷ [])) where
     -- a seat's new view is storing a parent
     pub stores_new : (m i j : ℕ) → ◌≡◌ {A = Option (ℕ × ℕ)} (Some (id, 0)) (Some (i, j)) → is_storing new m ≡ true → StoresAt (set views id (new ∷ [])) i j m
     stores_new m i j place storing =
-        subst (λ (p : ℕ × ℕ). StoresAt (set views id (new ∷ [])) p.0 p.1 m) (one_place (id, 0) (i, j) place)
+        subst (λ (p : ℕ × ℕ). StoresAt (set views id (new ∷ [])) p.0 p.1 m) (same_Some {A = ℕ × ℕ} (id, 0) (i, j) place)
         (record { view = new; has = gets (view ∷ []) (new ∷ []) 0 new seat refl; storing = storing })
 
     -- who was storing a parent goes on, where the seat's view does
@@ -65,6 +66,3 @@ module _ (views : List (List SeatView)) (id : ℕ) where
 -- more seats come in
 pub longer : (views more : List (List SeatView)) (i j : ℕ) (v : SeatView) → HasView views i j v → HasView (views ++ more) i j v
 longer views more i j v h = record { parts = h.parts; is_seat = at_longer views more i h.parts h.is_seat; is_part = h.is_part }
-
-pub stores_longer : (views more : List (List SeatView)) (i j m : ℕ) → StoresAt views i j m → StoresAt (views ++ more) i j m
-stores_longer views more i j m s = record { view = s.view; has = longer views more i j s.view s.has; storing = s.storing }

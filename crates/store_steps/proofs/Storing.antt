@@ -7,10 +7,8 @@ use Rattle.atomic_table.specs.Table.{State as Table}
 use Rattle.store_core.specs.declared.fixed.Fixed.{Fixed}
 use Rattle.store_core.specs.declared.view.SeatView.{SeatView}
 use Rattle.store_core.specs.Histories.{IsLegal, state_after}
-use Rattle.store_core.specs.Laws.{IsSound}
 use Rattle.store_core.specs.States.{State, claims}
 use Rattle.store_core.specs.Views.{names_of, seat_claims, is_storing}
-use Rattle.store_core.proofs.Lasting.{legal_is_sound}
 use Rattle.store_core.proofs.Tells.{claims-claimed}
 use Rattle.store_steps.specs.Tells.{Stores}
 use Rattle.store_steps.specs.Layout.{cell_at, cell_place, parent_at, parent_claim_place, parent_held_place, parent_word_place}
@@ -18,7 +16,7 @@ use Rattle.store_steps.specs.Rule.{RuleHolds, FitsParents, StandForParents}
 use Rattle.store_steps.proofs.Giving.{not_held}
 use Rattle.store_steps.proofs.ParentsStanding.{leaves_low, same_seat}
 use Rattle.store_steps.proofs.WrittenWords.{cells_stand, left, stored_more, bits_left}
-use Rattle.store_steps.proofs.StepViews.{Steps, claimed_low, fitting, silent_step, claims_now}
+use Rattle.store_steps.proofs.StepViews.{Steps, claimed_low, fitting, silent_step, claims_now, sound}
 use Rattle.store_core.specs.declared.view.StoredWord.{StoredWord}
 use Rattle.store_steps.specs.Kinds.{Kind, Owns, chunk_kind, parent_kind, width, word_place}
 use Rattle.store_steps.proofs.Keeping.{its, parents_then}
@@ -39,11 +37,8 @@ module _ (fixed : Fixed) (s : Table Unit (List SeatView)) (k : RuleHolds fixed s
   claimed : claims (names_of view) state (number / 129) ≡ true
   claimed = claims_now fixed s k id view seat (number / 129) ∙ ours
 
-  sound : IsSound fixed state
-  sound = legal_is_sound fixed k.history k.legal
-
   low : number < 129 * fixed.capacity
-  low = let below = sound.claimed_below (number / 129) (claims-claimed (names_of view) state (number / 129) claimed) in omega (arith, below)
+  low = let below = (sound fixed s k id view seat).claimed_below (number / 129) (claims-claimed (names_of view) state (number / 129) claimed) in omega (arith, below)
 
   abbrev later : List ℕ
   later = set s.words (cell_place fixed number) value

@@ -1,9 +1,10 @@
 -- One or on a claim word: chunks are taken, and boundaries claimed.
+use Rattle.std.proofs.lemmas.Bool.Decides.{nat_tests}
 use Rattle.std.proofs.Common.{◌≡◌, ℕ, ◌/◌, ◌%◌, ◌^◌, ◌<◌, nat_lt, Bool, true, not, ◌&&◌, ◌||◌, if◌then◌else◌, List, [], ◌∷◌, length, Option, is_some, slice_index, set, refl, ap, ◌∙◌, arith, inl, inr, ◌+◌, ◌*◌, false, None, Some, sym, subst, eqb-true, ◌==◌}
 use Rattle.std.specs.Int.{w64, bit_not}
 use Rattle.std.specs.Int.Bits.{bit_and, bit_or}
-use Rattle.std.proofs.Math.Bool.{and_assoc}
-use Rattle.std.proofs.lemmas.Bool.{cases_Bool, and_parts, false≢true}
+use Rattle.std.proofs.Math.Bool.{and_assoc, and_comm, or-false}
+use Rattle.std.proofs.lemmas.Bool.{cases_Bool, and_parts, false≢true, or_right, or_parts, not-true}
 use mathlib.Core.Option.{some}
 use lib.ListN.{get_elem?}
 use Rattle.atomic_table.specs.Table.{State as Table}
@@ -16,15 +17,15 @@ use Rattle.store_core.specs.Histories.{state_after}
 use Rattle.store_core.specs.Machine.{groups}
 use Rattle.store_core.specs.Masks.{has_bit, in_mask, IsMaskOf}
 use Rattle.store_core.specs.Names.{Name, least_name}
-use Rattle.store_core.specs.States.{State, claims, is_among, is_claimed, is_held}
+use Rattle.store_core.specs.States.{State, claims, is_among, is_held}
 use Rattle.store_core.specs.Views.{names_of, is_boundary, is_storing}
 use Rattle.store_core.proofs.Joining.{plain}
-use Rattle.store_steps.specs.Layout.{cell_at, cell_place, claim_place, parent_claim_place, parent_held_place, parent_word_place}
+use Rattle.store_steps.specs.Layout.{claim_place, parent_claim_place, parent_held_place, parent_word_place}
 use Rattle.store_steps.specs.Plays.{TakesChunks, ClaimsParents}
 use Rattle.store_steps.specs.Rule.{RuleHolds, StandFor, FitsParents, StandForParents, StoresAt}
 use Rattle.store_core.proofs.Bits.{and_small, has_bit-and}
-use Rattle.store_steps.proofs.Calls.{least_among}
-use Rattle.store_steps.proofs.WrittenWords.{bits_granted, claims_stand, granted_bit, left, bits_left, in_here}
+use Rattle.store_steps.proofs.Calls.{least_among, if_taken}
+use Rattle.store_steps.proofs.WrittenWords.{bits_granted, claims_stand, granted_bit, left, bits_left, in_here, mask_granted}
 use Rattle.store_steps.proofs.StepViews.{Steps, did_step, fitting, some_names}
 use Rattle.store_core.specs.declared.history.Event.{Event}
 use Rattle.store_core.specs.Knowledge.{AreAllNames}
@@ -34,6 +35,7 @@ use Rattle.store_steps.proofs.ParentsAside.{aside_step}
 use Rattle.store_steps.proofs.Lists.{one_part}
 use Rattle.store_steps.proofs.Storers.{had, stores_new, stores_on}
 use Rattle.store_steps.proofs.Wholes.{alone, only_view, whole_history}
+use Rattle.store_steps.proofs.Giving.{cells_beside}
 
 -- one with names has a least
 is_some-least : (names : List Named) → 0 < length names → is_some (least_name (plain names)) ≡ true
@@ -41,8 +43,7 @@ is_some-least [] none = absurd (omega arith)
 is_some-least (named ∷ names) more = refl
 
 module _ (fixed : Fixed) (s : Table Unit (List SeatView)) (k : RuleHolds fixed s) (id : ℕ) (view : SeatView) (seat : get_elem? s.views id ≡ some (view ∷ []))
-    (group want asked : ℕ) (there : group < groups fixed) (small_asked : asked < 2 ^ 64)
-    (asks : (c : ℕ) → c / 64 ≡ group → has_bit asked (c % 64) ≡ (has_bit want (c % 64) && nat_lt c fixed.capacity))
+    (group want asked : ℕ) (there : group < groups fixed) (asks : IsMaskOf group asked (λ c. has_bit want (c % 64) && nat_lt c fixed.capacity))
     (small : slice_index s.words (claim_place fixed group) < 2 ^ 64) where
   abbrev found : ℕ
   found = slice_index s.words (claim_place fixed group)
@@ -53,17 +54,8 @@ module _ (fixed : Fixed) (s : Table Unit (List SeatView)) (k : RuleHolds fixed s
   abbrev state : State
   state = state_after k.history
 
-  -- chunks that are granted were free
-  granted_is : (c : ℕ) → c / 64 ≡ group → has_bit granted (c % 64) ≡ (has_bit asked (c % 64) && not (is_held state c || is_claimed state c))
-  granted_is c here = granted_bit fixed (claim_place fixed) (λ g h e. omega (arith, e)) s.words (is_held state) state.claim k.words.claimed group there asked c small here
-
   right : IsRightReply fixed state (names_of view) (Take group want granted)
-  right = record {
-    small = and_small asked (bit_not w64 found) small_asked;
-    bits = λ c here.
-        granted_is c here ∙ ap (λ (b : Bool). b && not (is_held state c || is_claimed state c)) (asks c here)
-        ∙ and_assoc (has_bit want (c % 64)) (nat_lt c fixed.capacity) (not (is_held state c || is_claimed state c));
-  }
+  right = mask_granted fixed (claim_place fixed) (λ g h e. omega (arith, e)) s.words (is_held state) state.claim k.words.claimed group there asked want fixed.capacity small asks
 
   abbrev who : List Name
   who = names_of view
@@ -76,47 +68,18 @@ module _ (fixed : Fixed) (s : Table Unit (List SeatView)) (k : RuleHolds fixed s
       (bits_granted fixed (claim_place fixed) (λ g h e. omega (arith, e)) s.words (is_held state) state.claim k.words.claimed group there asked (least_name who)
       (is_some-least view.names (some_names fixed s k id view seat)) small (omega (arith, there, k.words.count)))
 
-  -- cells are left
-  cells_left : (n number : ℕ) → cell_at fixed (set s.words (claim_place fixed group) n) number ≡ cell_at fixed s.words number
-  cells_left n number = left s.words (claim_place fixed group) n (cell_place fixed number) (λ e. omega (arith, e, there))
-
   claims_stay : (c : ℕ) → claims who state c ≡ true → is_among who (claim_then c) ≡ true
-  claims_stay c ours = elim (cases_Bool (in_mask group granted c)) [
-    | inl hit ↦ rw hit (least_among view.names (some_names fixed s k id view seat))
-    | inr miss ↦ rw miss ours
-  ]
+  claims_stay c ours = if_taken (is_among who) (in_mask group granted c) (least_name who) (state.claim c) (least_among view.names (some_names fixed s k id view seat)) ∙ or_right _ _ ours
 
   pub take_steps : Steps fixed s id (claim_place fixed group) (bit_or found asked) (λ new. TakesChunks group want asked found view new)
   take_steps = did_step fixed s k id view seat (Take group want granted) (claim_place fixed group) (bit_or found asked) (omega (arith, there)) refl right words
       (λ number value is.
       let w = (fitting fixed s k id view seat).written number value is in
-      (claims_stay (number / 129) w.0, cells_left (bit_or found asked) number ∙ w.1))
-      (λ number c ours. cells_left (bit_or found asked) number)
+      (claims_stay (number / 129) w.0, cells_beside fixed s k id view seat (claim_place fixed group) (bit_or found asked) number (omega (arith, there)) ∙ w.1))
+      (λ number c ours. cells_beside fixed s k id view seat (claim_place fixed group) (bit_or found asked) number (omega (arith, there)))
 
--- a boundary that nobody is storing
-unstored : (held : Bool) (storer : Option (ℕ × ℕ)) → storer ≡ None → (held || is_some storer) ≡ held
-unstored true storer none = refl
-unstored false storer none = ap (λ (o : Option (ℕ × ℕ)). is_some o) none
-
--- one that is stored_mask is neither held nor being stored
-granted_free : (asked held : Bool) (storer : Option (ℕ × ℕ)) → (asked && not (held || is_some storer)) ≡ true → (held ≡ false) × (storer ≡ None)
-granted_free true true storer h = cc
-granted_free true false None h = (refl, refl)
-granted_free true false (Some other) h = cc
-granted_free false held storer h = cc
-
-no_place : (storer : Option (ℕ × ℕ)) (place : ℕ × ℕ) → storer ≡ None → storer ≡ Some place → ⊥
-no_place None place none is = cc
-no_place (Some other) place none is = cc
-
-none_is : (o : Option (List ℕ)) → is_some o ≡ false → o ≡ None
-none_is None h = refl
-none_is (Some bytes) h = cc
-
-swapped : (a b c : Bool) → ((a && b) && c) ≡ (b && (a && c))
-swapped true b c = refl
-swapped false true c = refl
-swapped false false c = refl
+none_is : {A : Type 0} (o : Option A) → is_some o ≡ false → o ≡ None
+none_is o h = grind (arith, nat_tests)
 
 -- what is stored_mask to a seat with all names, of what it wants
 pub granted_mask : (group below want free capacity : ℕ) (parents : ℕ → Option (List ℕ)) → IsMaskOf group below (λ m. nat_lt m capacity)
@@ -127,7 +90,7 @@ granted_mask group below want free capacity parents low is = record {
   bits = λ m at.
       is m at
       ∙ ap (λ (b : Bool). b && not (is_some (parents m))) (has_bit-and below want (m % 64) ∙ ap (λ (b : Bool). b && has_bit want (m % 64)) (low.bits m at))
-      ∙ swapped (nat_lt m capacity) (has_bit want (m % 64)) (not (is_some (parents m)));
+      ∙ rw (and_comm (nat_lt m capacity) (has_bit want (m % 64))) (and_assoc (has_bit want (m % 64)) (nat_lt m capacity) (not (is_some (parents m))));
 }
 
 module _ (fixed : Fixed) (s : Table Unit (List SeatView)) (k : RuleHolds fixed s) (id : ℕ) (view : SeatView) (seat : get_elem? s.views id ≡ some (view ∷ []))
@@ -171,7 +134,8 @@ module _ (fixed : Fixed) (s : Table Unit (List SeatView)) (k : RuleHolds fixed s
   hit_is m hit = sym (in_here group stored_mask m (of_group m hit) ∙ free_bit m (of_group m hit)) ∙ hit
 
   free : (m : ℕ) → in_mask group stored_mask m ≡ true → (is_some (parents m) ≡ false) × (storer m ≡ None)
-  free m hit = granted_free (has_bit asked (m % 64)) (is_some (parents m)) (storer m) (hit_is m hit)
+  free m hit =
+      let parts = or_parts (is_some (parents m)) (is_some (storer m)) (not-true _ (and_parts _ _ (hit_is m hit)).1) in (parts.0, none_is (storer m) parts.1)
 
   low : (m : ℕ) → in_mask group stored_mask m ≡ true → m < fixed.capacity
   low m hit = asks m (of_group m hit) (and_parts (has_bit asked (m % 64)) (not (is_some (parents m) || is_some (storer m))) (hit_is m hit)).0
@@ -192,10 +156,7 @@ module _ (fixed : Fixed) (s : Table Unit (List SeatView)) (k : RuleHolds fixed s
   }
 
   its_storing : (m : ℕ) → is_storing new m ≡ true → in_mask group stored_mask m ≡ true
-  its_storing m is = elim (cases_Bool (in_mask group stored_mask m)) [
-    | inl hit ↦ hit
-    | inr miss ↦ let never : false ≡ true = rw miss at is in cc
-  ]
+  its_storing m is = grind (arith, nat_tests)
 
   its_fit : FitsParents fixed later storer_then id 0 new
   its_fit = record {
@@ -207,10 +168,7 @@ module _ (fixed : Fixed) (s : Table Unit (List SeatView)) (k : RuleHolds fixed s
   }
 
   owned_then : (m i j : ℕ) → storer m ≡ Some (i, j) → storer_then m ≡ Some (i, j)
-  owned_then m i j is = elim (cases_Bool (in_mask group stored_mask m)) [
-    | inl hit ↦ absurd (no_place (storer m) (i, j) (free m hit).1 is)
-    | inr miss ↦ rw miss is
-  ]
+  owned_then m i j is = let was = free m in grind (arith, nat_tests)
 
   by_then : (m i j : ℕ) → storer_then m ≡ Some (i, j) → StoresAt (set s.views id (new ∷ [])) i j m
   by_then m i j is = elim (cases_Bool (in_mask group stored_mask m)) [
@@ -234,7 +192,7 @@ module _ (fixed : Fixed) (s : Table Unit (List SeatView)) (k : RuleHolds fixed s
   free_alone all m here =
       free_bit m here
       ∙ ap (λ (b : Bool). has_bit asked (m % 64) && not b)
-      (unstored (is_some (parents m)) (storer m) (none_storing all m (storer m) refl)
+      (ap (λ (o : Option (ℕ × ℕ)). is_some (parents m) || is_some o) (none_storing all m (storer m) refl) ∙ or-false (is_some (parents m))
       ∙ ap (λ (h : List Event). is_some ((state_after h).parents m)) (whole_history fixed s k id 0 view (its fixed s k id view new seat refl) all))
 
   pub claim_parents_steps : Steps fixed s id place (bit_or found_word asked) (λ new. ClaimsParents group asked found_word view new)

@@ -1,19 +1,20 @@
 -- Words that stand for a state still do where a step writes a word of one kind, and the words of the other kinds are left.
-use Rattle.std.proofs.Common.{◌≡◌, ◌≢◌, ℕ, ◌+◌, ◌*◌, ◌/◌, ◌%◌, ◌^◌, ◌<◌, ◌≤◌, Bool, true, false, not, ◌&&◌, ◌||◌, if◌then◌else◌, List, Option, None, Some, is_some, length, slice_index, set, refl, sym, ap, ◌∙◌, arith, inl, inr, eq-eqb, ne_eqb, ◌==◌, ◌∷◌, eqb-true, subst}
+use Rattle.std.proofs.Common.{[], ◌≡◌, ◌≢◌, ℕ, ◌+◌, ◌*◌, ◌/◌, ◌%◌, ◌^◌, ◌<◌, ◌≤◌, Bool, true, false, not, ◌&&◌, ◌||◌, if◌then◌else◌, List, Option, None, Some, is_some, length, slice_index, set, sym, ap, ◌∙◌, arith, inl, inr, eq-eqb, ne_eqb, ◌==◌, ◌∷◌, eqb-true, subst, nat_lt}
 use Rattle.std.specs.Int.{w64, bit_not}
 use Rattle.std.specs.Int.Bits.{bit_and, bit_or}
-use Rattle.std.proofs.Math.Bool.{or-true}
-use Rattle.std.proofs.lemmas.Bool.{and_left, both_ways, cases_Bool, cases_eq}
+use Rattle.std.proofs.lemmas.Bool.Decides.{nat_tests}
+use Rattle.std.proofs.Math.Bool.{and_assoc}
+use Rattle.std.proofs.lemmas.Bool.{and_left, and_right, both_ways, cases_Bool, cases_eq}
 use Rattle.std.proofs.lemmas.List.{get_or-set_other, get_or-set_same, length-set}
 use Rattle.store_core.specs.declared.fixed.Fixed.{Fixed}
 use Rattle.store_core.specs.declared.view.StoredWord.{StoredWord}
 use Rattle.store_core.specs.Laws.{IsSound}
 use Rattle.store_core.specs.Machine.{groups}
-use Rattle.store_core.specs.Masks.{has_bit, in_mask}
+use Rattle.store_core.specs.Masks.{has_bit, in_mask, IsMaskOf}
 use Rattle.store_core.specs.Names.{Name}
 use Rattle.store_core.specs.States.{State, is_claimed, is_held}
-use Rattle.store_core.specs.Views.{stored}
-use Rattle.store_core.proofs.Bits.{has_bit-and, has_bit-not, has_bit-or}
+use Rattle.store_core.specs.Views.{stored, without_chunks}
+use Rattle.store_core.proofs.Bits.{has_bit-zero, has_bit-and, has_bit-not, has_bit-or, and_small}
 use Rattle.store_steps.specs.Layout.{cell_place, claim_place, length_code, length_place, length_word, parents_place}
 use Rattle.store_steps.specs.Rule.{StandFor}
 
@@ -30,6 +31,26 @@ in_here group mask n here = ap (λ (b : Bool). b && has_bit mask (n % 64)) (eq-e
 
 pub in_other : (group mask n : ℕ) → n / 64 ≢ group → in_mask group mask n ≡ false
 in_other group mask n other = and_left _ _ (ne_eqb (n / 64) group other)
+
+-- no item is in a mask of no bits
+pub in_none : (group n : ℕ) → in_mask group 0 n ≡ false
+in_none group n = and_right _ _ (has_bit-zero (n % 64))
+
+-- what counts as stored where words of a mask's chunks count no more
+stored-without : (group mask number : ℕ) (words : List StoredWord)
+    → stored (without_chunks group mask words) number ≡ (if in_mask group mask (number / 129) then None else stored words number)
+stored-without group mask number [] = grind (arith, nat_tests)
+stored-without group mask number (w ∷ words) = let rest = stored-without group mask number words in grind (arith, nat_tests)
+
+-- of a chunk whose claim goes on that is as it was
+pub stays_stored : (group mask number : ℕ) (words : List StoredWord) → in_mask group mask (number / 129) ≡ false
+    → stored (without_chunks group mask words) number ≡ stored words number
+stays_stored group mask number words miss = stored-without group mask number words ∙ ap (λ (b : Bool). if b then None else stored words number) miss
+
+-- a word that still counts as stored did so before, and is of none of the mask's chunks
+pub still_stored : (group mask : ℕ) (words : List StoredWord) (number value : ℕ) → stored (without_chunks group mask words) number ≡ Some value
+    → (in_mask group mask (number / 129) ≡ false) × (stored words number ≡ Some value)
+still_stored group mask words number value h = let is = stored-without group mask number words in grind (arith, nat_tests)
 
 -- Items are chunks, or boundaries with their parents. At a place for each group stands a word whose bits are those of the
 -- group's items that pass a test.
@@ -66,21 +87,11 @@ module _ (fixed : Fixed) (at : ℕ → ℕ) (places : ArePlaces at) (words : Lis
 -- the bit of an item in a claim word, by whether it is shown and who claims it: it is asked for, or given up
 grant_bit : {A : Type 0} (asked shown : Bool) (claim by : Option A) → is_some by ≡ true
     → ((shown || is_some claim) || asked) ≡ (shown || is_some (if asked && not (shown || is_some claim) then by else claim))
-grant_bit true true claim by some = refl
-grant_bit true false None by some = sym some
-grant_bit true false (Some name) by some = refl
-grant_bit false true claim by some = refl
-grant_bit false false None by some = refl
-grant_bit false false (Some name) by some = refl
+grant_bit asked shown claim by some = grind (arith, nat_tests)
 
 give_bit : {A : Type 0} (given shown : Bool) (claim : Option A) → (given ≡ true → shown ≡ false)
     → ((shown || is_some claim) && not given) ≡ (shown || is_some (if given then None else claim))
-give_bit true true claim hidden = let never : true ≡ false = hidden refl in cc
-give_bit true false None hidden = refl
-give_bit true false (Some name) hidden = refl
-give_bit false true claim hidden = refl
-give_bit false false None hidden = refl
-give_bit false false (Some name) hidden = refl
+give_bit given shown claim hidden = grind (arith, nat_tests)
 
 -- Claim words have the bits of the items that are shown or claimed, by somebody of any kind: a name, a view's place, a
 -- number. One of them is changed.
@@ -93,6 +104,16 @@ module _ {A : Type 0} (fixed : Fixed) (at : ℕ → ℕ) (places : ArePlaces at)
       has_bit-and asked (bit_not w64 (slice_index words (at group))) (n % 64)
       ∙ ap (λ (b : Bool). has_bit asked (n % 64) && b) (has_bit-not (slice_index words (at group)) (n % 64) small (omega arith)
       ∙ ap (λ (b : Bool). not b) (bit_is fixed at places words (λ m. shown m || is_some (claim m)) stand group there n here))
+
+  -- of the wanted items below a capacity those that are free
+  pub mask_granted : (asked want capacity : ℕ) → slice_index words (at group) < 2 ^ 64 → IsMaskOf group asked (λ n. has_bit want (n % 64) && nat_lt n capacity)
+      → IsMaskOf group (bit_and asked (bit_not w64 (slice_index words (at group)))) (λ n. has_bit want (n % 64) && (nat_lt n capacity && not (shown n || is_some (claim n))))
+  mask_granted asked want capacity small asks = record {
+    small = and_small asked (bit_not w64 (slice_index words (at group))) asks.small;
+    bits = λ n here.
+        granted_bit asked n small here ∙ ap (λ (b : Bool). b && not (shown n || is_some (claim n))) (asks.bits n here)
+        ∙ and_assoc (has_bit want (n % 64)) (nat_lt n capacity) (not (shown n || is_some (claim n)));
+  }
 
   pub bits_granted : (asked : ℕ) (by : Option A) → is_some by ≡ true → slice_index words (at group) < 2 ^ 64 → at group < length words
       → AreBits fixed at (set words (at group) (bit_or (slice_index words (at group)) asked))
@@ -126,16 +147,11 @@ module _ {A : Type 0} (fixed : Fixed) (at : ℕ → ℕ) (places : ArePlaces at)
 
 -- the bit of an item in a held word, and whether it is held or claimed, where it becomes held
 show_bit : (hit : Bool) (new old : Option (List ℕ)) → (hit ≡ true → is_some new ≡ true) → (is_some old || hit) ≡ is_some (if hit then new else old)
-show_bit true new (Some bytes) has = sym (has refl)
-show_bit true new None has = sym (has refl)
-show_bit false new (Some bytes) has = refl
-show_bit false new None has = refl
+show_bit hit new old has = grind (arith, nat_tests)
 
 pub still_taken : {A : Type 0} (hit : Bool) (new old : Option (List ℕ)) (claim : Option A) → (hit ≡ true → is_some new ≡ true) → (hit ≡ true → is_some claim ≡ true)
     → (is_some old || is_some claim) ≡ (is_some (if hit then new else old) || is_some (if hit then None else claim))
-still_taken true new old claim has claimed =
-    ap (λ (b : Bool). is_some old || b) (claimed refl) ∙ or-true (is_some old) ∙ sym (ap (λ (b : Bool). b || false) (has refl))
-still_taken false new old claim has claimed = refl
+still_taken hit new old claim has claimed = grind (arith, nat_tests)
 
 -- Held words have the bits of the items that are held. An or shows these.
 pub bits_shown : (fixed : Fixed) (at : ℕ → ℕ) → ArePlaces at → (words : List ℕ) (held new : ℕ → Option (List ℕ)) → AreBits fixed at words (λ n. is_some (held n))

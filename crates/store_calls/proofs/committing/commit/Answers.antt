@@ -10,8 +10,6 @@ use Rattle.store_core.proofs.SlotStates.{accepted_piece}
 use Rattle.store_steps.specs.Asks.{AreHeldClaims}
 use Rattle.store_steps.specs.Words.{fixed_of}
 use Rattle.store_calls.proofs.CommittedChunks.{both_masks, own_chunks}
-use Rattle.store_steps.specs.Kinds.{chunk_kind}
-use Rattle.store_calls.proofs.Storing.{all_stored}
 use Rattle.store_calls.proofs.committing.commit.Goals as goal
 
 pub store_items-requires-clause-own : goal.store_items-requires-clause-own
@@ -19,11 +17,6 @@ store_items-requires-clause-own c =
     let piece : Piece = piece_of c.args.words.now.fixed.base c.args.piece.now in
     own_chunks c.args.grip.now.view c.args.group (bit_and c.args.claimed c.held_in.result) piece
     (both_masks c.args.group c.args.claimed c.held_in.result (λ d. seat_claims c.args.grip.now.view d) (λ d. holds_chunk piece d) c.requires.claimed c.held_in.ensures)
-
-pub publish-requires-clause-written : goal.publish-requires-clause-written
-publish-requires-clause-written c =
-    all_stored chunk_kind c.args.group (bit_and c.args.claimed c.held_in.result) (piece_of c.args.words.now.fixed.base c.args.piece.now)
-    c.args.grip.now.view c.store_items.new.grip.view c.store_items.ensures.stored
 
 pub publish-requires-clause-mask : goal.publish-requires-clause-mask
 publish-requires-clause-mask c =

@@ -7,17 +7,9 @@ use Rattle.store_steps.specs.Grips.{Gripped}
 use Rattle.store_steps.specs.Kinds.{Kind, bytes_in}
 use Rattle.store_steps.specs.Words.{IsGripOf}
 use Rattle.store_calls.specs.StoredCells.{HaveWords}
-use Rattle.store_calls.proofs.Storing.{item_in, item_more, item_none, owns_on, there}
+use Rattle.store_calls.proofs.Storing.{item_in, item_more, item_none, owns_on}
 use Rattle.store_calls.proofs.items.store_items.Goals as goal
 use Rattle.store_calls.proofs.items.store_items.Goals.{then-has_bit, else-has_bit}
-
-pub unwrap-bytes-requires : goal.unwrap-bytes-requires
-unwrap-bytes-requires g c =
-    let kind : Kind = g.K.Item.kind in
-    let item : ℕ = 64 * c.from.result + c.loop-j.j in
-    there c.bytes_in.result (bytes_in kind (piece_of c.args.words.now.fixed.base c.args.piece.now) item)
-    (subst (λ (base : ℕ). option_copied c.bytes_in.result ≡ bytes_in kind (piece_of base c.args.piece.now) item) c.base-base.ensures.value c.bytes_in.ensures.value)
-    (c.requires.own.has item (item_in c.args.group c.args.mask c.loop-j.j item (omega arith) c.loop-j-test.true (sym c.if-has_bit.ensures)))
 
 pub store_words-requires-clause-own : goal.store_words-requires-clause-own
 store_words-requires-clause-own g c =

@@ -1,10 +1,6 @@
 use Rattle.std.proofs.Common.{ℕ, ◌<◌, subst}
-use Rattle.store_calls.proofs.Storing.{owns_on, word_more}
+use Rattle.store_calls.proofs.Storing.{word_more}
 use Rattle.store_calls.proofs.items.store_words.Goals as goal
-
-pub store-requires-clause-own : goal.store-requires-clause-own
-store-requires-clause-own g c =
-    owns_on g.K.Item.kind c.args.grip.now.view c.loop-word.grip.view c.args.item c.loop-word.invariant.1.rest c.requires.own
 
 pub loop-word-preserved : goal.loop-word-preserved
 loop-word-preserved g c = (

@@ -1,4 +1,4 @@
-use Rattle.std.proofs.Common.{◌≡◌, ℕ, ◌*◌, ◌%◌, ◌≤◌, nat_lt, true, false, not, ◌&&◌, List, Option, Some, is_some, sym, ap, subst, ◌∙◌, arith}
+use Rattle.std.proofs.Common.{inr, refl, ◌≡◌, ℕ, ◌*◌, ◌%◌, ◌≤◌, nat_lt, true, false, not, ◌&&◌, List, Option, Some, is_some, sym, ap, subst, ◌∙◌, arith}
 use Rattle.std.proofs.lemmas.Bool.{le-ltb, lt-ltb}
 use Rattle.b3tree.specs.Valid.{IsKeyed}
 use Rattle.store_core.specs.declared.fixed.Fixed.{Fixed}
@@ -16,8 +16,7 @@ use Rattle.store_core.specs.Masks.{IsMaskOf, has_bit}
 use Rattle.store_core.specs.Pieces.{holds_parent}
 use Rattle.store_core.proofs.HasRoom.{recorded_fits}
 use Rattle.store_calls.proofs.AllParents.{all_parents, none_absent, saw_nothing}
-use Rattle.store_calls.proofs.ParentsCommitting.{group_absent, length_differs, length_stays, only_seen, other_is, parents_bind, parents_stored, words_written}
-use Rattle.store_calls.proofs.ParentsStoring.{own_parents}
+use Rattle.store_calls.proofs.ParentsCommitting.{group_absent, length_differs, only_seen, other_is, parents_bind, parents_stored, words_written, own_parents}
 use Rattle.store_calls.proofs.parents.commit_parents.Goals as goal
 
 pub returns-then-ne-clause-called : goal.returns-then-ne-clause-called
@@ -34,35 +33,31 @@ returns-then-ne-clause-binds c =
     parents_bind c.args.words.now c.length_to_store-length.new.grip (subst (λ (f : Fixed). IsKeyed f.mode) c.fixed-fixed.ensures c.is_keyed.ensures)
     c.length_to_store-length.ensures.of
 
-pub returns-then-group-div_ceil-clause-called : goal.returns-then-group-div_ceil-clause-called
-returns-then-group-div_ceil-clause-called c =
+pub returns-then-group-div_ceil : goal.returns-then-group-div_ceil
+returns-then-group-div_ceil c =
     let piece : Piece = piece_of c.args.words.now.fixed.base c.args.piece.now in
     let load = c.length_to_store-length in
-    let is : load.result ≡ Some (length_of piece) =
-    recorded_is load.result c.claimed.result c.ne.result c.ne.ensures c.if-ne.false ∙ ap (λ (l : ℕ). Some l) c.claimed.ensures in
+    let view : SeatView = load.new.grip.view in
+    let there : (state_after view.seen).recorded ≡ Some (length_of piece) =
+    sym load.ensures.recorded ∙ recorded_is load.result c.claimed.result c.ne.result c.ne.ensures c.if-ne.false ∙ ap (λ (l : ℕ). Some l) c.claimed.ensures in
     let count : c.fixed-fixed.result.capacity ≡ c.args.words.now.fixed.capacity = ap (λ (f : Fixed). f.capacity) c.fixed-fixed.ensures in
+    let same : view.fixed.capacity ≡ c.args.words.now.fixed.capacity = ap (λ (f : Fixed). f.capacity) load.ensures.of.knows.fixed_is in
+    let fits : length_of piece ≤ 1024 * view.fixed.capacity = recorded_fits view.fixed view.seen (length_of piece) load.ensures.of.knows.legal there in
     let absent : nat_lt c.args.group (groups c.args.grip.now.view.fixed) ≡ false =
     ap (λ (f : Fixed). nat_lt c.args.group (groups f)) c.requires.of.knows.fixed_is ∙ le-ltb c.args.group (groups c.args.words.now.fixed) (omega (arith, count)) in
-    group_absent c.args.group piece c.args.grip.now.view load.new.grip.view c.requires.of.knows.legal load.ensures.looked (sym load.ensures.recorded ∙ is) absent
-
-pub returns-then-group-div_ceil-clause-binds : goal.returns-then-group-div_ceil-clause-binds
-returns-then-group-div_ceil-clause-binds c =
-    parents_bind c.args.words.now c.length_to_store-length.new.grip (subst (λ (f : Fixed). IsKeyed f.mode) c.fixed-fixed.ensures c.is_keyed.ensures)
-    c.length_to_store-length.ensures.of
+    record {
+      of = load.ensures.of;
+      called = group_absent c.args.group piece c.args.grip.now.view view c.requires.of.knows.legal load.ensures.looked there absent;
+      alone = λ all. none_absent c.args.words.now.fixed.capacity c.args.group piece (state_after c.args.grip.now.view.seen) (omega (arith, fits, same)) (omega (arith, count));
+      absent = λ none. inr refl;
+      binds = parents_bind c.args.words.now load.new.grip (subst (λ (f : Fixed). IsKeyed f.mode) c.fixed-fixed.ensures c.is_keyed.ensures) load.ensures.of;
+    }
 
 pub store_items-requires-clause-own : goal.store_items-requires-clause-own
 store_items-requires-clause-own c =
     own_parents c.args.group c.parents_in-want.result c.claim_parents-mask.result c.fixed-fixed.result.capacity (piece_of c.args.words.now.fixed.base c.args.piece.now)
     c.length_to_store-length.new.grip.view c.claim_parents-mask.new.grip.view c.parents_in-want.ensures c.claim_parents-mask.ensures.among c.claim_parents-mask.ensures.claimed
     (ap (λ (f : Fixed). f.capacity) (c.claim_parents-mask.ensures.of.knows.fixed_is ∙ sym c.fixed-fixed.ensures))
-
-pub publish_parents-requires-clause-length : goal.publish_parents-requires-clause-length
-publish_parents-requires-clause-length c =
-    let piece : Piece = piece_of c.args.words.now.fixed.base c.args.piece.now in
-    let load = c.length_to_store-length in
-    length_stays c.args.group c.claim_parents-mask.result piece load.new.grip.view c.claim_parents-mask.new.grip.view c.store_items.new.grip.view
-    c.claim_parents-mask.ensures.claimed c.store_items.ensures.stored
-    ∙ sym load.ensures.recorded ∙ recorded_is load.result c.claimed.result c.ne.result c.ne.ensures c.if-ne.false ∙ ap (λ (l : ℕ). Some l) c.claimed.ensures
 
 pub publish_parents-requires-clause-written : goal.publish_parents-requires-clause-written
 publish_parents-requires-clause-written c =
@@ -73,55 +68,34 @@ publish_parents-requires-clause-written c =
     c.claim_parents-mask.new.grip.view c.parents_in-want.ensures c.claim_parents-mask.ensures.among c.claim_parents-mask.ensures.claimed
     (ap (λ (f : Fixed). f.capacity) (c.claim_parents-mask.ensures.of.knows.fixed_is ∙ sym c.fixed-fixed.ensures)))
 
-pub returns-clause-called : goal.returns-clause-called
-returns-clause-called c =
+pub returns : goal.returns
+returns c =
     let piece : Piece = piece_of c.args.words.now.fixed.base c.args.piece.now in
     let load = c.length_to_store-length in
-    let is : load.result ≡ Some (length_of piece) =
-    recorded_is load.result c.claimed.result c.ne.result c.ne.ensures c.if-ne.false ∙ ap (λ (l : ℕ). Some l) c.claimed.ensures in
-    let count : c.fixed-fixed.result.capacity ≡ c.args.words.now.fixed.capacity = ap (λ (f : Fixed). f.capacity) c.fixed-fixed.ensures in
-    let within : nat_lt c.args.group (groups c.args.grip.now.view.fixed) ≡ true =
-    ap (λ (f : Fixed). nat_lt c.args.group (groups f)) c.requires.of.knows.fixed_is ∙ lt-ltb c.args.group (groups c.args.words.now.fixed) (omega (arith, count)) in
-    parents_stored c.args.group piece c.args.grip.now.view load.new.grip.view c.requires.of.knows.legal load.ensures.looked
-    c.claim_parents-mask.result c.claim_parents-mask.new.grip.view c.store_items.new.grip.view c.publish_parents.new.grip.view
-    (sym load.ensures.recorded ∙ is) within c.requires.none c.claim_parents-mask.ensures.claimed c.store_items.ensures.stored c.publish_parents.ensures.called
-
-pub returns-clause-binds : goal.returns-clause-binds
-returns-clause-binds c =
-    parents_bind c.args.words.now c.publish_parents.new.grip (subst (λ (f : Fixed). IsKeyed f.mode) c.fixed-fixed.ensures c.is_keyed.ensures)
-    c.publish_parents.ensures.of
-
-pub returns-then-group-div_ceil-clause-alone : goal.returns-then-group-div_ceil-clause-alone
-returns-then-group-div_ceil-clause-alone c = λ all.
-    let piece : Piece = piece_of c.args.words.now.fixed.base c.args.piece.now in
-    let load = c.length_to_store-length in
-    let is : load.result ≡ Some (length_of piece) =
-    recorded_is load.result c.claimed.result c.ne.result c.ne.ensures c.if-ne.false ∙ ap (λ (l : ℕ). Some l) c.claimed.ensures in
-    let view : SeatView = load.new.grip.view in
-    let fits : length_of piece ≤ 1024 * view.fixed.capacity = recorded_fits view.fixed view.seen (length_of piece) load.ensures.of.knows.legal (sym load.ensures.recorded ∙ is) in
-    let count : c.fixed-fixed.result.capacity ≡ c.args.words.now.fixed.capacity = ap (λ (f : Fixed). f.capacity) c.fixed-fixed.ensures in
-    let same : view.fixed.capacity ≡ c.args.words.now.fixed.capacity = ap (λ (f : Fixed). f.capacity) load.ensures.of.knows.fixed_is in
-    none_absent c.args.words.now.fixed.capacity c.args.group piece (state_after c.args.grip.now.view.seen) (omega (arith, fits, same)) (omega (arith, count))
-
-pub returns-clause-alone : goal.returns-clause-alone
-returns-clause-alone c = λ all.
-    let piece : Piece = piece_of c.args.words.now.fixed.base c.args.piece.now in
-    let load = c.length_to_store-length in
+    let claim = c.claim_parents-mask in
+    let capacity : ℕ = c.args.words.now.fixed.capacity in
     let old : SeatView = c.args.grip.now.view in
     let view : SeatView = load.new.grip.view in
-    let is : load.result ≡ Some (length_of piece) =
-    recorded_is load.result c.claimed.result c.ne.result c.ne.ensures c.if-ne.false ∙ ap (λ (l : ℕ). Some l) c.claimed.ensures in
-    let there : (state_after view.seen).recorded ≡ Some (length_of piece) = sym load.ensures.recorded ∙ is in
-    let count : c.fixed-fixed.result.capacity ≡ c.args.words.now.fixed.capacity = ap (λ (f : Fixed). f.capacity) c.fixed-fixed.ensures in
-    let same : view.fixed.capacity ≡ c.args.words.now.fixed.capacity = ap (λ (f : Fixed). f.capacity) load.ensures.of.knows.fixed_is in
+    let there : (state_after view.seen).recorded ≡ Some (length_of piece) =
+    sym load.ensures.recorded ∙ recorded_is load.result c.claimed.result c.ne.result c.ne.ensures c.if-ne.false ∙ ap (λ (l : ℕ). Some l) c.claimed.ensures in
+    let count : c.fixed-fixed.result.capacity ≡ capacity = ap (λ (f : Fixed). f.capacity) c.fixed-fixed.ensures in
     let within : nat_lt c.args.group (groups old.fixed) ≡ true =
     ap (λ (f : Fixed). nat_lt c.args.group (groups f)) c.requires.of.knows.fixed_is ∙ lt-ltb c.args.group (groups c.args.words.now.fixed) (omega (arith, count)) in
-    let saw : Sees old view = only_seen c.args.group piece old view c.requires.of.knows.legal load.ensures.looked there within in
-    let whole : AreAllNames view.names = subst (λ (ns : List Named). AreAllNames ns) (sym saw.goes_on.names_are) all in
-    let seen : view.seen ≡ old.seen = saw_nothing old view saw (c.claim_parents-mask.ensures.own whole) in
-    let fits : length_of piece ≤ 1024 * c.args.words.now.fixed.capacity = omega (arith, same, recorded_fits view.fixed view.seen (length_of piece) load.ensures.of.knows.legal there) in
-    let wants : IsMaskOf c.args.group c.parents_in-want.result (λ m. nat_lt m c.args.words.now.fixed.capacity && holds_parent piece m) =
-    subst (λ (n : ℕ). IsMaskOf c.args.group c.parents_in-want.result (λ m. nat_lt m n && holds_parent piece m)) count c.parents_in-want.ensures in
-    all_parents c.args.words.now.fixed.capacity c.args.group c.parents_in-want.result c.claim_parents-mask.result piece (state_after old.seen) fits wants
-    (subst (λ (xs : List Event). IsMaskOf c.args.group c.claim_parents-mask.result (λ m. has_bit c.parents_in-want.result (m % 64)
-    && (nat_lt m c.args.words.now.fixed.capacity && not (is_some ((state_after xs).parents m))))) seen (c.claim_parents-mask.ensures.alone whole))
+    record {
+      of = c.publish_parents.ensures.of;
+      called = parents_stored c.args.group piece old view c.requires.of.knows.legal load.ensures.looked claim.result claim.new.grip.view c.store_items.new.grip.view
+          c.publish_parents.new.grip.view there within c.requires.none claim.ensures.claimed c.store_items.ensures.stored c.publish_parents.ensures.called;
+      alone = λ all.
+          let same : view.fixed.capacity ≡ capacity = ap (λ (f : Fixed). f.capacity) load.ensures.of.knows.fixed_is in
+          let saw : Sees old view = only_seen c.args.group piece old view c.requires.of.knows.legal load.ensures.looked there within in
+          let whole : AreAllNames view.names = subst (λ (ns : List Named). AreAllNames ns) (sym saw.goes_on.names_are) all in
+          let seen : view.seen ≡ old.seen = saw_nothing old view saw (claim.ensures.own whole) in
+          let fits : length_of piece ≤ 1024 * capacity = omega (arith, same, recorded_fits view.fixed view.seen (length_of piece) load.ensures.of.knows.legal there) in
+          let wants : IsMaskOf c.args.group c.parents_in-want.result (λ m. nat_lt m capacity && holds_parent piece m) =
+          subst (λ (n : ℕ). IsMaskOf c.args.group c.parents_in-want.result (λ m. nat_lt m n && holds_parent piece m)) count c.parents_in-want.ensures in
+          all_parents capacity c.args.group c.parents_in-want.result claim.result piece (state_after old.seen) fits wants
+          (subst (λ (xs : List Event). IsMaskOf c.args.group claim.result (λ m. has_bit c.parents_in-want.result (m % 64)
+          && (nat_lt m capacity && not (is_some ((state_after xs).parents m))))) seen (claim.ensures.alone whole));
+      absent = λ none. absurd (none (omega (arith, count)));
+      binds = parents_bind c.args.words.now c.publish_parents.new.grip (subst (λ (f : Fixed). IsKeyed f.mode) c.fixed-fixed.ensures c.is_keyed.ensures) c.publish_parents.ensures.of;
+    }

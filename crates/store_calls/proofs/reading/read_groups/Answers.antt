@@ -3,11 +3,12 @@ use Rattle.store_core.specs.declared.fixed.Fixed.{Fixed}
 use Rattle.store_core.specs.Histories.{state_after}
 use Rattle.store_calls.specs.Filled.{IsBufferFilled}
 use Rattle.store_calls.specs.Reading.{SeatDidRead}
-use Rattle.store_calls.proofs.Ending.{IsGoing, filled_now, read_less, read_on, read_whole}
+use Rattle.store_calls.proofs.Ending.{read_less, read_on, read_whole}
 use Rattle.store_steps.specs.Grips.{Gripped}
 use Rattle.store_steps.specs.Reads.{group_end}
 use Rattle.store_steps.specs.Words.{IsGripOf}
 use Rattle.store_calls.proofs.reading.read_groups.Goals as goal
+use Rattle.store_core.specs.Knowledge.{Sees}
 
 pub returns-then-next-out-clause-read : goal.returns-then-next-out-clause-read
 returns-then-next-out-clause-read c =
@@ -39,16 +40,13 @@ groups-preserved c =
     let limit : c.limit_of-limit.result ≡ 1024 * fixed.capacity = c.limit_of-limit.ensures ∙ ap (λ (f : Fixed). 1024 * f.capacity) c.fixed.ensures in
     let less : c.copy_group-next.result < length c.args.out.now = omega (arith, copied.filled.within, copied.filled.size, c.groups.invariant.2.size, c.if-next-out.false) in
     let end : group_end c.groups.group ≤ c.args.at + c.copy_group-next.result = omega (arith, c.if-position-end_of.false, c.end_of.ensures) in
-    let below : c.args.at + c.copy_group-next.result < 1024 * fixed.capacity = omega (arith, c.if-limit-position.false, limit) in (
+    let below : c.args.at + c.copy_group-next.result < 1024 * fixed.capacity = omega (arith, c.if-limit-position.false, limit) in
+    let on = read_on fixed c.args.grip.now.view c.groups.grip.view c.load-held.new.grip.view c.groups.group c.args.at c.groups.done c.copy_group-next.result _
+    c.args.out.now c.groups.out c.copy_group-next.new.out c.groups.invariant.0.knows.fixed_is c.groups.invariant.1 c.groups.invariant.2 refl c.load-held.ensures.looked
+    copied.filled copied.stops less end below in (
       subst (λ (g : Gripped). IsGripOf c.args.words.now g) (sym copied.same) c.load-held.ensures.of,
-      subst (λ (g : Gripped). IsGoing c.args.grip.now.view g.view) (sym copied.same)
-          (read_on fixed c.args.grip.now.view c.groups.grip.view c.load-held.new.grip.view c.groups.group c.args.at c.groups.done c.copy_group-next.result _
-          c.args.out.now c.groups.out c.copy_group-next.new.out c.groups.invariant.0.knows.fixed_is c.groups.invariant.1 c.groups.invariant.2 refl c.load-held.ensures.looked
-          copied.filled copied.stops less end below),
-      subst (λ (g : Gripped). IsBufferFilled (state_after g.view.seen) c.args.at 0 c.copy_group-next.result c.args.out.now c.copy_group-next.new.out) (sym copied.same)
-          (filled_now fixed c.args.grip.now.view c.groups.grip.view c.load-held.new.grip.view c.groups.group c.args.at c.groups.done c.copy_group-next.result _
-          c.args.out.now c.groups.out c.copy_group-next.new.out c.groups.invariant.0.knows.fixed_is c.groups.invariant.1 c.groups.invariant.2 refl c.load-held.ensures.looked
-          copied.filled copied.stops),
+      subst (λ (g : Gripped). Sees c.args.grip.now.view g.view) (sym copied.same) on.0,
+      subst (λ (g : Gripped). IsBufferFilled (state_after g.view.seen) c.args.at 0 c.copy_group-next.result c.args.out.now c.copy_group-next.new.out) (sym copied.same) on.1,
       omega (arith, end),
       omega (arith, copied.stops.within),
       below,

@@ -2,13 +2,13 @@ use Rattle.std.proofs.Common.{◌+◌, ◌*◌, ◌-◌, ◌<◌, ◌≤◌, len
 use Rattle.store_core.specs.Histories.{state_after}
 use Rattle.store_core.specs.Machine.{groups}
 use Rattle.store_calls.specs.Filled.{IsBufferFilled}
-use Rattle.store_calls.proofs.Ending.{IsGoing}
+use Rattle.store_core.specs.Knowledge.{Sees}
 use Rattle.store_steps.specs.Reads.{group_end}
 use Rattle.store_steps.specs.Words.{IsGripOf}
 use Rattle.store_calls.proofs.reading.read_groups.Given as goal
 
 abbrev pub invariant-groups : goal.invariant-groups
-invariant-groups l = IsGripOf l.words l.grip × IsGoing l.initial.grip.view l.grip.view
+invariant-groups l = IsGripOf l.words l.grip × Sees l.initial.grip.view l.grip.view
     × IsBufferFilled (state_after l.grip.view.seen) l.at 0 l.done l.initial.out l.out
     × (65536 * l.group ≤ l.at + l.done) × (l.at + l.done < group_end l.group)
     × (l.at + l.done < 1024 * l.words.fixed.capacity) × (l.done < length l.out)

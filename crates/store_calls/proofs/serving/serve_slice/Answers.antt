@@ -76,19 +76,18 @@ nodes-preserved c =
       below_next capacity next (rest_of c.nodes.rest) (rest_of c.next-next-in-Some-next.new.self) c.next-next-in-Some-next.ensures.steps below.1,
     )
 
-pub returns-clause-binds : goal.returns-clause-binds
-returns-clause-binds c =
+pub returns : goal.returns
+returns c =
     let first : SeatView = c.args.grip.now.view in
     let new : SeatView = c.nodes.grip.view in
-    let called : Called (Serve c.args.start c.args.len (Text c.nodes.out.items)) first new =
-    subst (λ (o : Option Node). IsServing first new c.args.start c.args.len o (rest_of c.nodes.rest) c.nodes.out.items) c.in_default-next.is c.nodes.invariant.1 in
-    serve_binds first new c.args.start c.args.len c.nodes.out.items
-    (subst (λ (f : Fixed). IsKeyed f.mode) (c.fixed.ensures ∙ sym c.nodes.invariant.0.knows.fixed_is) c.is_keyed.ensures) called
-
-pub returns-clause-accepted : goal.returns-clause-accepted
-returns-clause-accepted c =
-    let first : SeatView = c.args.grip.now.view in
-    let new : SeatView = c.nodes.grip.view in
-    let called : Called (Serve c.args.start c.args.len (Text c.nodes.out.items)) first new =
-    subst (λ (o : Option Node). IsServing first new c.args.start c.args.len o (rest_of c.nodes.rest) c.nodes.out.items) c.in_default-next.is c.nodes.invariant.1 in
-    serve_accepted first new c.args.start c.args.len c.nodes.out.items called
+    let text : List ℕ = c.nodes.out.items in
+    let called : Called (Serve c.args.start c.args.len (Text text)) first new =
+    subst (λ (o : Option Node). IsServing first new c.args.start c.args.len o (rest_of c.nodes.rest) text) c.in_default-next.is c.nodes.invariant.1 in
+    record {
+      of = c.nodes.invariant.0;
+      served = called;
+      refused = tt;
+      storing = called.storing_is;
+      binds = serve_binds first new c.args.start c.args.len text (subst (λ (f : Fixed). IsKeyed f.mode) (c.fixed.ensures ∙ sym c.nodes.invariant.0.knows.fixed_is) c.is_keyed.ensures) called;
+      accepted = serve_accepted first new c.args.start c.args.len text called;
+    }

@@ -1,14 +1,14 @@
 use Rattle.std.proofs.Common.{subst}
 use Rattle.store_shared.specs.Seats.{Gripped}
 use Rattle.store_core.specs.Knowledge.{AreMet}
-use Rattle.store_shared.proofs.Claiming.{met_apart, met_first, met_keeps_first, met_keeps_second, met_second, were_apart}
+use Rattle.store_shared.proofs.Claiming.{met_apart, were_apart, met_claims, met_keeps}
 use Rattle.store_shared.proofs.assembly.Assembly.meet.Goals as goal
 
 pub invariant_of-first : goal.invariant_of-first
-invariant_of-first c = met_first _ _ _ _ _ c.first.invariant c.meet.ensures.met
+invariant_of-first c = let m = c.meet.ensures.met in met_claims _ _ _ m.history _ c.first.invariant m.first_is m.after_first m.legal
 
 pub invariant_of-second : goal.invariant_of-second
-invariant_of-second c = met_second _ _ _ _ _ c.second.invariant c.meet.ensures.met
+invariant_of-second c = let m = c.meet.ensures.met in met_claims _ _ _ m.history _ c.second.invariant m.second_is m.after_second m.legal
 
 pub returns-clause-met : goal.returns-clause-met
 returns-clause-met c =
@@ -18,8 +18,8 @@ returns-clause-met c =
 pub returns-clause-claims : goal.returns-clause-claims
 returns-clause-claims c =
     let met : AreMet c.args.first.now.view c.args.second.now.view c.meet.new.first.view c.meet.new.second.view = returns-clause-met c in (
-      met_keeps_first c.args.first.now.view c.args.second.now.view c.meet.new.first.view c.meet.new.second.view met,
-      met_keeps_second c.args.first.now.view c.args.second.now.view c.meet.new.first.view c.meet.new.second.view met,
+      met_keeps _ c.args.first.now.view c.meet.new.first.view met.history met.first_is met.after_first met.legal,
+      met_keeps _ c.args.second.now.view c.meet.new.second.view met.history met.second_is met.after_second met.legal,
     )
 
 pub returns-clause-apart : goal.returns-clause-apart

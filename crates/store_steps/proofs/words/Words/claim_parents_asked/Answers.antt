@@ -5,14 +5,13 @@ use Rattle.store_core.specs.declared.fixed.Fixed.{Fixed}
 use Rattle.store_core.specs.declared.view.SeatView.{SeatView}
 use Rattle.store_core.specs.Histories.{state_after}
 use Rattle.store_core.specs.Knowledge.{AreAllNames}
-use Rattle.store_core.specs.Machine.{groups}
 use Rattle.store_core.specs.Masks.{IsMaskOf, has_bit}
 use Rattle.store_steps.specs.Grips.{Gripped, first_of}
 use Rattle.store_steps.specs.Layout.{parent_claim_place}
 use Rattle.store_steps.specs.Plays.{ClaimsParents}
 use Rattle.store_core.proofs.Bits.{has_bit-and}
 use Rattle.store_steps.proofs.Taking.{claim_parents_steps, granted_mask}
-use Rattle.store_steps.proofs.StepViews.{at_code}
+use Rattle.store_steps.proofs.StepViews.{step_asks}
 use Rattle.store_steps.proofs.words.Words.claim_parents_asked.Goals as goal
 
 pub fetch_or-before-requires : goal.fetch_or-before-requires
@@ -20,24 +19,17 @@ fetch_or-before-requires g c =
     let words = c.args.self.now in
     let fixed : Fixed = words.fixed in
     let seat = c.grip.inside.seat in
-    let view : SeatView = first_of seat.me.0 in
-    let its : view ≡ c.args.grip.now.view = ap (λ (x : Gripped). x.view) c.grip.view_is in
     let group : ℕ = g.A.Asked.group in
     let mask : ℕ = bit_and c.mask_below.result c.args.want in
     let same : group ≡ c.args.group = c.requires.asked in
-    let there : group < groups fixed = omega (arith, same, c.requires.group) in
     let asks : (m : ℕ) → m / 64 ≡ group → has_bit mask (m % 64) ≡ true → m < fixed.capacity =
     λ m here is.
     let both = and_parts (has_bit c.mask_below.result (m % 64)) (has_bit c.args.want (m % 64)) (sym (has_bit-and c.mask_below.result c.args.want (m % 64)) ∙ is) in
     ltb-true m fixed.capacity (sym (c.mask_below.ensures.bits m (here ∙ same) ∙ ap (λ (e : ℕ). nat_lt m e) c.from.ensures) ∙ both.0) in
-    let none : view.storing ≡ [] = subst (λ (v : SeatView). v.storing ≡ []) (sym its) c.requires.none in (
-      ap (λ (x : Gripped). x.table_id) c.grip.view_is ∙ c.requires.of.table_is,
-      omega (arith, c.parent_claim_place-place.ensures.within, words.count),
-      at_code fixed words.table.shared.key words.key_is words.table.shared.table_id.slots seat.id seat.me c.grip.invariant.0
-          (parent_claim_place fixed group) c.parent_claim_place-place.result (c.parent_claim_place-place.ensures.place ∙ ap (λ (k : ℕ). parent_claim_place fixed k) (sym same))
-          (λ n. bit_or n mask) (λ n. ClaimsParents group mask n) (λ s kept at small.
-          claim_parents_steps fixed s kept seat.id view at group mask there asks none small),
-    )
+    step_asks words seat c.grip.view_is c.requires.of c.grip.invariant.0 (c.parent_claim_place-place.ensures.place ∙ ap (λ (k : ℕ). parent_claim_place fixed k) (sym same))
+    c.parent_claim_place-place.ensures.within (λ n. bit_or n mask) (λ n. ClaimsParents group mask n) (λ s kept at small.
+    claim_parents_steps fixed s kept seat.id _ at group mask (omega (arith, same, c.requires.group)) asks
+    (subst (λ (x : Gripped). x.view.storing ≡ []) (sym c.grip.view_is) c.requires.none) small)
 
 pub returns-clause-among : goal.returns-clause-among
 returns-clause-among g c = λ j is.

@@ -1,28 +1,19 @@
-use Rattle.std.proofs.Common.{◌≡◌, ap, subst, ◌∙◌, refl, arith}
-use Rattle.store_core.specs.declared.fixed.Fixed.{Fixed}
+use Rattle.std.proofs.Common.{◌≡◌, slice_index, subst, refl, arith}
 use Rattle.store_core.specs.declared.history.Call.{Call}
 use Rattle.store_core.specs.declared.history.Call.TheVariants.{Give}
-use Rattle.store_core.specs.declared.view.SeatView.{SeatView}
-use Rattle.store_steps.specs.Grips.{Gripped, first_of}
-use Rattle.store_steps.specs.Plays.{Gives}
+use Rattle.store_steps.specs.Grips.{first_of}
 use Rattle.store_core.specs.Knowledge.{Did}
-use Rattle.store_steps.proofs.StepViews.{at_code, told_by}
+use Rattle.store_steps.proofs.StepViews.{Steps, step_asks}
 use Rattle.store_steps.proofs.Absent.{give_none_steps}
 use Rattle.store_steps.proofs.words.Words.give_none_asked.Goals as goal
 
 pub load-requires : goal.load-requires
 load-requires g c =
     let words = c.args.self.now in
-    let fixed : Fixed = words.fixed in
     let seat = c.grip.inside.seat in
-    let view : SeatView = first_of seat.me.0 in
     let call : Call = Give g.A.Asked.group g.A.Asked.first g.A.Asked.second in
-    let same : Give c.args.group c.args.mask 0 ≡ call = cc in (
-      ap (λ (x : Gripped). x.table_id) c.grip.view_is ∙ c.requires.of.table_is,
-      omega (arith, words.count),
-      at_code fixed words.table.shared.key words.key_is words.table.shared.table_id.slots seat.id seat.me c.grip.invariant.0 0 0 refl
-          (λ n. n) (λ n old new. Did call old new) (λ s kept at small.
-          told_by fixed s seat.id 0 _ (λ new. Gives c.args.group c.args.mask 0 view new) (λ new. Did call view new)
-          (λ new t. subst (λ (x : Call). Did x view new) same t)
-          (give_none_steps fixed s kept seat.id view at words.some c.args.group c.requires.group c.args.mask)),
-    )
+    let same : Give c.args.group c.args.mask 0 ≡ call = cc in
+    step_asks words seat c.grip.view_is c.requires.of c.grip.invariant.0 refl (omega arith)
+    (λ n. n) (λ n. Did call) (λ s kept at small.
+    subst (λ (x : Call). Steps words.fixed s seat.id 0 (slice_index s.words 0) (λ new. Did x (first_of seat.me.0) new)) same
+    (give_none_steps words.fixed s kept seat.id _ at words.some c.args.group c.requires.group c.args.mask))

@@ -1,12 +1,11 @@
-use Rattle.std.proofs.Common.{◌≡◌, List, [], ◌∷◌, sym, ap, subst, ◌∙◌, arith}
-use Rattle.atomic_table.specs.Table.{Me}
+use Rattle.std.proofs.Common.{◌≡◌, sym, ap, subst, ◌∙◌, arith}
 use Rattle.store_core.specs.declared.view.SeatView.{SeatView}
 use Rattle.store_core.proofs.Ordering.{join_keeps_order}
 use Rattle.store_steps.specs.Grips.{Gripped, first_of}
 use Rattle.store_core.specs.Knowledge.{IsMerged}
 use Rattle.store_steps.specs.Plays.{Merges}
 use Rattle.store_steps.proofs.Lists.{only, two_of}
-use Rattle.store_steps.proofs.Meeting.{at_two, merge_turns}
+use Rattle.store_steps.proofs.Meeting.{merge_turns, turn_asks}
 use Rattle.store_steps.proofs.Regrouping.{join_asks}
 use Rattle.store_steps.proofs.words.Words.merge.Goals as goal
 
@@ -19,58 +18,45 @@ join_seat-requires c =
       ap (λ (x : Gripped). x.table_id) c.second.view_is ∙ c.requires.second.table_is,
       c.second.invariant.1,
       omega (arith, words.count),
-      join_asks words.fixed words.table.shared.key words.key_is seat.id other.id seat.me.0 other.me.0 c.first.invariant.0 c.second.invariant.0,
+      join_asks words seat.id other.id seat.me.0 other.me.0 c.first.invariant.0 c.second.invariant.0,
     )
 
 pub load-requires : goal.load-requires
 load-requires c =
     let words = c.args.self.now in
-    let one : SeatView = first_of c.first.inside.seat.me.0 in
-    let two : SeatView = first_of c.second.inside.seat.me.0 in
+    let one = c.first.inside.seat.me in
+    let two = c.second.inside.seat.me in
     let both = c.join_seat.new.seat in
-    let is : both.me.0 ≡ one ∷ two ∷ [] =
-    ap (λ (m : Me Unit (List SeatView)). m.0) c.join_seat.ensures.2
-    ∙ two_of c.first.inside.seat.me.0 c.second.inside.seat.me.0 c.first.invariant.0 c.second.invariant.0 in (
-      c.join_seat.ensures.0 ∙ ap (λ (x : Gripped). x.table_id) c.first.view_is ∙ c.requires.first.table_is,
-      omega (arith, words.count),
-      at_two words.fixed words.table.shared.key words.key_is words.table.shared.table_id.slots both.id both.me one two is Merges
-          (λ s kept at. merge_turns words.fixed s kept both.id one two at),
-    )
+    turn_asks words both (c.join_seat.ensures.0 ∙ ap (λ (x : Gripped). x.table_id) c.first.view_is ∙ c.requires.first.table_is) (first_of one.0) (first_of two.0)
+    (two_of both.me one two c.join_seat.ensures.2 c.first.invariant.0 c.second.invariant.0) Merges
+    (λ s kept at. merge_turns words.fixed s kept both.id (first_of one.0) (first_of two.0) at)
 
 pub invariant_of-result : goal.invariant_of-result
 invariant_of-result c =
-    let one : SeatView = first_of c.first.inside.seat.me.0 in
-    let two : SeatView = first_of c.second.inside.seat.me.0 in
-    let is : c.join_seat.new.seat.me.0 ≡ one ∷ two ∷ [] =
-    ap (λ (m : Me Unit (List SeatView)). m.0) c.join_seat.ensures.2
-    ∙ two_of c.first.inside.seat.me.0 c.second.inside.seat.me.0 c.first.invariant.0 c.second.invariant.0 in
-    let t = c.load.ensures.2 one two is in (
+    let one = c.first.inside.seat.me in
+    let two = c.second.inside.seat.me in
+    let t = c.load.ensures.2 (first_of one.0) (first_of two.0) (two_of c.join_seat.new.seat.me one two c.join_seat.ensures.2 c.first.invariant.0 c.second.invariant.0) in (
       only c.load.new.seat.me.0 t.0.view t.0.is,
-      t.1 ∙ ap (λ (m : Me Unit (List SeatView)). m.1) c.join_seat.ensures.2 ∙ c.first.invariant.1,
+      t.1 ∙ ap (λ m. m.1) c.join_seat.ensures.2 ∙ c.first.invariant.1,
     )
 
-pub returns-clause-merged : goal.returns-clause-merged
-returns-clause-merged c =
-    let one : SeatView = first_of c.first.inside.seat.me.0 in
-    let two : SeatView = first_of c.second.inside.seat.me.0 in
+pub returns : goal.returns
+returns c =
+    let one = c.first.inside.seat.me in
+    let two = c.second.inside.seat.me in
     let later : SeatView = first_of c.load.new.seat.me.0 in
-    let is : c.join_seat.new.seat.me.0 ≡ one ∷ two ∷ [] =
-    ap (λ (m : Me Unit (List SeatView)). m.0) c.join_seat.ensures.2
-    ∙ two_of c.first.inside.seat.me.0 c.second.inside.seat.me.0 c.first.invariant.0 c.second.invariant.0 in
-    let t = c.load.ensures.2 one two is in
-    let view : t.0.view ≡ later = sym (ap (λ (vs : List SeatView). first_of vs) t.0.is) in
-    subst (λ (v : SeatView). IsMerged v c.args.second.view later) (ap (λ (x : Gripped). x.view) c.first.view_is)
-    (subst (λ (v : SeatView). IsMerged one v later) (ap (λ (x : Gripped). x.view) c.second.view_is)
-    (subst (λ (v : SeatView). IsMerged one two v) view t.0.merged))
-
-pub returns-clause-of : goal.returns-clause-of
-returns-clause-of c =
-    let m : IsMerged c.args.first.view c.args.second.view (first_of c.load.new.seat.me.0) = returns-clause-merged c in
+    let t = c.load.ensures.2 (first_of one.0) (first_of two.0) (two_of c.join_seat.new.seat.me one two c.join_seat.ensures.2 c.first.invariant.0 c.second.invariant.0) in
+    let view : t.0.view ≡ later = sym (ap first_of t.0.is) in
+    let m : IsMerged c.args.first.view c.args.second.view later =
+    subst (λ (v : SeatView × SeatView × SeatView). IsMerged v.0 v.1 v.2) (λ i. ((c.first.view_is i).view, (c.second.view_is i).view, view i)) t.0.merged in
     record {
-      table_is = c.load.ensures.0 ∙ c.join_seat.ensures.0 ∙ ap (λ (x : Gripped). x.table_id) c.first.view_is ∙ c.requires.first.table_is;
-      knows = record {
-        fixed_is = m.joined.fixed_first ∙ c.requires.first.knows.fixed_is;
-        legal = m.legal;
-        ordered = join_keeps_order c.args.first.view c.args.second.view (first_of c.load.new.seat.me.0) m.joined m.apart c.requires.first.knows.ordered c.requires.second.knows.ordered;
+      of = record {
+        table_is = c.load.ensures.0 ∙ c.join_seat.ensures.0 ∙ ap (λ (x : Gripped). x.table_id) c.first.view_is ∙ c.requires.first.table_is;
+        knows = record {
+          fixed_is = m.joined.fixed_first ∙ c.requires.first.knows.fixed_is;
+          legal = m.legal;
+          ordered = join_keeps_order c.args.first.view c.args.second.view later m.joined m.apart c.requires.first.knows.ordered c.requires.second.knows.ordered;
+        };
       };
+      merged = m;
     }
