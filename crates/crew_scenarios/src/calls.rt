@@ -5,8 +5,8 @@ use crate::holder::source_of;
 use crate::line::short;
 use crate::texts::{Texts, told};
 use anyhow::{Context, Result, bail};
-use bao_check::check_outboard;
-use crews::{How, gather, gather_copies, gather_texts};
+use bao_check::{Outline, check_outboard};
+use crews::{How, Whole, gather, gather_copies, gather_texts};
 use gather::{Form, GatherFault, Grain};
 use std::alloc::Global;
 use std::thread::Threads;
@@ -15,6 +15,14 @@ use store_core::Fixed;
 fn blob_or(alloc: Global, gathered: Result<Vec<u8>, GatherFault>) -> Result<String> {
     match gathered {
         Ok(blob) => told(alloc, blob.as_slice()),
+        Err(fault) => Ok(format!(in alloc; "{fault}")?),
+    }
+}
+
+// The same of a blob that its store holds still.
+fn whole_or(alloc: Global, gathered: Result<Whole, GatherFault>) -> Result<String> {
+    match gathered {
+        Ok(mut whole) => told(alloc, whole.to_vec(alloc)?.as_slice()),
         Err(fault) => Ok(format!(in alloc; "{fault}")?),
     }
 }
@@ -61,14 +69,16 @@ fn by_texts<R: Threads + Sync>(
         alloc,
         gather_texts(rt, alloc, root, mode, capacity, workers, grain, given),
     )?;
-    if grain == Grain::Group {
-        let alone = gather::gather_texts(alloc, root, mode, capacity, given);
-        let alone = blob_or(alloc, alone)?;
-        if alone.as_str() != said.as_str() {
-            return Ok(format!(in alloc; "{alone} alone, {said} together")?);
-        }
+    if grain == Grain::Chunk {
+        return Ok(said);
     }
-    Ok(said)
+    let alone = gather::gather_texts(alloc, root, mode, capacity, given);
+    let alone = blob_or(alloc, alone)?;
+    if alone.as_str() == said.as_str() {
+        Ok(said)
+    } else {
+        Ok(format!(in alloc; "{alone} alone, {said} together")?)
+    }
 }
 
 // A store for the blob of the texts.
@@ -101,14 +111,64 @@ fn by_sources<R: Threads + Sync>(
         grain,
         room: short(room)?,
     };
-    match gather(rt, alloc, &fixed, &Form::Slices, how, sources.as_slice()) {
-        Ok(mut whole) => told(alloc, whole.to_vec(alloc)?.as_slice()),
-        Err(fault) => Ok(format!(in alloc; "{fault}")?),
-    }
+    whole_or(
+        alloc,
+        gather(rt, alloc, &fixed, &Form::Slices, how, sources.as_slice()),
+    )
 }
 
-// The same out of plain copies beside an outboard encoding, in memory or read by position.
+// The same out of plain copies in memory beside an outboard encoding.
 fn by_copies<R: Threads + Sync>(
+    rt: &R,
+    alloc: Global,
+    texts: &Texts,
+    outline: &Outline<'_>,
+    workers: u32,
+    capacity: u32,
+    grain: Grain,
+    names: &[&str],
+) -> Result<String> {
+    let copies = bytes_of(alloc, texts, names)?;
+    let copies = copies.as_slice();
+    blob_or(
+        alloc,
+        gather_copies(rt, alloc, outline, capacity, workers, grain, copies),
+    )
+}
+
+// The same out of plain copies that are read by position.
+fn by_copies_at<R: Threads + Sync>(
+    rt: &R,
+    alloc: Global,
+    texts: &Texts,
+    outline: &Outline<'_>,
+    workers: u32,
+    capacity: u32,
+    grain: Grain,
+    words: &[&str],
+) -> Result<String> {
+    let copies = sources_of(alloc, texts, words)?;
+    let fixed = fixed_of(texts, capacity);
+    let how = How {
+        workers,
+        grain,
+        room: capacity,
+    };
+    whole_or(
+        alloc,
+        gather(
+            rt,
+            alloc,
+            &fixed,
+            &Form::Bare(outline),
+            how,
+            copies.as_slice(),
+        ),
+    )
+}
+
+// The same out of either, beside the outboard encoding that is said first.
+fn beside<R: Threads + Sync>(
     rt: &R,
     alloc: Global,
     texts: &Texts,
@@ -121,24 +181,9 @@ fn by_copies<R: Threads + Sync>(
     let (outline, words) = words.split_first().context("an outboard encoding")?;
     let outline = check_outboard(alloc, &texts.mode, &texts.root, texts.get(outline)?)?;
     if name == "copies" {
-        let copies = bytes_of(alloc, texts, words)?;
-        let copies = copies.as_slice();
-        return blob_or(
-            alloc,
-            gather_copies(rt, alloc, &outline, capacity, workers, grain, copies),
-        );
-    }
-    let copies = sources_of(alloc, texts, words)?;
-    let fixed = fixed_of(texts, capacity);
-    let how = How {
-        workers,
-        grain,
-        room: capacity,
-    };
-    let form = Form::Bare(&outline);
-    match gather(rt, alloc, &fixed, &form, how, copies.as_slice()) {
-        Ok(mut whole) => told(alloc, whole.to_vec(alloc)?.as_slice()),
-        Err(fault) => Ok(format!(in alloc; "{fault}")?),
+        by_copies(rt, alloc, texts, &outline, workers, capacity, grain, words)
+    } else {
+        by_copies_at(rt, alloc, texts, &outline, workers, capacity, grain, words)
     }
 }
 
@@ -157,6 +202,6 @@ pub fn gathered<R: Threads + Sync>(
     match name {
         "gather" => by_texts(rt, alloc, texts, workers, capacity, grain, rest),
         "sources" => by_sources(rt, alloc, texts, workers, capacity, grain, rest),
-        _ => by_copies(rt, alloc, texts, name, workers, capacity, grain, rest),
+        _ => beside(rt, alloc, texts, name, workers, capacity, grain, rest),
     }
 }

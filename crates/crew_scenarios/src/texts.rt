@@ -158,8 +158,11 @@ impl Texts {
         alloc: Global,
         name: &str,
         called: &str,
-        word: &str,
+        given: &[&str],
     ) -> Result<Option<String>> {
+        let [word] = given else {
+            return Ok(None);
+        };
         let found = self.texts.iter_mut().find(|it| it.name.as_str() == called);
         let Some(text) = found else {
             return Ok(None);
@@ -190,11 +193,9 @@ impl Texts {
     // Makes or changes a text, and tells it.
     pub fn make(&mut self, alloc: Global, name: &str, words: &[&str]) -> Result<String> {
         let (called, given) = words.split_first().context("a name")?;
-        if let [word] = given {
-            if let Some(said) = self.changed(alloc, name, called, word)? {
-                return Ok(said);
-            }
+        match self.changed(alloc, name, called, given)? {
+            Some(said) => Ok(said),
+            None => self.renew(alloc, name, called, given),
         }
-        self.renew(alloc, name, called, given)
     }
 }
