@@ -113,25 +113,24 @@ test:
 	@python3 scripts/bench.py --read
 	@python3 scripts/manual.py out/manual
 	@$(MAKE) --no-print-directory -j 3 proofs scenarios refusals
-	@python3 scripts/docs.py crates/bao_gather/out/bao_gather
-	@python3 scripts/proved_by_ci.py berylwool
-	@$(MAKE) --no-print-directory -j 2 --output-sync=recurse trials c-trials
 
 # The parts of make test that take long, some at a time, so that no processor waits for one of them. What needs no proof takes what
-# rt ci leaves.
+# rt ci leaves, and so do the trials of the program and of the C library, each from when it is proved.
 proofs:
-	rt ci
+	@python3 scripts/ci.py
 
 refusals:
 	@nice -n 10 python3 scripts/refuse_libraries.py
 
 trials:
+	@python3 scripts/docs.py crates/bao_gather/out/bao_gather
 	@python3 scripts/program_scenarios.py crates/bao_gather/out/bao_gather{,.by-rattle}
 	@python3 scripts/refuse.py crates/bao_gather/out/bao_gather
 	@python3 scripts/replaced.py crates/bao_gather/out/bao_gather
 	@python3 scripts/memory.py crates/bao_gather/out/bao_gather
 
 c-trials:
+	@python3 scripts/proved_by_ci.py berylwool
 	@$(MAKE) --no-print-directory c-library
 	@if $(HAS_CURL); then fetch=fetch-test; else fetch=; echo 'left out: make fetch-test, since libcurl with its headers is not installed here'; fi; \
 	    $(MAKE) --no-print-directory -j 2 --output-sync=recurse c-test $$fetch
