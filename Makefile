@@ -113,9 +113,10 @@ test:
 	@python3 scripts/bench.py --read
 	@python3 scripts/manual.py out/manual
 	@$(MAKE) --no-print-directory -j 3 proofs scenarios refusals
+	@python3 scripts/program_scenarios.py crates/bao_gather/out/bao_gather{,.by-rattle}
 
 # The parts of make test that take long, some at a time, so that no processor waits for one of them. What needs no proof takes what
-# rt ci leaves, and so do the trials of the program and of the C library, each from when it is proved.
+# rt ci leaves, and so do the trials of the program and of the C library, each from when the crate is proved that it waits for.
 proofs:
 	@python3 scripts/ci.py
 
@@ -123,11 +124,13 @@ refusals:
 	@nice -n 10 python3 scripts/refuse_libraries.py
 
 trials:
-	@python3 scripts/docs.py crates/bao_gather/out/bao_gather
-	@python3 scripts/program_scenarios.py crates/bao_gather/out/bao_gather{,.by-rattle}
-	@python3 scripts/refuse.py crates/bao_gather/out/bao_gather
-	@python3 scripts/replaced.py crates/bao_gather/out/bao_gather
-	@python3 scripts/memory.py crates/bao_gather/out/bao_gather
+	@python3 scripts/proved_by_ci.py bao_gather
+	@$(MAKE) --no-print-directory out/bao_gather
+	@python3 scripts/docs.py out/bao_gather
+	@python3 scripts/program_scenarios.py out/bao_gather
+	@nice -n 5 python3 scripts/refuse.py out/bao_gather
+	@nice -n 5 python3 scripts/replaced.py out/bao_gather
+	@nice -n 5 python3 scripts/memory.py out/bao_gather
 
 c-trials:
 	@python3 scripts/proved_by_ci.py berylwool

@@ -1,12 +1,12 @@
 #!/usr/bin/env python3
-"""Runs rt ci, and beside it the trials of what it proved: each as soon as rt says that its crate is proved.
+"""Runs rt ci, and beside it the trials of what it proved, each as soon as rt says that the crate is proved that it waits for.
 
 usage: python3 scripts/ci.py
 
-At the top of the repository. rt says so in a line, once the crate is proved and what is made of it is built, in this run or in an earlier one. The trials take
-what rt ci leaves of the processors. The C library is built in a copy of the repository, out of what rt keeps of its proofs, since rt ci holds the crates until it
-ends. An rt that keeps nothing has left them here then, and the library is built here. What rt ci prints is printed as it comes, and what the trials print once all
-have ended. The exit status is that of rt ci, or of the first trials that failed. Where rt ci fails, no trials are begun after it.
+At the top of the repository. rt says so in a line, once the crate is proved, in this run or in an earlier one. What the trials try is built in a copy of the
+repository, out of what rt keeps of its proofs, since rt ci holds the crates until it ends. An rt that keeps nothing has left them here then, and the trials are
+made here. What rt ci prints is printed as it comes, and what the trials print once all have ended. The exit status is that of rt ci, or of the last trials that
+failed. Where rt ci fails, no trials are begun after it.
 """
 import os
 import re
@@ -18,16 +18,16 @@ import tempfile
 sys.dont_write_bytecode = True
 import rt_module
 
-# The trials, targets of the Makefile, by the crate that they try.
-TRIALS = {"bao_gather": "trials", "berylwool": "c-trials"}
+# The trials, targets of the Makefile, by the crate that they wait for: the program is little more than bao_command.
+TRIALS = {"bao_command": "trials", "berylwool": "c-trials"}
 
-# Those that prove something once more, so that they want the crates for themselves. They do it one function at a time, which takes the processors least.
-PROVING, ONE_JOB = {"c-trials"}, "JOBS=1"
+# What they build is proved once more, by one process, which takes the processors least.
+ONE_JOB = "JOBS=1"
 
 PROVED = re.compile(r"rt: (\w+) (?:proved$|is kept:)")
 
-# No proof of this repository takes so many bytes with one job. rt counts on up to twice as many, and would leave a processor idle where these aren't there.
-ROOM = 4 << 30
+# No proof of this repository takes so many bytes with one job, and most take a third. rt counts on more, and would leave a processor idle where that isn't there.
+ROOM = 5 << 30
 
 
 def keeps(rt):
@@ -54,7 +54,7 @@ class Trial:
         # (a make that runs this has its jobs for itself)
         how = {"cwd": folder, "env": {name: it for name, it in os.environ.items() if name not in ("MAKEFLAGS", "MFLAGS", "MAKELEVEL", "RT_JOBS")}}
         how |= {"stdin": subprocess.DEVNULL, "stdout": self.said, "stderr": subprocess.STDOUT}
-        self.ran = subprocess.Popen(["nice", "-n", "5", "make", "--no-print-directory", target, *words], **how)
+        self.ran = subprocess.Popen(["make", "--no-print-directory", target, *words], **how)
 
     def end(self):
         """Waits for its end, prints what it said, and returns its status."""
@@ -72,19 +72,14 @@ def main():
     lanes(rt)
     with tempfile.TemporaryDirectory(prefix="berylwool-ci-") as room:
 
-        def begin(target):
-            folder = "."
-            if target in PROVING:
-                folder = f"{room}/{target}"
-                copy_to(folder)
-            begun.append(Trial(target, folder, *[ONE_JOB] * (target in PROVING)))
-
         with subprocess.Popen(["rt", "ci"], stdout=subprocess.PIPE, text=True, errors="replace") as ci:
             for line in ci.stdout:
                 print(line, end="", flush=True)
                 said = PROVED.match(line)
-                if said and said[1] in waits and (is_kept or waits[said[1]] not in PROVING):
-                    begin(waits.pop(said[1]))
+                if is_kept and said and said[1] in waits:
+                    target = waits.pop(said[1])
+                    copy_to(f"{room}/{target}")
+                    begun.append(Trial(target, f"{room}/{target}", ONE_JOB))
             status = ci.wait()
         if not status:
             for target in waits.values():
