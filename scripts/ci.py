@@ -71,7 +71,6 @@ def main():
     is_kept = keeps(rt)
     lanes(rt)
     with tempfile.TemporaryDirectory(prefix="berylwool-ci-") as room:
-
         with subprocess.Popen(["rt", "ci"], stdout=subprocess.PIPE, text=True, errors="replace") as ci:
             for line in ci.stdout:
                 print(line, end="", flush=True)

@@ -23,7 +23,7 @@ use Rattle.bao_check.proofs.Ways.{way_whole}
 use Rattle.bao_bind.specs.declared.pair.Pair.{Pair}
 use Rattle.bao_bind.specs.Search.{Finds, TreeHasChunk, part_inputs}
 use Rattle.bao_bind.specs.Verdict.{AgreesWith, IsOurs}
-use Rattle.bao_bind.proofs.Found.{Finds-within}
+use Rattle.bao_bind.proofs.CollidingPairs.{Finds-within}
 use Rattle.bao_bind.proofs.Walks.{Searches, part_subtree, searches_same}
 
 module _ (blob : List ℕ) (piece : Checked) (number : ℕ) (bytes : List ℕ) (there : chunk_in (piece_text piece) (piece_places piece) number ≡ Some bytes) where

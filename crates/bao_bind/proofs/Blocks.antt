@@ -13,7 +13,7 @@ use Rattle.bao_check.proofs.Marked.{SameParts, same_parts}
 use Rattle.bao_check.proofs.Naming.{earlier_there, last_there}
 use Rattle.bao_bind.specs.declared.pair.Pair.{Pair}
 use Rattle.bao_bind.specs.Search.{Finds}
-use Rattle.bao_bind.proofs.Found.{Finds-within, Names-by}
+use Rattle.bao_bind.proofs.CollidingPairs.{Finds-within, Names-by}
 
 module _ (mode : Mode) (i j : ℕ) (s t : List ℕ) (valid_s : AreBytes s) (valid_t : AreBytes t) where
   -- the blocks' inputs are the same but for ROOT

@@ -1,4 +1,4 @@
-mod Found
+mod CollidingPairs
 mod Blocks
 mod TreeChunks
 mod Walks

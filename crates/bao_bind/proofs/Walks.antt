@@ -21,7 +21,7 @@ use Rattle.bao_check.proofs.Ways.{AtChunk, AtParent, way_chunk, way_parent}
 use Rattle.bao_bind.specs.declared.pair.Pair.{Pair}
 use Rattle.bao_bind.specs.Search.{Finds, TreeHasChunk, part_inputs}
 use Rattle.bao_bind.proofs.TreeChunks.{chunk_left, chunk_right, chunk_whole}
-use Rattle.bao_bind.proofs.Found.{Finds-within, Names-by}
+use Rattle.bao_bind.proofs.CollidingPairs.{Finds-within, Names-by}
 
 pub part_subtree : (top : Bool) (mode : Mode) (first : ℕ) (s : List ℕ) → subtree_inputs top mode first s ≡ part_inputs top mode first s
 unfolding subtree_inputs

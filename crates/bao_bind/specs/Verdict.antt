@@ -8,7 +8,7 @@ use Rattle.bao_check.specs.Checked.{HoldsLast, piece_claimed, piece_mode, piece_
 use Rattle.bao_check.specs.Inputs.{Names, blob_inputs, text_inputs}
 use Rattle.bao_check.specs.Parents.{parent_in, parent_of}
 use Rattle.bao_check.specs.Pieces.{chunk_in, chunk_of}
-use Rattle.bao_bind.specs.declared.part.Part.{Part}
+use Rattle.bao_bind.specs.declared.chunk_run.ChunkRun.{ChunkRun}
 use Rattle.bao_bind.specs.declared.verdict.ParentVerdict.{ParentVerdict}
 use Rattle.bao_bind.specs.declared.verdict.ParentVerdict.TheVariants as parents
 use Rattle.bao_bind.specs.declared.verdict.Verdict.{Verdict}
@@ -47,7 +47,7 @@ abbrev pub IsOurs : List ℕ → ℕ → ℕ → List ℕ → Type 0
 IsOurs blob claimed number bytes = (chunk_of blob number ≡ Some bytes) × (number + 1 ≡ chunk_count claimed → claimed ≡ length blob)
 
 -- What comparing the chunks of the piece before number `to` found: that all are the blob's, or one that isn't.
-abbrev pub Compared : List ℕ → Checked → ℕ → Option Part → Type 0
+abbrev pub Compared : List ℕ → Checked → ℕ → Option ChunkRun → Type 0
 Compared blob piece to None =
     (number : ℕ) (bytes : List ℕ) → number < to → chunk_in (piece_text piece) (piece_places piece) number ≡ Some bytes → IsOurs blob (piece_claimed piece) number bytes
 Compared blob piece to (Some chunk) =

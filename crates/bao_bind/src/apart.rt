@@ -7,9 +7,9 @@ ghost use Rattle.bao_bind.specs.Apart.{AreOurs, HasParentsOver, nodes_over};
 ghost use Rattle.bao_bind.specs.Search.{FindsOnly, part_inputs};
 ghost use Rattle.bao_bind.specs.Verdict.{SaysOfParents};
 
+use crate::chunk_run::ChunkRun;
 use crate::pair::{Pair, are_same, marked};
 use crate::parents::{Parents, input_of};
-use crate::part::Part;
 use crate::verdict::{AuditFault, ParentVerdict};
 use b3tree::{CHUNK_LEN, Cv, Mode, cv, hash, left_len, parent_input, subtree_cv};
 use bao_check::Checked;
@@ -20,7 +20,7 @@ fn parents_apart<P: Parents>(
     mode: &Mode,
     parents: &P,
     top: bool,
-    ours: &Part<'_>,
+    ours: &ChunkRun<'_>,
 ) -> (Cv, Option<Pair>)
     requires range { 1024 * ours.now.first + length ours.now.bytes.now ≤ 2 ^ 64 - 1 }
     ensures value { result.0.0 ≡ subtree_cv mode.now ours.now.first ours.now.bytes.now }
@@ -74,7 +74,7 @@ pub fn audit_parents(blob: &[u8], piece: &Checked<'_>) -> Result<ParentVerdict, 
     // Laws, so that the proof has what they say: nothing runs.
     mode.is_keyed();
     piece.is_accepted();
-    let ours = Part {
+    let ours = ChunkRun {
         first: 0,
         bytes: blob,
     };

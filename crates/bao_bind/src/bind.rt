@@ -8,7 +8,7 @@ ghost use Rattle.bao_check.specs.Pieces.{chunk_in, chunk_of};
 ghost use Rattle.bao_text.specs.Choice.{chunk_count};
 ghost use Rattle.bao_bind.specs.Verdict.{AgreesWith, Compared, IsFirst, IsForged, IsOfBlob, IsOfOther, IsOurs, NamesFrom, Says};
 
-use crate::part::Part;
+use crate::chunk_run::ChunkRun;
 use crate::search::walk;
 use crate::verdict::{AuditFault, Verdict};
 use b3tree::{CHUNK_LEN, Hash, Hasher, Input};
@@ -50,8 +50,8 @@ fn first_apart<'a>(
     piece: &Checked<'a>,
     from: u64,
     to: u64,
-    apart: Option<Part<'a>>,
-) -> Option<Part<'a>>
+    apart: Option<ChunkRun<'a>>,
+) -> Option<ChunkRun<'a>>
     ensures { Compared blob.now piece.now from apart.entry → Compared blob.now piece.now to result }
 {
     if let Some(chunk) = apart {
@@ -62,7 +62,7 @@ fn first_apart<'a>(
     'chunks: for number in first.max(from)..after.min(to) {
         if let Some(bytes) = piece.chunk(number) {
             if !is_ours(blob, claimed, number, bytes) {
-                return Some(Part {
+                return Some(ChunkRun {
                     first: number,
                     bytes,
                 });
@@ -74,7 +74,7 @@ fn first_apart<'a>(
 
 // The blob's hash in the piece's mode, and the first chunk of the piece that isn't the blob's. Each share of
 // the blob is compared as soon as it was hashed.
-fn hash_and_compare<'a>(blob: &[u8], piece: &Checked<'a>) -> (Hash, Option<Part<'a>>)
+fn hash_and_compare<'a>(blob: &[u8], piece: &Checked<'a>) -> (Hash, Option<ChunkRun<'a>>)
     ensures hash { result.0.0 ≡ hash (piece_mode piece.now) blob.now }
     ensures agrees { IfNone result.1 (AgreesWith blob.now piece.now) }
     ensures there { IfSome result.1 (λ chunk. chunk_in (piece_text piece.now) (piece_places piece.now) chunk.first ≡ Some chunk.bytes.now) }
@@ -122,7 +122,7 @@ pub fn audit(blob: &[u8], piece: &Checked<'_>) -> Result<Verdict, AuditFault>
     let mode = piece.mode();
     // A law, so that the proof has what it says: nothing runs.
     mode.is_keyed();
-    let ours = Part {
+    let ours = ChunkRun {
         first: 0,
         bytes: blob,
     };

@@ -4,8 +4,8 @@ ghost use Rattle.b3tree.specs.Chunk.{block_count, chunk_input, last_chunk_input}
 ghost use Rattle.bao_check.specs.Inputs.{marked, whole_chunk};
 ghost use Rattle.bao_bind.specs.Search.{Finds};
 
+use crate::chunk_run::ChunkRun;
 use crate::pair::{Pair, are_same, marked};
-use crate::part::Part;
 use b3tree::{BLOCK_LEN, Mode, bytes_are, chunk_input};
 
 // The number of a chunk's last block.
@@ -18,7 +18,13 @@ fn last_block(bytes: &[u8]) -> usize
 // From block `k` of the one chunk and block `l` of the other, whose inputs are the same, back to the first
 // blocks: the inputs of the nearest two that differ, so that both have the chaining value that is the next
 // ones' own.
-fn blocks_apart(mode: &Mode, ours: &Part<'_>, k: usize, theirs: &Part<'_>, l: usize) -> Option<Pair>
+fn blocks_apart(
+    mode: &Mode,
+    ours: &ChunkRun<'_>,
+    k: usize,
+    theirs: &ChunkRun<'_>,
+    l: usize,
+) -> Option<Pair>
     requires our_len { length ours.now.bytes.now ≤ 1024 }
     requires our_block { k < block_count (length ours.now.bytes.now) }
     requires their_len { length theirs.now.bytes.now ≤ 1024 }
@@ -46,8 +52,8 @@ fn blocks_apart(mode: &Mode, ours: &Part<'_>, k: usize, theirs: &Part<'_>, l: us
 pub(crate) fn chunks_apart(
     mode: &Mode,
     top: bool,
-    ours: &Part<'_>,
-    theirs: &Part<'_>,
+    ours: &ChunkRun<'_>,
+    theirs: &ChunkRun<'_>,
 ) -> Option<Pair>
     requires our_len { length ours.now.bytes.now ≤ 1024 }
     requires their_len { length theirs.now.bytes.now ≤ 1024 }

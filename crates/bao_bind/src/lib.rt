@@ -9,9 +9,9 @@ pub use verdict::{AuditFault, ParentVerdict, Verdict};
 
 mod apart;
 mod bind;
+mod chunk_run;
 mod chunks;
 mod pair;
 mod parents;
-mod part;
 mod search;
 mod verdict;

@@ -6,10 +6,10 @@ ghost use Rattle.bao_check.specs.Inputs.{marked};
 ghost use Rattle.bao_check.specs.Ways.{LeadsTo};
 ghost use Rattle.bao_bind.specs.Search.{Finds, TreeHasChunk, part_inputs};
 
+use crate::chunk_run::ChunkRun;
 use crate::chunks::chunks_apart;
 use crate::pair::{Pair, are_same, marked};
 use crate::parents::{Parents, input_of};
-use crate::part::Part;
 use b3tree::{CHUNK_LEN, Mode, left_len, top_input};
 
 // Goes down to `chunk` through two trees together, whose tops have one chaining value: that over `ours`, and
@@ -19,10 +19,10 @@ pub(crate) fn walk<P: Parents>(
     mode: &Mode,
     parents: &P,
     top: bool,
-    ours: &Part<'_>,
+    ours: &ChunkRun<'_>,
     number: u64,
     n: u64,
-    chunk: &Part<'_>,
+    chunk: &ChunkRun<'_>,
 ) -> Option<Pair>
     requires range { 1024 * number + n ≤ 2 ^ 64 - 1 }
     requires our_range { 1024 * ours.now.first + length ours.now.bytes.now ≤ 2 ^ 64 - 1 }

@@ -33,8 +33,8 @@ use Rattle.bao_check.proofs.Parts.{AreGood-split, below}
 use Rattle.bao_check.proofs.Presence.{Meets-from_wants, wants-from_Meets}
 use Rattle.bao_check.proofs.Sizes.{chunk_size, wants_whole}
 use Rattle.bao_check.proofs.EachNode.{chunk_node, leaf_nodes}
-use Rattle.bao_check.proofs.Made.{At_bytes, IsChunkMade, IsParentMade}
-use Rattle.bao_check.proofs.Made as encoded
+use Rattle.bao_check.proofs.NodesAsEncoding.{At_bytes, IsChunkMade, IsParentMade}
+use Rattle.bao_check.proofs.NodesAsEncoding as encoded
 
 -- the choice is of the chunks from `first` on, up to and without `after`
 pub record Ranges (total first after : ℕ) (choice : Choice) : Type 0 where

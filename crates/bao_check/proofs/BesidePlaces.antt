@@ -23,7 +23,7 @@ use Rattle.bao_check.proofs.Parts.{placed_nodes-All}
 use Rattle.bao_check.proofs.Presence.{Meets, Meets-from_wants}
 use Rattle.bao_check.proofs.Sizes.{nodes_size-without_chunks, wants_whole}
 use Rattle.bao_check.proofs.EachNode.{chunk_node, each_node}
-use Rattle.bao_check.proofs.Made.{At_bytes}
+use Rattle.bao_check.proofs.NodesAsEncoding.{At_bytes}
 
 -- The parents of a subtree are found among all places as they are among the subtree's own.
 pub record Finds (all : List (ℕ × TreeNode)) (choice : Choice) (number n : ℕ) (sides : List Side) (source at : ℕ) : Type 0 where

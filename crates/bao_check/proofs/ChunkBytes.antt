@@ -16,7 +16,7 @@ use Rattle.bao_text.proofs.NodeNaming.{bare, bare-anywhere}
 use Rattle.bao_text.proofs.SubtreeNodes.{subtree_nodes-leaf, subtree_nodes-parent, subtree_nodes-unwanted}
 use Rattle.bao_check.specs.declared.fault.CheckFault.{CheckFault}
 use Rattle.bao_check.specs.declared.fault.CheckFault.TheVariants.{Short, Mismatch, Trailing, Memory, Reader}
-use Rattle.bao_check.specs.declared.part.Part.{Part}
+use Rattle.bao_check.specs.declared.part.WaitingPart.{WaitingPart}
 use Rattle.bao_check.specs.Checking.{IsNodeFault}
 use Rattle.bao_check.specs.Decoded.{Decodes, Kind, chunk_bytes, decoded, kind, kinds_size, subtree_kinds, waiting_kinds}
 use Rattle.bao_check.specs.Waiting.{AllCome, CheckTask, HasRefused, HasRefusedIn, HasTaken, IsFaultAs, chunk_waits, is_chunk_first, last_part, next_size, part_size}
@@ -106,14 +106,14 @@ pub chunk_bytes-both : (xs ys : List Kind) (s more : List ℕ) → kinds_size xs
 chunk_bytes-both xs ys s more all = grind (arith, chunk_bytes-append, chunk_bytes-within, drop_at)
 
 -- a part that is put last comes first
-pub waiting_kinds-last : (choice : Choice) (xs : List Part) (x : Part) → waiting_kinds choice (xs ++ x ∷ []) ≡ subtree_kinds choice x.number x.len ++ waiting_kinds choice xs
+pub waiting_kinds-last : (choice : Choice) (xs : List WaitingPart) (x : WaitingPart) → waiting_kinds choice (xs ++ x ∷ []) ≡ subtree_kinds choice x.number x.len ++ waiting_kinds choice xs
 waiting_kinds-last choice [] x = sym (append-nil (subtree_kinds choice x.number x.len))
 waiting_kinds-last choice (y ∷ ys) x = grind (arith, append_assoc, waiting_kinds-last choice ys x)
 
-pub same_part : (o : Option Part) (one other : Part) → o ≡ Some one → o ≡ Some other → one ≡ other
+pub same_part : (o : Option WaitingPart) (one other : WaitingPart) → o ≡ Some one → o ≡ Some other → one ≡ other
 same_part o one other h k = grind arith
 
-pub waiting_kinds-put : (choice : Choice) (parts after : List Part) (part : Part) → after ≡ parts ++ part ∷ []
+pub waiting_kinds-put : (choice : Choice) (parts after : List WaitingPart) (part : WaitingPart) → after ≡ parts ++ part ∷ []
     → waiting_kinds choice after ≡ subtree_kinds choice part.number part.len ++ waiting_kinds choice parts
 waiting_kinds-put choice parts after part is = ap (waiting_kinds choice) is ∙ waiting_kinds-last choice parts part
 
@@ -124,7 +124,7 @@ text_of_both taken one other more = ap (λ (s : List ℕ). s ++ more) (append_as
 text_of_first : (taken one other more : List ℕ) → (taken ++ one) ++ (other ++ more) ≡ (taken ++ (one ++ other)) ++ more
 text_of_first taken one other more = sym (append_assoc (taken ++ one) other more) ∙ text_of_both taken one other more
 
-pub taken_both : (mode : Mode) (choice : Choice) (a b c : List Part) (one other : List ℕ) → HasTaken mode choice a b one → HasTaken mode choice b c other
+pub taken_both : (mode : Mode) (choice : Choice) (a b c : List WaitingPart) (one other : List ℕ) → HasTaken mode choice a b one → HasTaken mode choice b c other
     → HasTaken mode choice a c (one ++ other)
 taken_both mode choice a b c one other first second = record {
   comes = λ taken more o end h.
@@ -137,7 +137,7 @@ taken_both mode choice a b c one other first second = record {
 }
 
 -- a node that is refused after others were taken
-pub refused_later : (mode : Mode) (choice : Choice) (a b : List Part) (at used place size : ℕ) (bytes : List ℕ) (fault : CheckFault) → used ≤ length bytes → place ≡ at + used
+pub refused_later : (mode : Mode) (choice : Choice) (a b : List WaitingPart) (at used place size : ℕ) (bytes : List ℕ) (fault : CheckFault) → used ≤ length bytes → place ≡ at + used
     → HasTaken mode choice a b (take used bytes) → HasRefused mode choice b place size (drop used bytes) fault → HasRefusedIn mode choice a b at used bytes fault
 refused_later mode choice a b at used place size bytes fault within place_is taken refused = record {
   within = within;
@@ -159,7 +159,7 @@ refused_later mode choice a b at used place size bytes fault within place_is tak
 }
 
 -- a node that stands at the front of more bytes is refused there
-pub refused_front : (mode : Mode) (choice : Choice) (parts : List Part) (at n size : ℕ) (bytes : List ℕ) (fault : CheckFault) → n ≤ length bytes
+pub refused_front : (mode : Mode) (choice : Choice) (parts : List WaitingPart) (at n size : ℕ) (bytes : List ℕ) (fault : CheckFault) → n ≤ length bytes
     → HasRefused mode choice parts at size (take n bytes) fault → HasRefused mode choice parts at size bytes fault
 refused_front mode choice parts at n size bytes fault within refused = record {
   is = refused.is;
@@ -169,19 +169,19 @@ refused_front mode choice parts at n size bytes fault within refused = record {
       subst (λ (s : List ℕ). AllCome mode choice parts s (length had) (Some fault) (length had + size)) all (refused.stops had (drop n bytes ++ more) at_is);
 }
 
-pub decodes_both : (choice : Choice) (a b c : List Part) (one other first second : List ℕ) → Decodes choice a b one first → Decodes choice b c other second
+pub decodes_both : (choice : Choice) (a b c : List WaitingPart) (one other first second : List ℕ) → Decodes choice a b one first → Decodes choice b c other second
     → Decodes choice a c (one ++ other) (first ++ second)
 decodes_both choice a b c one other first second left_is right_is = grind (arith, append_assoc)
 
 -- all nodes of the part that comes first
-pub part_decodes : (choice : Choice) (before after : List Part) (part : Part) (node : List ℕ) → before ≡ after ++ part ∷ [] → kinds_size (subtree_kinds choice part.number part.len) ≡ length node
+pub part_decodes : (choice : Choice) (before after : List WaitingPart) (part : WaitingPart) (node : List ℕ) → before ≡ after ++ part ∷ [] → kinds_size (subtree_kinds choice part.number part.len) ≡ length node
     → Decodes choice before after node (chunk_bytes (subtree_kinds choice part.number part.len) node)
 part_decodes choice before after part node is all = λ more.
     ap (λ (ks : List Kind). chunk_bytes ks (node ++ more)) (waiting_kinds-put choice after before part is)
     ∙ chunk_bytes-both (subtree_kinds choice part.number part.len) (waiting_kinds choice after) node more all
 
 -- a chunk
-pub chunk_decodes : (choice : Choice) (before after : List Part) (part : Part) (node : List ℕ) → before ≡ after ++ part ∷ [] → wants choice (1024 * part.number) part.len ≡ true
+pub chunk_decodes : (choice : Choice) (before after : List WaitingPart) (part : WaitingPart) (node : List ℕ) → before ≡ after ++ part ∷ [] → wants choice (1024 * part.number) part.len ≡ true
     → choice.chunks ≡ true → part.len ≤ 1024 → length node ≡ part.len → Decodes choice before after node node
 chunk_decodes choice before after part node is wanted there one len =
     let kinds : subtree_kinds choice part.number part.len ≡ (true, part.len) ∷ [] = kinds-chunk choice part.number part.len wanted there one in
@@ -191,7 +191,7 @@ chunk_decodes choice before after part node is wanted there one len =
     subst (Decodes choice before after node) own (part_decodes choice before after part node is size)
 
 -- its parent alone, in whose place its parts come
-pub parent_decodes : (choice : Choice) (before rest after : List Part) (part : Part) (node : List ℕ) → before ≡ rest ++ part ∷ [] → wants choice (1024 * part.number) part.len ≡ true
+pub parent_decodes : (choice : Choice) (before rest after : List WaitingPart) (part : WaitingPart) (node : List ℕ) → before ≡ rest ++ part ∷ [] → wants choice (1024 * part.number) part.len ≡ true
     → 1024 < part.len → length node ≡ 64
     → waiting_kinds choice after ≡ (subtree_kinds choice part.number (left_len part.len) ++ subtree_kinds choice (part.number + left_len part.len / 1024) (part.len - left_len part.len)) ++ waiting_kinds choice rest
     → Decodes choice before after node []
@@ -204,13 +204,13 @@ parent_decodes choice before rest after part node is wanted parent len after_is 
     ∙ ap (chunk_bytes (waiting_kinds choice after)) (drop_at node more 64 len)
 
 -- a whole subtree at the front of the bytes
-pub whole_size : (part : Part) (choice : Choice) (mode : Mode) (len : ℕ) (bytes : List ℕ) → HasWholeAhead part.asked choice mode part.number part.len len bytes
+pub whole_size : (part : WaitingPart) (choice : Choice) (mode : Mode) (len : ℕ) (bytes : List ℕ) → HasWholeAhead part.asked choice mode part.number part.len len bytes
     → kinds_size (subtree_kinds choice part.number part.len) ≡ len
 whole_size part choice mode len bytes whole =
     omega (arith, kinds_size-nodes (subtree_nodes choice part.number part.len [] 0), (whole.passes (take len bytes) 0 ([], sym (append-nil (take len bytes))) [] 0).ends)
 
 -- is taken
-pub whole_taken_from : (mode : Mode) (choice : Choice) (before after : List Part) (part : Part) (len : ℕ) (bytes : List ℕ) → before ≡ after ++ part ∷ []
+pub whole_taken_from : (mode : Mode) (choice : Choice) (before after : List WaitingPart) (part : WaitingPart) (len : ℕ) (bytes : List ℕ) → before ≡ after ++ part ∷ []
     → wants choice (1024 * part.number) part.len ≡ true → HasWholeAhead part.asked choice mode part.number part.len len bytes → HasTaken mode choice before after (take len bytes)
 whole_taken_from mode choice before after part len bytes is wanted whole =
     let size : length (take len bytes) ≡ len = length-take-le len bytes whole.there in
@@ -222,7 +222,7 @@ whole_taken_from mode choice before after part len bytes is wanted whole =
     })
 
 -- and its chunks
-pub whole_decodes : (mode : Mode) (choice : Choice) (before after : List Part) (part : Part) (len : ℕ) (bytes : List ℕ) → before ≡ after ++ part ∷ []
+pub whole_decodes : (mode : Mode) (choice : Choice) (before after : List WaitingPart) (part : WaitingPart) (len : ℕ) (bytes : List ℕ) → before ≡ after ++ part ∷ []
     → HasWholeAhead part.asked choice mode part.number part.len len bytes → Decodes choice before after (take len bytes) (chunk_bytes (subtree_kinds choice part.number part.len) bytes)
 whole_decodes mode choice before after part len bytes is whole =
     let kinds : List Kind = subtree_kinds choice part.number part.len in
@@ -236,11 +236,11 @@ pub some_of : {A : Type 0} (o : Option A) (x : A) (P : A → Type 0) → o ≡ S
 some_of o x P is h = subst (λ (p : Option _). IfSome p P) is h
 
 -- a step more
-pub taken_more : (mode : Mode) (choice : Choice) (a b c : List Part) (bytes rest : List ℕ) (used len : ℕ) → rest ≡ drop used bytes → HasTaken mode choice a b (take used bytes)
+pub taken_more : (mode : Mode) (choice : Choice) (a b c : List WaitingPart) (bytes rest : List ℕ) (used len : ℕ) → rest ≡ drop used bytes → HasTaken mode choice a b (take used bytes)
     → HasTaken mode choice b c (take len rest) → HasTaken mode choice a c (take (used + len) bytes)
 taken_more mode choice a b c bytes rest used len is first second = grind (arith, take-add, taken_both)
 
-pub decodes_more : (choice : Choice) (a b c : List Part) (bytes rest had part all : List ℕ) (used len : ℕ) → rest ≡ drop used bytes → all ≡ had ++ part
+pub decodes_more : (choice : Choice) (a b c : List WaitingPart) (bytes rest had part all : List ℕ) (used len : ℕ) → rest ≡ drop used bytes → all ≡ had ++ part
     → Decodes choice a b (take used bytes) had → Decodes choice b c (take len rest) part → Decodes choice a c (take (used + len) bytes) all
 decodes_more choice a b c bytes rest had part all used len is all_is first second =
     subst (λ (T : Type 0). T) (λ i. Decodes choice a c (sym (take-add used len bytes ∙ ap (λ (s : List ℕ). take used bytes ++ take len s) (sym is)) i) (sym all_is i))
@@ -251,7 +251,7 @@ some_weaker None P Q f h = tt
 some_weaker (Some x) P Q f h = f x h
 
 -- what is decoded once the length is there
-pub decoded_begun : (start len total : ℕ) (choice : Choice) (parts : List Part) (header more : List ℕ) → length header ≡ 8 → total ≡ claimed header → choice ≡ of_slice total start len
+pub decoded_begun : (start len total : ℕ) (choice : Choice) (parts : List WaitingPart) (header more : List ℕ) → length header ≡ 8 → total ≡ claimed header → choice ≡ of_slice total start len
     → chunk_bytes (waiting_kinds choice parts) more ≡ chunk_bytes (subtree_kinds choice 0 total) more → decoded (header ++ more) start len ≡ chunk_bytes (waiting_kinds choice parts) more
 decoded_begun start len total choice parts header more size is chosen waits =
     let claims : claimed (header ++ more) ≡ total = claimed-append header more (omega (arith, size)) ∙ sym is in
@@ -262,22 +262,22 @@ decoded_begun start len total choice parts header more size is chosen waits =
     ∙ ap (λ (ks : List Kind). chunk_bytes ks more) kinds
     ∙ sym waits
 
-pub begun_waiting : (choice : Choice) (total : ℕ) (parts before : List Part) (more : List ℕ) → before ≡ [] → waiting_kinds choice parts ≡ subtree_kinds choice 0 total ++ waiting_kinds choice before
+pub begun_waiting : (choice : Choice) (total : ℕ) (parts before : List WaitingPart) (more : List ℕ) → before ≡ [] → waiting_kinds choice parts ≡ subtree_kinds choice 0 total ++ waiting_kinds choice before
     → chunk_bytes (waiting_kinds choice parts) more ≡ chunk_bytes (subtree_kinds choice 0 total) more
 begun_waiting choice total parts before more none kinds = grind (arith, append-nil)
 
 -- a blob of no bytes has a chunk of none
-pub begun_empty : (start len total : ℕ) (choice : Choice) (parts : List Part) (more : List ℕ) → parts ≡ [] → total ≡ 0 → choice ≡ of_slice total start len
+pub begun_empty : (start len total : ℕ) (choice : Choice) (parts : List WaitingPart) (more : List ℕ) → parts ≡ [] → total ≡ 0 → choice ≡ of_slice total start len
     → chunk_bytes (waiting_kinds choice parts) more ≡ chunk_bytes (subtree_kinds choice 0 total) more
 begun_empty start len total choice parts more none empty chosen = grind (arith, wants_whole, chunk_bytes-chunk)
 
 -- where nothing waits, all is decoded
-pub decoded_all : (choice : Choice) (parts : List Part) (taken blob : List ℕ) (start len : ℕ) → parts ≡ []
+pub decoded_all : (choice : Choice) (parts : List WaitingPart) (taken blob : List ℕ) (start len : ℕ) → parts ≡ []
     → decoded (taken ++ []) start len ≡ blob ++ chunk_bytes (waiting_kinds choice parts) [] → decoded taken start len ≡ blob
 decoded_all choice parts taken blob start len none h = grind (arith, append-nil)
 
 -- what is decoded after nodes, from what was before them
-pub decodes-taken : (choice : Choice) (before after : List Part) (taken node blob part : List ℕ) (start len : ℕ) → Decodes choice before after node part
+pub decodes-taken : (choice : Choice) (before after : List WaitingPart) (taken node blob part : List ℕ) (start len : ℕ) → Decodes choice before after node part
     → ((more : List ℕ) → decoded (taken ++ more) start len ≡ blob ++ chunk_bytes (waiting_kinds choice before) more)
     → (more : List ℕ) → decoded ((taken ++ node) ++ more) start len ≡ (blob ++ part) ++ chunk_bytes (waiting_kinds choice after) more
 decodes-taken choice before after taken node blob part start len step had more = grind (arith, append_assoc)
@@ -298,9 +298,9 @@ pub all_after_length : (taken bytes header nodes : List ℕ) → header ≡ take
 all_after_length taken bytes header nodes front back = grind (arith, append_assoc, take-append-drop)
 
 -- what one node has of the blob: a chunk its bytes, and a parent none
-one_decodes : (choice : Choice) (before after : List Part) (node : List ℕ) (first : Option Part) (n : ℕ) → last_part before ≡ first → option_map part_size first ≡ Some n
-    → ((part : Part) → last_part before ≡ Some part → part.len ≤ 1024 → Decodes choice before after node node)
-    → ((part : Part) → last_part before ≡ Some part → 1024 < part.len → Decodes choice before after node [])
+one_decodes : (choice : Choice) (before after : List WaitingPart) (node : List ℕ) (first : Option WaitingPart) (n : ℕ) → last_part before ≡ first → option_map part_size first ≡ Some n
+    → ((part : WaitingPart) → last_part before ≡ Some part → part.len ≤ 1024 → Decodes choice before after node node)
+    → ((part : WaitingPart) → last_part before ≡ Some part → 1024 < part.len → Decodes choice before after node [])
     → Decodes choice before after node (if is_chunk_first first then node else [])
 one_decodes choice before after node None n is some chunk parent = let none : None ≡ Some n = some in cc
 one_decodes choice before after node (Some part) n is some chunk parent = elim (leb_tells part.len 1024) [
@@ -308,14 +308,14 @@ one_decodes choice before after node (Some part) n is some chunk parent = elim (
   | inr more ↦ subst (λ (b : Bool). Decodes choice before after node (if b then node else [])) (sym more.0) (parent part is more.1)
 ]
 
-pub node_decodes : (choice : Choice) (before after : List Part) (node : List ℕ) (n : ℕ) → next_size before ≡ Some n
-    → ((part : Part) → last_part before ≡ Some part → part.len ≤ 1024 → Decodes choice before after node node)
-    → ((part : Part) → last_part before ≡ Some part → 1024 < part.len → Decodes choice before after node [])
+pub node_decodes : (choice : Choice) (before after : List WaitingPart) (node : List ℕ) (n : ℕ) → next_size before ≡ Some n
+    → ((part : WaitingPart) → last_part before ≡ Some part → part.len ≤ 1024 → Decodes choice before after node node)
+    → ((part : WaitingPart) → last_part before ≡ Some part → 1024 < part.len → Decodes choice before after node [])
     → Decodes choice before after node (if chunk_waits before then node else [])
 node_decodes choice before after node n some chunk parent = one_decodes choice before after node (last_part before) n refl some chunk parent
 
 -- What comes after a node, once it was taken: its bytes are the blob's where it is a chunk.
-pub decodes_node : (choice : Choice) (before after : List Part) (taken node blob own more : List ℕ) (start len : ℕ) → Decodes choice before after node own
+pub decodes_node : (choice : Choice) (before after : List WaitingPart) (taken node blob own more : List ℕ) (start len : ℕ) → Decodes choice before after node own
     → decoded (taken ++ (node ++ more)) start len ≡ blob ++ chunk_bytes (waiting_kinds choice before) (node ++ more)
     → decoded ((taken ++ node) ++ more) start len ≡ (blob ++ own) ++ chunk_bytes (waiting_kinds choice after) more
 decodes_node choice before after taken node blob own more start len decodes is = grind (arith, append_assoc)

@@ -10,7 +10,7 @@ use Rattle.b3tree.specs.declared.mode.Mode.{Mode}
 use Rattle.b3tree.specs.Chunk.{last_chunk_input}
 use Rattle.b3tree.specs.Tree.{IsLeftLen, left_len, parent_input}
 use Rattle.bao_text.specs.declared.choice.Choice.{Choice}
-use Rattle.bao_text.specs.declared.walk.Subtree.{Subtree}
+use Rattle.bao_text.specs.declared.walk.WaitingSubtree.{WaitingSubtree}
 use Rattle.bao_text.specs.Choice.{of_slice, wants}
 use Rattle.bao_text.specs.Cut.{claimed}
 use Rattle.bao_text.specs.NodeNames.{AreWaiting}
@@ -20,8 +20,8 @@ use Rattle.bao_check.specs.declared.asked.Asked.{Asked}
 use Rattle.bao_check.specs.declared.fault.CheckFault.{CheckFault}
 use Rattle.bao_check.specs.declared.fault.CheckFault.TheVariants.{Short, Mismatch, Trailing, Memory, Reader}
 use Rattle.b3word.specs.declared.input.Input.{Input}
-use Rattle.bao_check.specs.declared.form.Form.TheVariants.{Slice}
-use Rattle.bao_check.specs.declared.part.Part.{Part}
+use Rattle.bao_check.specs.declared.form.EncodingForm.TheVariants.{Slice}
+use Rattle.bao_check.specs.declared.part.WaitingPart.{WaitingPart}
 use Rattle.bao_check.specs.Accepted.{part_value, slice_nodes}
 use Rattle.bao_check.specs.Checking.{IsNodeFault}
 use Rattle.bao_check.specs.Streams.{IsOfBytes}
@@ -44,7 +44,7 @@ only_first asked number n mode choice text at o end (inl h) = h.1
 only_first asked number n mode choice text at o end (inr h) = grind arith
 
 -- a part put last comes first
-pub AllCome-last : (mode : Mode) (choice : Choice) (parts : List Part) (part : Part) (text : List ℕ) (at : ℕ) (o : Option CheckFault) (end : ℕ)
+pub AllCome-last : (mode : Mode) (choice : Choice) (parts : List WaitingPart) (part : WaitingPart) (text : List ℕ) (at : ℕ) (o : Option CheckFault) (end : ℕ)
     → FirstComes part.asked part.number part.len mode choice parts text at o end → AllCome mode choice (parts ++ part ∷ []) text at o end
 AllCome-last mode choice [] part text at o end (inl h) = inr (at, (refl, refl), h.1)
 AllCome-last mode choice [] part text at o end (inr h) = grind (arith, only_first)
@@ -54,7 +54,7 @@ AllCome-last mode choice (first ∷ later) part text at o end (inr (middle, pass
 AllCome-last mode choice (first ∷ later) part text at o end (inr (middle, passes, inr h)) =
     inr (h.0, AllCome-last mode choice later part text at None h.0 (inr (middle, passes, h.1)), h.2)
 
-pub AllCome-first : (mode : Mode) (choice : Choice) (parts : List Part) (part : Part) (text : List ℕ) (at : ℕ) (o : Option CheckFault) (end : ℕ)
+pub AllCome-first : (mode : Mode) (choice : Choice) (parts : List WaitingPart) (part : WaitingPart) (text : List ℕ) (at : ℕ) (o : Option CheckFault) (end : ℕ)
     → AllCome mode choice (parts ++ part ∷ []) text at o end → FirstComes part.asked part.number part.len mode choice parts text at o end
 AllCome-first mode choice [] part text at o end (inl h) = absurd (not_both (sym h.0 ∙ ap (λ (x : Option CheckFault). is_some x) h.1.0))
 AllCome-first mode choice [] part text at None end (inr h) = grind arith
@@ -62,21 +62,21 @@ AllCome-first mode choice [] part text at (Some fault) end (inr h) = grind arith
 AllCome-first mode choice (first ∷ later) part text at o end (inl h) = grind (arith, AllCome-first mode choice later part text at o end h.1)
 AllCome-first mode choice (first ∷ later) part text at o end (inr h) = grind (arith, not_both, AllCome-first mode choice later part text at None h.0 h.1)
 
-pub before_unwanted : (choice : Choice) (asked : Asked) (number n : ℕ) (parts : List Part) → wants choice (1024 * number) n ≡ false → IsBefore choice asked number n parts parts
+pub before_unwanted : (choice : Choice) (asked : Asked) (number n : ℕ) (parts : List WaitingPart) → wants choice (1024 * number) n ≡ false → IsBefore choice asked number n parts parts
 before_unwanted choice asked number n parts skipped =
     record { comes = λ mode text at o end inside h. inr (at, pass_unwanted asked mode choice number n text at inside skipped, h) }
 
-pub before_last : (choice : Choice) (parts after : List Part) (part : Part) → after ≡ parts ++ part ∷ [] → IsBefore choice part.asked part.number part.len parts after
+pub before_last : (choice : Choice) (parts after : List WaitingPart) (part : WaitingPart) → after ≡ parts ++ part ∷ [] → IsBefore choice part.asked part.number part.len parts after
 before_last choice parts after part is = search (arith, AllCome-first, is)
 
 -- the shapes of parts with one more
-pub shapes_last : (parts after : List Part) (part : Part) → after ≡ parts ++ part ∷ [] → map shape after ≡ map shape parts ++ shape part ∷ []
+pub shapes_last : (parts after : List WaitingPart) (part : WaitingPart) → after ≡ parts ++ part ∷ [] → map shape after ≡ map shape parts ++ shape part ∷ []
 shapes_last parts after part is = ap (map shape) is ∙ map-append shape parts (part ∷ [])
 
-pub AreParts-last : (choice : Choice) (parts after : List Part) (part : Part) → after ≡ parts ++ part ∷ [] → AreParts choice parts
+pub AreParts-last : (choice : Choice) (parts after : List WaitingPart) (part : WaitingPart) → after ≡ parts ++ part ∷ [] → AreParts choice parts
     → wants choice (1024 * part.number) part.len ≡ true → 1024 * part.number + part.len ≤ 2 ^ 64 - 1 → part.len ≤ 1024 * 2 ^ (54 - length parts) → AreParts choice after
 AreParts-last choice parts after part is all wanted within levels =
-    let shapes : List Subtree = map shape parts in
+    let shapes : List WaitingSubtree = map shape parts in
     let fits : part.len ≤ 1024 * 2 ^ (54 - length shapes) = subst (λ (k : ℕ). part.len ≤ 1024 * 2 ^ (54 - k)) (sym (length-map parts shape)) levels in
     subst (AreWaiting choice 54) (sym (shapes_last parts after part is)) (AreWaiting-last choice 54 shapes (shape part) all (wanted, (within, fits)))
 
@@ -158,19 +158,19 @@ module _ (asked : Asked) (mode : Mode) (choice : Choice) (number n : ℕ) (taken
       first_stops (Some fault) end some first = grind (arith, near_part_stops, fits, met, near_asks, far_asks, ends)
 
 -- all of a part taken, of which nothing more comes
-pub all_taken_from : (mode : Mode) (choice : Choice) (before after : List Part) (part : Part) (node : List ℕ) → before ≡ after ++ part ∷ []
+pub all_taken_from : (mode : Mode) (choice : Choice) (before after : List WaitingPart) (part : WaitingPart) (node : List ℕ) → before ≡ after ++ part ∷ []
     → ((taken more : List ℕ) → PassesIn part.asked mode choice part.number part.len ((taken ++ node) ++ more) (length taken) (length (taken ++ node)))
     → HasTaken mode choice before after node
 all_taken_from mode choice before after part node is here = search (arith, is, AllCome-last)
 
 -- one node taken: a chunk
-pub chunk_taken_from : (mode : Mode) (choice : Choice) (before after : List Part) (part : Part) (node : List ℕ) → before ≡ after ++ part ∷ []
+pub chunk_taken_from : (mode : Mode) (choice : Choice) (before after : List WaitingPart) (part : WaitingPart) (node : List ℕ) → before ≡ after ++ part ∷ []
     → wants choice (1024 * part.number) part.len ≡ true → choice.chunks ≡ true → part.len ≤ 1024 → length node ≡ part.len
     → Meets part.asked (last_chunk_input mode part.number node) → HasTaken mode choice before after node
 chunk_taken_from mode choice before after part node is wanted there one len meets = search (arith, all_taken_from, is, chunk_there, wanted)
 
 -- or a parent, in whose place its parts come
-pub parent_taken_from : (mode : Mode) (choice : Choice) (before rest middle after : List Part) (part : Part) (node : List ℕ) (near far : Asked) → before ≡ rest ++ part ∷ []
+pub parent_taken_from : (mode : Mode) (choice : Choice) (before rest middle after : List WaitingPart) (part : WaitingPart) (node : List ℕ) (near far : Asked) → before ≡ rest ++ part ∷ []
     → wants choice (1024 * part.number) part.len ≡ true → 1024 < part.len → length node ≡ 64
     → Meets part.asked (parent_input mode (part_value left node) (part_value right node)) → near ≡ below left node → far ≡ below right node
     → IsBefore choice near part.number (left_len part.len) middle after
@@ -184,7 +184,7 @@ parent_taken_from mode choice before rest middle after part node near far is wan
     record {
       comes = λ taken more o end h.
           let text : List ℕ = (taken ++ node) ++ more in
-          subst (λ (ps : List Part). AllCome mode choice ps text (length taken) o end) (sym is)
+          subst (λ (ps : List WaitingPart). AllCome mode choice ps text (length taken) o end) (sym is)
           (AllCome-last mode choice rest part text (length taken) o end
           (elim (first.comes mode text (length (taken ++ node)) o end (inside taken more) h) [
             | inl one ↦ inl (one.0, stopped_first taken more o end one.0 one.1)
@@ -197,18 +197,18 @@ parent_taken_from mode choice before rest middle after part node near far is wan
     }
 
 -- what is known after a node, from what was known before it
-pub WaitsIn-taken : (task : CheckTask) (choice : Choice) (before after : List Part) (taken node : List ℕ) → HasTaken task.mode choice before after node
+pub WaitsIn-taken : (task : CheckTask) (choice : Choice) (before after : List WaitingPart) (taken node : List ℕ) → HasTaken task.mode choice before after node
     → ((more : List ℕ) → WaitsIn task choice before (taken ++ more) (length taken))
     → (more : List ℕ) → WaitsIn task choice after ((taken ++ node) ++ more) (length (taken ++ node))
 WaitsIn-taken task choice before after taken node step waits more = search (arith, append_assoc)
 
 -- one that hasn't the value asked for is the first fault
-part_refused : (mode : Mode) (choice : Choice) (before after : List Part) (part : Part) (node : List ℕ) (at : ℕ) → before ≡ after ++ part ∷ []
+part_refused : (mode : Mode) (choice : Choice) (before after : List WaitingPart) (part : WaitingPart) (node : List ℕ) (at : ℕ) → before ≡ after ++ part ∷ []
     → ((taken more : List ℕ) → StopsIn part.asked mode choice part.number part.len ((taken ++ node) ++ more) (length taken) (Mismatch (length taken)) (length taken + length node))
     → HasRefused mode choice before at (length node) node (Mismatch at)
 part_refused mode choice before after part node at is wrong = search (arith, is, AllCome-last)
 
-pub chunk_refused : (mode : Mode) (choice : Choice) (before after : List Part) (part : Part) (node : List ℕ) (at : ℕ) → before ≡ after ++ part ∷ []
+pub chunk_refused : (mode : Mode) (choice : Choice) (before after : List WaitingPart) (part : WaitingPart) (node : List ℕ) (at : ℕ) → before ≡ after ++ part ∷ []
     → wants choice (1024 * part.number) part.len ≡ true → choice.chunks ≡ true → part.len ≤ 1024 → length node ≡ part.len
     → ¬ Meets part.asked (last_chunk_input mode part.number node) → HasRefused mode choice before at (length node) node (Mismatch at)
 chunk_refused mode choice before after part node at is wanted there one len wrong =
@@ -216,7 +216,7 @@ chunk_refused mode choice before after part node at is wanted there one len wron
     subst (StopsIn part.asked mode choice part.number part.len ((taken ++ node) ++ more) (length taken) (Mismatch (length taken))) (ap (λ (k : ℕ). length taken + k) (sym len))
     (chunk_wrong part.asked mode choice part.number part.len taken node more wanted there one len wrong))
 
-pub parent_refused : (mode : Mode) (choice : Choice) (before after : List Part) (part : Part) (node : List ℕ) (at : ℕ) → before ≡ after ++ part ∷ []
+pub parent_refused : (mode : Mode) (choice : Choice) (before after : List WaitingPart) (part : WaitingPart) (node : List ℕ) (at : ℕ) → before ≡ after ++ part ∷ []
     → wants choice (1024 * part.number) part.len ≡ true → 1024 < part.len → length node ≡ 64
     → ¬ Meets part.asked (parent_input mode (part_value left node) (part_value right node)) → HasRefused mode choice before at (length node) node (Mismatch at)
 parent_refused mode choice before after part node at is wanted parent len wrong =
@@ -225,39 +225,39 @@ parent_refused mode choice before after part node at is wanted parent len wrong 
     (parent_wrong part.asked mode choice part.number part.len taken node more wanted parent len wrong))
 
 -- the last part, taken off
-pub part_taken : (choice : Choice) (parts rest : List Part) (part : Part) → AreParts choice parts → parts ≡ rest ++ part ∷ []
+pub part_taken : (choice : Choice) (parts rest : List WaitingPart) (part : WaitingPart) → AreParts choice parts → parts ≡ rest ++ part ∷ []
     → Taken choice (map shape parts) (map shape rest) (shape part)
 part_taken choice parts rest part all is = taken_last choice (map shape parts) (map shape rest) (shape part) all (shapes_last rest parts part is)
 
 -- what one that has parts leaves room for
-pub part_parted : (choice : Choice) (rest : List Part) (part : Part) (l : ℕ) → AreParts choice (rest ++ part ∷ []) → 1024 < part.len → l ≡ left_len part.len → IsLeftLen part.len l
+pub part_parted : (choice : Choice) (rest : List WaitingPart) (part : WaitingPart) (l : ℕ) → AreParts choice (rest ++ part ∷ []) → 1024 < part.len → l ≡ left_len part.len → IsLeftLen part.len l
     → Parted choice (shape part) (length rest) l
 part_parted choice rest part l all more l_is is =
     subst (λ (k : ℕ). Parted choice (shape part) k l) (length-map rest shape)
     (parted choice (map shape (rest ++ part ∷ [])) (map shape rest) (shape part) l (part_taken choice (rest ++ part ∷ []) rest part all refl) more l_is is)
 
-last_split : (parts : List Part) (part : Part) → last_part parts ≡ Some part → parts ≡ take (length parts - 1) parts ++ part ∷ []
+last_split : (parts : List WaitingPart) (part : WaitingPart) → last_part parts ≡ Some part → parts ≡ take (length parts - 1) parts ++ part ∷ []
 last_split parts part h =
     let i : ℕ = length parts - 1 in
     let within : i < length parts = slice_get_within parts i part h in
     let ends : drop (suc i) parts ≡ [] = drop_all (suc i) parts (omega (arith, within)) in
     sym (take-append-drop i parts)
-    ∙ ap (λ (s : List Part). take i parts ++ s)
+    ∙ ap (λ (s : List WaitingPart). take i parts ++ s)
     (drop-cons parts i part within ∙ (λ j. get_or_from_slice_get parts i part part h j ∷ ends j))
 
-size_of_some : (o : Option Part) (n : ℕ) → option_map part_size o ≡ Some n → (part : Part) × (o ≡ Some part) × (n ≡ part_size part)
+size_of_some : (o : Option WaitingPart) (n : ℕ) → option_map part_size o ≡ Some n → (part : WaitingPart) × (o ≡ Some part) × (n ≡ part_size part)
 size_of_some None n h = absurd (cc)
 size_of_some (Some part) n h = (part, refl, cc)
 
 -- the part that comes first, and its first node's size
-pub record First (choice : Choice) (parts : List Part) (part : Part) (n : ℕ) : Type 0 where
+pub record First (choice : Choice) (parts : List WaitingPart) (part : WaitingPart) (n : ℕ) : Type 0 where
   pub is : parts ≡ take (length parts - 1) parts ++ part ∷ []
   pub wanted : wants choice (1024 * part.number) part.len ≡ true
   pub within : 1024 * part.number + part.len ≤ 2 ^ 64 - 1
   pub chunk : part.len ≤ 1024 → n ≡ part.len
   pub parent : 1024 < part.len → n ≡ 64
 
-pub first_of : (choice : Choice) (parts : List Part) (part : Part) (n : ℕ) → AreParts choice parts → last_part parts ≡ Some part → n ≡ part_size part → First choice parts part n
+pub first_of : (choice : Choice) (parts : List WaitingPart) (part : WaitingPart) (n : ℕ) → AreParts choice parts → last_part parts ≡ Some part → n ≡ part_size part → First choice parts part n
 first_of choice parts part n all last size =
     let is = last_split parts part last in
     let taken = part_taken choice parts (take (length parts - 1) parts) part all is in
@@ -269,12 +269,12 @@ first_of choice parts part n all last size =
       parent = λ more. let e : part_size part ≡ 64 = rw (lt-leb _ _ more) refl in size ∙ e;
     }
 
-pub first_next : (choice : Choice) (parts : List Part) {part : Part} {next : Option Part} → AreParts choice parts → next ≡ last_part parts → next ≡ Some part → First choice parts part (part_size part)
+pub first_next : (choice : Choice) (parts : List WaitingPart) {part : WaitingPart} {next : Option WaitingPart} → AreParts choice parts → next ≡ last_part parts → next ≡ Some part → First choice parts part (part_size part)
 first_next choice parts {part = part} all is found = first_of choice parts part (part_size part) all (sym is ∙ found) refl
 
-pub first_part : (choice : Choice) (parts : List Part) (part : Part) (n : ℕ) → AreParts choice parts → last_part parts ≡ Some part → next_size parts ≡ Some n → First choice parts part n
+pub first_part : (choice : Choice) (parts : List WaitingPart) (part : WaitingPart) (n : ℕ) → AreParts choice parts → last_part parts ≡ Some part → next_size parts ≡ Some n → First choice parts part n
 first_part choice parts part n all last next =
-    let e : Some (part_size part) ≡ Some n = sym (ap (λ (o : Option Part). option_map part_size o) last) ∙ next in
+    let e : Some (part_size part) ≡ Some n = sym (ap (λ (o : Option WaitingPart). option_map part_size o) last) ∙ next in
     let size : n ≡ part_size part = cc in
     first_of choice parts part n all last size
 
@@ -282,24 +282,24 @@ pub wrong_from : (b : Bool) (P : Type 0) → (P → b ≡ true) → b ≡ false 
 wrong_from b P tells off p = not_both (sym (tells p) ∙ off)
 
 -- where nothing waits, there is no part
-pub none_waits : (parts : List Part) → IsNone (next_size parts) → parts ≡ []
+pub none_waits : (parts : List WaitingPart) → IsNone (next_size parts) → parts ≡ []
 none_waits [] none = refl
 none_waits (x ∷ xs) none =
     let i : ℕ = length (x ∷ xs) - 1 in
     let e : last_part (x ∷ xs) ≡ Some _ = slice_get-get_or (x ∷ xs) i x (omega arith) in
-    absurd (not_both (sym (ap (λ (o : Option Part). is_some (option_map part_size o)) e) ∙ none))
+    absurd (not_both (sym (ap (λ (o : Option WaitingPart). is_some (option_map part_size o)) e) ∙ none))
 
-pub waits_accepted : (task : CheckTask) (choice : Choice) (parts : List Part) (text : List ℕ) (at : ℕ) → IsNone (next_size parts) → WaitsIn task choice parts text at → length text ≤ at → IsAcceptedAs task text
+pub waits_accepted : (task : CheckTask) (choice : Choice) (parts : List WaitingPart) (text : List ℕ) (at : ℕ) → IsNone (next_size parts) → WaitsIn task choice parts text at → length text ≤ at → IsAcceptedAs task text
 waits_accepted task choice parts text at none w all =
-    w.accepted at (subst (λ (ps : List Part). AllCome task.mode choice ps text at None at) (sym (none_waits parts none)) (refl, refl)) all
+    w.accepted at (subst (λ (ps : List WaitingPart). AllCome task.mode choice ps text at None at) (sym (none_waits parts none)) (refl, refl)) all
 
-pub waits_trailing : (task : CheckTask) (choice : Choice) (parts : List Part) (text : List ℕ) (at : ℕ) → IsNone (next_size parts) → WaitsIn task choice parts text at → at < length text
+pub waits_trailing : (task : CheckTask) (choice : Choice) (parts : List WaitingPart) (text : List ℕ) (at : ℕ) → IsNone (next_size parts) → WaitsIn task choice parts text at → at < length text
     → IsFaultAs task text (Trailing at)
 waits_trailing task choice parts text at none w less =
-    w.trailing at (subst (λ (ps : List Part). AllCome task.mode choice ps text at None at) (sym (none_waits parts none)) (refl, refl)) less
+    w.trailing at (subst (λ (ps : List WaitingPart). AllCome task.mode choice ps text at None at) (sym (none_waits parts none)) (refl, refl)) less
 
 -- an encoding that ends within the node that comes next is short there
-part_short : (mode : Mode) (choice : Choice) (parts : List Part) (part : Part) (n : ℕ) (taken more : List ℕ) → First choice parts part n → choice.chunks ≡ true → length more < n
+part_short : (mode : Mode) (choice : Choice) (parts : List WaitingPart) (part : WaitingPart) (n : ℕ) (taken more : List ℕ) → First choice parts part n → choice.chunks ≡ true → length more < n
     → StopsIn part.asked mode choice part.number part.len ((taken ++ more) ++ []) (length taken) (Short (length taken)) (length taken + n)
 part_short mode choice parts part n taken more first there less =
     let P : ℕ → Type 0 = λ (k : ℕ). StopsIn part.asked mode choice part.number part.len ((taken ++ more) ++ []) (length taken) (Short (length taken)) (length taken + k) in
@@ -308,14 +308,14 @@ part_short mode choice parts part n taken more first there less =
       | inr one ↦ subst P (sym (first.chunk one)) (chunk_short part.asked mode choice part.number part.len taken more [] first.wanted there one (omega (arith, less, first.chunk one)) refl)
     ]
 
-pub waits_stop : (task : CheckTask) (choice : Choice) (parts : List Part) (taken more : List ℕ) (n : ℕ) → AreParts choice parts → choice.chunks ≡ true → next_size parts ≡ Some n → length more < n
+pub waits_stop : (task : CheckTask) (choice : Choice) (parts : List WaitingPart) (taken more : List ℕ) (n : ℕ) → AreParts choice parts → choice.chunks ≡ true → next_size parts ≡ Some n → length more < n
     → WaitsIn task choice parts (taken ++ more) (length taken) → IsStopAs task (taken ++ more) (Short (length taken)) (length taken + n)
 waits_stop task choice parts taken more n all there next less w =
     let found = size_of_some (last_part parts) n next in
     let first : First choice parts found.0 n = first_of choice parts found.0 n all found.1 found.2 in
     let fault : CheckFault = Short (length taken) in
     w.stopped fault (length taken + n)
-    (subst (λ (ps : List Part). AllCome task.mode choice ps (taken ++ more) (length taken) (Some fault) (length taken + n)) (sym first.is)
+    (subst (λ (ps : List WaitingPart). AllCome task.mode choice ps (taken ++ more) (length taken) (Some fault) (length taken + n)) (sym first.is)
     (AllCome-last task.mode choice (take (length parts - 1) parts) found.0 (taken ++ more) (length taken) (Some fault) (length taken + n)
     (inl (
       refl,
@@ -326,7 +326,7 @@ waits_stop task choice parts taken more n all there next less w =
 pub fault_as : (task : CheckTask) (text : List ℕ) (fault : CheckFault) (end : ℕ) → IsStopAs task text fault end → IsFaultAs task text fault
 fault_as task text fault end h = first_fault task.mode task.root text (slice_nodes text task.start task.len) fault end h
 
-pub waits_short : (task : CheckTask) (choice : Choice) (parts : List Part) (taken more : List ℕ) (n : ℕ) → AreParts choice parts → choice.chunks ≡ true → next_size parts ≡ Some n → length more < n
+pub waits_short : (task : CheckTask) (choice : Choice) (parts : List WaitingPart) (taken more : List ℕ) (n : ℕ) → AreParts choice parts → choice.chunks ≡ true → next_size parts ≡ Some n → length more < n
     → WaitsIn task choice parts (taken ++ more) (length taken) → IsFaultAs task (taken ++ more) (Short (length taken))
 waits_short task choice parts taken more n all there next less w =
     fault_as task (taken ++ more) (Short (length taken)) (length taken + n) (waits_stop task choice parts taken more n all there next less w)
@@ -336,7 +336,7 @@ none_or None h = refl
 none_or (Some n) h = absurd (h n refl)
 
 -- nothing comes after an accepted encoding
-pub accepted_done : (task : CheckTask) (choice : Choice) (parts : List Part) (taken : List ℕ) → AreParts choice parts → choice.chunks ≡ true
+pub accepted_done : (task : CheckTask) (choice : Choice) (parts : List WaitingPart) (taken : List ℕ) → AreParts choice parts → choice.chunks ≡ true
     → ((more : List ℕ) → WaitsIn task choice parts (taken ++ more) (length taken)) → IsAcceptedAs task taken → IsNone (next_size parts)
 accepted_done task choice parts taken all there waits accepted =
     none_or (next_size parts) (λ n next.
@@ -347,7 +347,7 @@ accepted_done task choice parts taken all there waits accepted =
     first_fault-not_accepted task.mode task.root taken (slice_nodes taken task.start task.len) (Short (length taken)) bare accepted)
 
 -- what is known once the length is there
-module _ (mode : Mode) (root : List ℕ) (start len total : ℕ) (choice : Choice) (asked : Asked) (parts : List Part) (header more : List ℕ) (size : length header ≡ 8)
+module _ (mode : Mode) (root : List ℕ) (start len total : ℕ) (choice : Choice) (asked : Asked) (parts : List WaitingPart) (header more : List ℕ) (size : length header ≡ 8)
     (is : total ≡ claimed header) (chosen : choice ≡ of_slice total start len) (asks : asked ≡ asked_root root) where
   abbrev own_task : CheckTask
   own_task = record { mode = mode; root = root; start = start; len = len }
@@ -392,7 +392,7 @@ module _ (mode : Mode) (root : List ℕ) (start len total : ℕ) (choice : Choic
         subst (PassesIn asked mode choice 0 total (header ++ more) 8) ends_there
         (pass_chunk asked mode choice 0 total (header ++ more) 8 wanted_empty small chunks_there (omega (arith, empty, long)) (subst (Meets asked) no_bytes meets)) in
         waits_for (λ o end h.
-        only_first asked 0 total mode choice (header ++ more) 8 o end (inr (8, here, subst (λ (ps : List Part). AllCome mode choice ps (header ++ more) 8 o end) none h)))
+        only_first asked 0 total mode choice (header ++ more) 8 o end (inr (8, here, subst (λ (ps : List WaitingPart). AllCome mode choice ps (header ++ more) 8 o end) none h)))
 
     pub empty_refused : ¬ Meets asked (last_chunk_input mode 0 []) → IsStopAs own_task (header ++ more) (Mismatch 8) 8
     empty_refused wrong =
@@ -407,18 +407,18 @@ begun_fault said task taken node fault same none stops more =
     subst (λ (s : List ℕ). IsFaultAs task ((s ++ node) ++ more) fault) (sym none) (subst (λ (t : CheckTask). IsFaultAs t (node ++ more) fault) same (fault_as said (node ++ more) fault 8 (stops more)))
 
 -- a node refused is the first fault, by what was known
-pub refused_stop : (task : CheckTask) (choice : Choice) (parts : List Part) (at size : ℕ) (taken node : List ℕ) (fault : CheckFault) → HasRefused task.mode choice parts at size node fault
+pub refused_stop : (task : CheckTask) (choice : Choice) (parts : List WaitingPart) (at size : ℕ) (taken node : List ℕ) (fault : CheckFault) → HasRefused task.mode choice parts at size node fault
     → at ≡ length taken → ((more : List ℕ) → WaitsIn task choice parts (taken ++ more) (length taken))
     → (more : List ℕ) → IsStopAs task ((taken ++ node) ++ more) fault (length taken + size)
 refused_stop task choice parts at size taken node fault refused at_is waits more = grind (arith, append_assoc)
 
-pub refused_fault : (task : CheckTask) (choice : Choice) (parts : List Part) (at size : ℕ) (taken node : List ℕ) (fault : CheckFault) → HasRefused task.mode choice parts at size node fault
+pub refused_fault : (task : CheckTask) (choice : Choice) (parts : List WaitingPart) (at size : ℕ) (taken node : List ℕ) (fault : CheckFault) → HasRefused task.mode choice parts at size node fault
     → at ≡ length taken → ((more : List ℕ) → WaitsIn task choice parts (taken ++ more) (length taken)) → (more : List ℕ) → IsFaultAs task ((taken ++ node) ++ more) fault
 refused_fault task choice parts at size taken node fault refused at_is waits more =
     fault_as task ((taken ++ node) ++ more) fault (length taken + size) (refused_stop task choice parts at size taken node fault refused at_is waits more)
 
 -- the same of bytes that nodes are taken of
-pub refused_in_fault : (task : CheckTask) (choice : Choice) (before after : List Part) (at used : ℕ) (taken bytes : List ℕ) (fault : CheckFault)
+pub refused_in_fault : (task : CheckTask) (choice : Choice) (before after : List WaitingPart) (at used : ℕ) (taken bytes : List ℕ) (fault : CheckFault)
     → HasRefusedIn task.mode choice before after at used bytes fault → at ≡ length taken → ((more : List ℕ) → WaitsIn task choice before (taken ++ more) (length taken))
     → (more : List ℕ) → IsFaultAs task ((taken ++ bytes) ++ more) fault
 refused_in_fault task choice before after at used taken bytes fault refused at_is waits more =

@@ -11,7 +11,7 @@ use Rattle.bao_text.specs.Cut.{claimed}
 use Rattle.bao_text.specs.Nodes.{TreeNode, nodes}
 use Rattle.bao_check.specs.declared.fault.CheckFault.{CheckFault}
 use Rattle.bao_check.specs.declared.fault.CheckFault.TheVariants.{Short, Mismatch, Trailing, Memory, Reader}
-use Rattle.bao_check.specs.declared.part.Part.{Part}
+use Rattle.bao_check.specs.declared.part.WaitingPart.{WaitingPart}
 use Rattle.bao_check.specs.Accepted.{IsAccepted, IsGoodNode, bytes_at, end_of, node_input, part_value, places_of, slice_nodes}
 use Rattle.bao_check.specs.Faults.{IsFirstBad, IsMismatchAt, IsShortAt}
 use Rattle.bao_check.specs.Streams.{BeginsAccepted, EndsWithin, IsCutShort, IsOfBytes, IsReadFault, IsReadStop, IsStreamFault, Reads}
@@ -64,7 +64,7 @@ module _ (mode : Mode) (root : List ℕ) (start len : ℕ) where
   few taken more n after Memory some h = omega (arith, length-append taken more, h, some)
   few taken more n after Reader some h = omega (arith, length-append taken more, h)
 
-  pub cut_node : (choice : Choice) (parts : List Part) (taken new more : List ℕ) (n : ℕ) (after : Option (List ℕ)) (fault : CheckFault) → new ≡ taken ++ more → AreParts choice parts
+  pub cut_node : (choice : Choice) (parts : List WaitingPart) (taken new more : List ℕ) (n : ℕ) (after : Option (List ℕ)) (fault : CheckFault) → new ≡ taken ++ more → AreParts choice parts
       → choice.chunks ≡ true → next_size parts ≡ Some n → 0 < n → ((more : List ℕ) → WaitsIn task choice parts (taken ++ more) (length taken))
       → IsCutShort n taken new after fault → IsReadStop mode root start len new after fault
   cut_node choice parts taken new more n after fault is all there next some waits cut =
@@ -83,7 +83,7 @@ module _ (mode : Mode) (root : List ℕ) (start len : ℕ) where
         (λ more. let h = stop more in (h.long, (h.place, h.bad, h.is.0, h.is.1))),
       )
 
-  pub refused_node : (choice : Choice) (parts : List Part) (at : ℕ) (taken read node : List ℕ) (after : Option (List ℕ)) (fault : CheckFault) → read ≡ taken ++ node
+  pub refused_node : (choice : Choice) (parts : List WaitingPart) (at : ℕ) (taken read node : List ℕ) (after : Option (List ℕ)) (fault : CheckFault) → read ≡ taken ++ node
       → HasRefused mode choice parts at (length node) node fault → at ≡ length taken → ((more : List ℕ) → WaitsIn task choice parts (taken ++ more) (length taken))
       → IsReadStop mode root start len read after fault
   refused_node choice parts at taken read node after fault is refused at_is waits =

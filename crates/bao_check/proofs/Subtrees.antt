@@ -12,7 +12,7 @@ use Rattle.bao_text.proofs.SubtreeNodes.{subtree_nodes-unwanted}
 use Rattle.bao_check.specs.declared.asked.Asked.{Asked}
 use Rattle.bao_check.specs.declared.fault.CheckFault.{CheckFault}
 use Rattle.bao_check.specs.declared.fault.CheckFault.TheVariants.{Short, Mismatch, Trailing, Memory, Reader}
-use Rattle.bao_check.specs.declared.form.Form.{Form}
+use Rattle.bao_check.specs.declared.form.EncodingForm.{EncodingForm}
 use Rattle.bao_check.specs.Accepted.{IsAccepted, IsGoodNode, places_of}
 use Rattle.bao_check.specs.Faults.{IsFaultAt, IsFirstFault, IsFirstStop, IsTrailingAt}
 use Rattle.bao_check.specs.Forms.{choice_of, form_nodes}
@@ -77,7 +77,7 @@ pub claimed-append : (text more : List ℕ) → 8 ≤ length text → claimed (t
 claimed-append text more long = ap (from_le_bytes w64) (take-append-le 8 text more long)
 
 -- the subtree of all nodes of an encoding
-module _ (mode : Mode) (root text : List ℕ) (form : Form) (total : ℕ) (choice : Choice) (asked : Asked) (long : 8 ≤ length text) (total_is : total ≡ claimed text)
+module _ (mode : Mode) (root text : List ℕ) (form : EncodingForm) (total : ℕ) (choice : Choice) (asked : Asked) (long : 8 ≤ length text) (total_is : total ≡ claimed text)
     (chosen : choice ≡ choice_of form total) (asks : asked ≡ asked_root root) where
   nodes_are : subtree_nodes choice 0 total [] 8 ≡ form_nodes form text
   nodes_are = (λ i. subtree_nodes (chosen i) 0 total [] 8) ∙ ap (λ (n : ℕ). chosen_nodes (choice_of form n) n) total_is

@@ -24,7 +24,7 @@ use Rattle.bao_text.proofs.TextNodes.{length-span, span, span-left, span-right}
 use Rattle.bao_check.specs.declared.asked.Asked.{Asked}
 use Rattle.bao_check.specs.Accepted.{IsAccepted, outboard_nodes, part_value, slice_nodes}
 use Rattle.bao_check.specs.Walk.{Meets, asked_root}
-use Rattle.bao_check.proofs.Made.{IsChunkMade, IsParentMade, made_accepted}
+use Rattle.bao_check.proofs.NodesAsEncoding.{IsChunkMade, IsParentMade, made_accepted}
 use Rattle.bao_text.proofs.Halves.{Far, Near}
 
 -- the values in a parent's encoding

@@ -3,7 +3,7 @@
 use Rattle.std.specs.Prelude.{◌≡◌, ℕ, List, [], ◌∷◌, ◌++◌, take, drop, map, sum_by, Bool, if◌then◌else◌}
 use Rattle.bao_text.specs.declared.choice.Choice.{Choice}
 use Rattle.bao_text.specs.Nodes.{TreeNode, size, subtree_nodes}
-use Rattle.bao_check.specs.declared.part.Part.{Part}
+use Rattle.bao_check.specs.declared.part.WaitingPart.{WaitingPart}
 use Rattle.bao_check.specs.Accepted.{slice_nodes}
 
 -- a node as it stands in an encoding: whether it is a chunk, and how many bytes it is
@@ -30,11 +30,11 @@ decoded text start len = chunk_bytes (map kind (slice_nodes text start len)) (dr
 abbrev pub subtree_kinds : Choice → ℕ → ℕ → List Kind
 subtree_kinds choice number n = map kind (subtree_nodes choice number n [] 0)
 
-abbrev pub waiting_kinds : Choice → List Part → List Kind
+abbrev pub waiting_kinds : Choice → List WaitingPart → List Kind
 waiting_kinds choice [] = []
 waiting_kinds choice (part ∷ later) = waiting_kinds choice later ++ subtree_kinds choice part.number part.len
 
 -- Nodes were taken, with these bytes of chunks: what comes after them is the chunks' of the parts that still wait.
-abbrev pub Decodes : Choice → List Part → List Part → List ℕ → List ℕ → Type 0
+abbrev pub Decodes : Choice → List WaitingPart → List WaitingPart → List ℕ → List ℕ → Type 0
 Decodes choice before after taken bytes =
     (more : List ℕ) → chunk_bytes (waiting_kinds choice before) (taken ++ more) ≡ bytes ++ chunk_bytes (waiting_kinds choice after) more

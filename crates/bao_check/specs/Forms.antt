@@ -4,14 +4,14 @@ use Rattle.bao_text.specs.declared.choice.Choice.{Choice}
 use Rattle.bao_text.specs.Choice.{of_outboard, of_slice}
 use Rattle.bao_text.specs.Cut.{claimed}
 use Rattle.bao_text.specs.Nodes.{TreeNode, chosen_nodes}
-use Rattle.bao_check.specs.declared.form.Form.{Form}
-use Rattle.bao_check.specs.declared.form.Form.TheVariants.{Slice, Outboard}
+use Rattle.bao_check.specs.declared.form.EncodingForm.{EncodingForm}
+use Rattle.bao_check.specs.declared.form.EncodingForm.TheVariants.{Slice, Outboard}
 
 -- what an encoding of a form is of, over a blob of `total` bytes
-abbrev pub choice_of : Form → ℕ → Choice
+abbrev pub choice_of : EncodingForm → ℕ → Choice
 choice_of (Slice start len) total = of_slice total start len
 choice_of Outboard total = of_outboard total
 
 -- the nodes of an encoding of a form, by the length that it claims
-abbrev pub form_nodes : Form → List ℕ → List TreeNode
+abbrev pub form_nodes : EncodingForm → List ℕ → List TreeNode
 form_nodes form text = chosen_nodes (choice_of form (claimed text)) (claimed text)

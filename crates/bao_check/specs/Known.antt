@@ -6,7 +6,7 @@ use Rattle.b3tree.specs.declared.values.Cv.{Cv}
 use Rattle.b3tree.specs.Chunk.{last_chunk_input}
 use Rattle.b3tree.specs.Pieces.{piece}
 use Rattle.bao_check.specs.declared.known.Known.{Known}
-use Rattle.bao_check.specs.declared.part.Part.{Part}
+use Rattle.bao_check.specs.declared.part.WaitingPart.{WaitingPart}
 use Rattle.bao_check.specs.Waiting.{last_part}
 
 -- the value of the whole chunk with this number that begins at this place of the bytes
@@ -23,6 +23,6 @@ abbrev pub AreThere : List ℕ → List ℕ → Type 0
 AreThere bytes places = (k : ℕ) → k < length places → slice_index places k + 1024 ≤ length bytes
 
 -- where the node that comes next is a whole chunk, this is its value
-abbrev pub KnowsNext : Mode → List Part → List ℕ → Option Cv → Type 0
+abbrev pub KnowsNext : Mode → List WaitingPart → List ℕ → Option Cv → Type 0
 KnowsNext mode parts bytes known =
-    IfSome known (λ value. (part : Part) → last_part parts ≡ Some part → part.len ≡ 1024 → value.0 ≡ cv (last_chunk_input mode part.number (take 1024 bytes)))
+    IfSome known (λ value. (part : WaitingPart) → last_part parts ≡ Some part → part.len ≡ 1024 → value.0 ≡ cv (last_chunk_input mode part.number (take 1024 bytes)))

@@ -11,7 +11,7 @@ use crate::asked::Asked;
 use crate::bare::Bare;
 use crate::checked::Checked;
 use crate::fault::CheckFault;
-use crate::form::Form;
+use crate::form::EncodingForm;
 use crate::outline::Outline;
 use crate::subtree::Subtree;
 use b3tree::{CHUNK_LEN, Cv, Hash, Mode};
@@ -19,7 +19,7 @@ use bao_text::{LENGTH_LEN, chunk_count};
 use std::alloc::Global;
 
 // Checks an encoding of the form that is there as a whole.
-fn check_bytes(mode: &Mode, root: &Hash, form: &Form, text: &[u8]) -> Result<(), CheckFault>
+fn check_bytes(mode: &Mode, root: &Hash, form: &EncodingForm, text: &[u8]) -> Result<(), CheckFault>
     ensures { MatchResult result (λ _. IsAccepted mode.now root.now.0 text.now (form_nodes form.now text.now))
         (λ fault. IsFirstFault mode.now root.now.0 text.now (form_nodes form.now text.now) fault) }
 {
@@ -50,7 +50,7 @@ pub fn check_slice<'a>(
     ensures piece { IfOk result (λ piece. IsPiece piece mode.now root.now.0 start len text.now) }
     ensures fault { IfErr result (λ fault. IsFirstFault mode.now root.now.0 text.now (slice_nodes text.now start len) fault) }
 {
-    check_bytes(mode, root, &Form::Slice { start, len }, text)?;
+    check_bytes(mode, root, &EncodingForm::Slice { start, len }, text)?;
     Ok(Checked::new(mode, root, start, len, text))
 }
 
@@ -88,7 +88,7 @@ pub fn check_outboard<'a>(
     ensures outline { IfOk result (λ outline. IsOutline outline mode.now root.now.0 text.now) }
     ensures fault { IfErr result (λ fault. IsFirstFault mode.now root.now.0 text.now (outboard_nodes text.now) fault) }
 {
-    check_bytes(mode, root, &Form::Outboard, text)?;
+    check_bytes(mode, root, &EncodingForm::Outboard, text)?;
     Ok(Outline::new(mode, root, text))
 }
 

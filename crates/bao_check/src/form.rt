@@ -4,14 +4,14 @@ use bao_text::Choice;
 
 /// Which encoding is checked.
 #[derive(Clone, Copy)]
-pub(crate) enum Form {
+pub(crate) enum EncodingForm {
     /// The slice of `len` bytes from byte `start` on.
     Slice { start: u64, len: u64 },
     /// The outboard encoding.
     Outboard,
 }
 
-impl Form {
+impl EncodingForm {
     ghost use Rattle.bao_check.specs.Forms.{choice_of};
 
     // What an encoding of this form is of, over a blob of `total` bytes.
@@ -19,8 +19,8 @@ impl Form {
         ensures { result ≡ choice_of self.now total }
     {
         match self {
-            Form::Slice { start, len } => Choice::of_slice(total, *start, *len),
-            Form::Outboard => Choice::of_outboard(total),
+            EncodingForm::Slice { start, len } => Choice::of_slice(total, *start, *len),
+            EncodingForm::Outboard => Choice::of_outboard(total),
         }
     }
 }

@@ -5,7 +5,7 @@ use b3tree::Cv;
 
 /// A part of an encoding that is still to come: the wanted nodes of a subtree that has bytes, and what its top asks for.
 #[derive(Clone, Copy)]
-pub(crate) struct Part {
+pub(crate) struct WaitingPart {
     pub(crate) asked: Asked,
     // The number of its first chunk, and how many bytes of the blob it has.
     pub(crate) number: u64,
@@ -13,9 +13,9 @@ pub(crate) struct Part {
     ghost some: { 0 < len },
 }
 
-impl Default for Part {
-    fn default() -> Part {
-        Part {
+impl Default for WaitingPart {
+    fn default() -> WaitingPart {
+        WaitingPart {
             asked: Asked {
                 top: false,
                 value: Cv([0; 8]),

@@ -6,7 +6,7 @@ ghost use Rattle.bao_check.specs.Forms.{form_nodes};
 
 use crate::asked::Asked;
 use crate::fault::CheckFault;
-use crate::form::Form;
+use crate::form::EncodingForm;
 use crate::locate::nodes_size;
 use crate::walk::{check_parent, check_subtree};
 use b3tree::{CHUNK_LEN, Hash, Mode, left_len};
@@ -52,14 +52,14 @@ impl Subtree {
         ensures either { (fault : CheckFault) → IsFirstFault mode.now root.now.0 text.now (slice_nodes text.now start len) fault
             → ¬ IsAccepted mode.now root.now.0 text.now (slice_nodes text.now start len) }
     {
-        Subtree::of_form(mode, root, &Form::Slice { start, len }, text)
+        Subtree::of_form(mode, root, &EncodingForm::Slice { start, len }, text)
     }
 
     // The same of an encoding of this form.
     pub(crate) fn of_form(
         mode: &Mode,
         root: &Hash,
-        form: &Form,
+        form: &EncodingForm,
         text: &[u8],
     ) -> Result<Subtree, CheckFault>
         ensures top { IfOk result (λ top. IsTopOf top mode.now root.now.0 text.now (form_nodes form.now text.now)) }

@@ -2,7 +2,7 @@ ghost use Rattle.std.specs.Prelude.{◌≡◌, ◌↔◌, ◌+◌, ◌-◌, ◌*
 ghost use Rattle.b3word.specs.Compression.{cv};
 ghost use Rattle.b3tree.specs.Chunk.{last_chunk_input};
 ghost use Rattle.b3tree.specs.Tree.{left_len};
-ghost use Rattle.bao_check.specs.declared.part.Part.{Part};
+ghost use Rattle.bao_check.specs.declared.part.WaitingPart.{WaitingPart};
 ghost use Rattle.bao_check.specs.Decoded.{Decodes, subtree_kinds, waiting_kinds};
 ghost use Rattle.bao_check.specs.Known.{KnowsNext};
 ghost use Rattle.bao_check.specs.Walk.{Meets};
@@ -10,24 +10,24 @@ ghost use Rattle.bao_check.specs.Waiting.{AreParts, HasRefused, HasTaken, IsBefo
 
 use crate::asked::{Asked, meets};
 use crate::fault::CheckFault;
-use crate::part::Part;
+use crate::part::WaitingPart;
 use crate::walk::halves;
 use arrayvec::ArrayVec;
 use b3tree::{CHUNK_LEN, Cv, Mode, left_len, parent_input, top_input};
 use bao_text::{Choice, PARENT_LEN, WAITING_LEN};
 
 /// The parts of an encoding that are still to come. The last of them comes first.
-pub(crate) type Waiting = ArrayVec<Part, WAITING_LEN>;
+pub(crate) type Waiting = ArrayVec<WaitingPart, WAITING_LEN>;
 
 // The part that comes first.
-pub(crate) fn next_part(waiting: &Waiting) -> Option<Part>
+pub(crate) fn next_part(waiting: &Waiting) -> Option<WaitingPart>
     ensures { result ≡ last_part waiting.now.items }
 {
     waiting.as_slice().last().copied()
 }
 
 // How many bytes the first node of a part has.
-pub(crate) fn size(part: &Part) -> usize
+pub(crate) fn size(part: &WaitingPart) -> usize
     ensures { result ≡ part_size part.now }
 {
     if part.len <= CHUNK_LEN as u64 {
@@ -74,7 +74,7 @@ pub(crate) fn push_wanted(
     ensures room { length waiting.new.items ≤ length waiting.old.items + 1 }
 {
     if choice.wants(CHUNK_LEN as u64 * number, len) {
-        waiting.push(Part {
+        waiting.push(WaitingPart {
             asked: *asked,
             number,
             len,
@@ -84,11 +84,17 @@ pub(crate) fn push_wanted(
 
 // Puts the two parts below a parent, which asks this of them, before all that waits: the left one first.
 #[tactic(auto, using(crate::proofs::Feeding::part_parted))]
-fn push_halves(choice: &Choice, waiting: &mut Waiting, parent: &Part, left: &Asked, right: &Asked)
+fn push_halves(
+    choice: &Choice,
+    waiting: &mut Waiting,
+    parent: &WaitingPart,
+    left: &Asked,
+    right: &Asked,
+)
     requires parent { 1024 < parent.now.len }
     requires parts { AreParts choice.now (waiting.old.items ++ parent.now ∷ []) }
     ensures parts { AreParts choice.now waiting.new.items }
-    ensures before { (middle : List Part)
+    ensures before { (middle : List WaitingPart)
         × IsBefore choice.now left.now parent.now.number (left_len parent.now.len) middle waiting.new.items
         × IsBefore choice.now right.now (parent.now.number + left_len parent.now.len / 1024) (parent.now.len - left_len parent.now.len) waiting.old.items middle }
     ensures kinds { waiting_kinds choice.now waiting.new.items ≡ (subtree_kinds choice.now parent.now.number (left_len parent.now.len)
@@ -137,8 +143,8 @@ pub(crate) fn take_node(
     ensures parts { AreParts choice.now waiting.new.items }
     ensures same { OnErr result (waiting.new ≡ waiting.old) }
     ensures ok { OnOk result (HasTaken mode.now choice.now waiting.old.items waiting.new.items node.now) }
-    ensures chunk { (part : Part) → last_part waiting.old.items ≡ Some part → part.len ≤ 1024 → OnOk result (Decodes choice.now waiting.old.items waiting.new.items node.now node.now) }
-    ensures parent { (part : Part) → last_part waiting.old.items ≡ Some part → 1024 < part.len → OnOk result (Decodes choice.now waiting.old.items waiting.new.items node.now []) }
+    ensures chunk { (part : WaitingPart) → last_part waiting.old.items ≡ Some part → part.len ≤ 1024 → OnOk result (Decodes choice.now waiting.old.items waiting.new.items node.now node.now) }
+    ensures parent { (part : WaitingPart) → last_part waiting.old.items ≡ Some part → 1024 < part.len → OnOk result (Decodes choice.now waiting.old.items waiting.new.items node.now []) }
     ensures err { IfErr result (HasRefused mode.now choice.now waiting.old.items at (length node.now) node.now) }
 {
     let Some(part) = next_part(waiting) else {

@@ -21,7 +21,7 @@ use crate::copy_pass::{PassFault, ROOM_LEN, copy_pass, fill_most};
 use crate::decode_fault::DecodeFault;
 use b3tree::{Hash, Mode, bytes_are};
 use bao_check::{CheckFault, Outline, check_outboard};
-use bao_files::{Disk, Extent, FileFault, Progress, ReadFault, Shown, read_whole};
+use bao_files::{Disk, Extent, FileFault, InputFault, Progress, Shown, read_whole};
 use bao_read::Source;
 use bao_text::{LENGTH_LEN, claimed, outboard_len};
 use std::alloc::Global;
@@ -35,12 +35,12 @@ const FIRST_LEN: u64 = 1 << 16;
 const LEAST_SHOWN_LEN: u64 = 4 << 20;
 
 // A fault of reading, as one of the program.
-fn read_fault<'a>(fault: ReadFault, path: &'a str) -> FileFault<'a>
+fn read_fault<'a>(fault: InputFault, path: &'a str) -> FileFault<'a>
     ensures { (result ≡ FileFault.Memory) ⊎ (result ≡ FileFault.Read path.entry) }
 {
     match fault {
-        ReadFault::Memory => FileFault::Memory,
-        ReadFault::Reader => FileFault::Read(path),
+        InputFault::Memory => FileFault::Memory,
+        InputFault::Reader => FileFault::Read(path),
     }
 }
 

@@ -17,7 +17,7 @@ use std::io;
 
 // Bytes that stand side by side in one of the two: `len` of them, from the place `at` on.
 #[derive(Clone, Copy)]
-struct Place {
+struct Stretch {
     is_in_copy: bool,
     at: u128,
     len: u128,
@@ -25,7 +25,7 @@ struct Place {
 
 // Where the byte `skip` stands of the subtree over `n` bytes from chunk `number` on, which begins at the place `at` of the combined encoding. A
 // parent's place in the outboard encoding is that one, without the bytes of the chunks before it.
-fn place_of(number: u64, n: u64, at: u128, skip: u128) -> Option<Place>
+fn place_of(number: u64, n: u64, at: u128, skip: u128) -> Option<Stretch>
     requires range { 1024 * number + n ≤ 2 ^ 64 - 1 }
     requires room { at + subtree_size n < 2 ^ 128 }
     requires low { 1024 * number ≤ at }
@@ -41,14 +41,14 @@ fn place_of(number: u64, n: u64, at: u128, skip: u128) -> Option<Place>
         if skip >= len {
             return None;
         }
-        return Some(Place {
+        return Some(Stretch {
             is_in_copy: true,
             at: first + skip,
             len: len - skip,
         });
     }
     if skip < NODE_LEN {
-        return Some(Place {
+        return Some(Stretch {
             is_in_copy: false,
             at: at - first + skip,
             len: NODE_LEN - skip,
@@ -91,7 +91,7 @@ impl<'a, S: Source> Woven<'a, S> {
     }
 
     // Where the combined encoding's byte `at` stands, with those that follow it there, if it has it.
-    fn place_at(&self, at: u64) -> Option<Place>
+    fn place_at(&self, at: u64) -> Option<Stretch>
         ensures some { IfSome result (λ place. (outline copy : List ℕ) → are_whole self.now.total outline copy ≡ true
             → GoesOn (if place.is_in_copy then copy else outline) (woven_text self.now.total outline copy) at place.at place.len) }
         ensures within { IfSome result (λ place. (0 < place.len) × (place.at < 2 ^ 64)) }
@@ -99,7 +99,7 @@ impl<'a, S: Source> Woven<'a, S> {
     {
         let at = u128::from(at);
         if at < HEADER_LEN {
-            return Some(Place {
+            return Some(Stretch {
                 is_in_copy: false,
                 at,
                 len: HEADER_LEN - at,

@@ -28,7 +28,7 @@ use Rattle.bao_text.proofs.Everything.{length-parent_text, length-subtree_text, 
 use Rattle.bao_text.proofs.PieceTexts.{length-whole_text}
 use Rattle.bao_text.proofs.SubtreeText.{Parts, left_len-Parts, subtree_text-leaf, subtree_text-parent}
 use Rattle.bao_files.specs.declared.again.AgainFault.{AgainFault}
-use Rattle.bao_files.specs.declared.ahead.Piece.{Piece}
+use Rattle.bao_files.specs.declared.ahead.ReadAhead.{ReadAhead}
 use Rattle.bao_files.specs.Again.{Replaces, Sends, WritesAgain}
 use Rattle.bao_files.specs.Ahead.{IsPieceOf, IsRead, IsUnread}
 use Rattle.bao_files.specs.Encoded.{AppendsPart}
@@ -258,7 +258,7 @@ chunk_whole total mode first s begins one =
     subtree_text-leaf (of_combined total) mode first s (wants_all (of_combined total) (1024 * first) (length s) refl begins) one
 
 -- of a piece of which nothing was read, all is true that is noted
-pub read_none : (contents : Option (List ℕ)) (choice : Choice) (mode : Mode) (it : Piece) → IsUnread it → IsRead contents choice mode it
+pub read_none : (contents : Option (List ℕ)) (choice : Choice) (mode : Mode) (it : ReadAhead) → IsUnread it → IsRead contents choice mode it
 read_none contents choice mode it is =
     subst (λ (value : Result (Option Cv) AgainFault). IfOk value (λ made. IfSome made (λ v. IsPieceOf contents choice mode it.first it.len v.0 it.text.items))) (sym is) tt
 

@@ -6,7 +6,7 @@ use Rattle.b3tree.specs.Valid.{AreBytes}
 use Rattle.bao_read.specs.Given.{GivenAt}
 use Rattle.bao_text.specs.declared.choice.Choice.{Choice}
 use Rattle.bao_text.specs.Texts.{subtree_text}
-use Rattle.bao_files.specs.declared.ahead.Piece.{Piece}
+use Rattle.bao_files.specs.declared.ahead.ReadAhead.{ReadAhead}
 use Rattle.bao_files.specs.declared.ahead.Pieces.{Pieces}
 
 -- the text is the encoding of so many bytes, whose first chunk has the number `first`: they have this value, and are the contents' where those
@@ -20,14 +20,14 @@ pub record IsPieceOf (contents : Option (List ℕ)) (choice : Choice) (mode : Mo
   pub text_is : text ≡ subtree_text choice mode first bytes
 
 -- nothing was read yet
-abbrev pub IsUnread : Piece → Type 0
+abbrev pub IsUnread : ReadAhead → Type 0
 IsUnread it = it.value ≡ Ok None
 
 abbrev pub AreUnread : Pieces → Type 0
 AreUnread it = IsUnread it.now × IsUnread it.next
 
 -- what was read, if it was, is of the place and has the value that is noted
-abbrev pub IsRead : Option (List ℕ) → Choice → Mode → Piece → Type 0
+abbrev pub IsRead : Option (List ℕ) → Choice → Mode → ReadAhead → Type 0
 IsRead contents choice mode it = IfOk it.value (λ made. IfSome made (λ value. IsPieceOf contents choice mode it.first it.len value.0 it.text.items))
 
 abbrev pub AreRead : Option (List ℕ) → Choice → Mode → Pieces → Type 0

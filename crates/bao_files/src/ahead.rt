@@ -17,13 +17,13 @@ use std::mem::swap;
 use std::thread::{Threads, join_mut};
 
 // The most bytes of a piece: so many that a thread is worth its start, and few enough to stay in a processor's cache.
-const PIECE_LEN: usize = 1 << 19;
+const AHEAD_LEN: usize = 1 << 19;
 
-const PIECE_CHUNKS: u64 = (PIECE_LEN / CHUNK_LEN) as u64;
+const AHEAD_CHUNKS: u64 = (AHEAD_LEN / CHUNK_LEN) as u64;
 
 /// Room for a piece and for its encoding.
 #[derive(Drop)]
-pub(crate) struct Piece {
+pub(crate) struct ReadAhead {
     // The number of its first chunk, and how many bytes it has.
     first: u64,
     len: u64,
@@ -66,14 +66,14 @@ fn make<S: Source>(
     }
 }
 
-impl Piece {
+impl ReadAhead {
     // Nothing was read yet.
-    fn new(alloc: Global) -> Result<Piece, AllocError>
+    fn new(alloc: Global) -> Result<ReadAhead, AllocError>
         ensures { IfOk result IsUnread }
     {
-        let bytes = vec![in alloc; 0u8; PIECE_LEN]?;
-        let text = Vec::with_capacity(alloc, subtree_size(PIECE_LEN as u64) as usize)?;
-        Ok(Piece {
+        let bytes = vec![in alloc; 0u8; AHEAD_LEN]?;
+        let text = Vec::with_capacity(alloc, subtree_size(AHEAD_LEN as u64) as usize)?;
+        Ok(ReadAhead {
             first: 0,
             len: 0,
             value: Ok(None),
@@ -107,7 +107,13 @@ impl Piece {
 }
 
 // Reads the piece from chunk `first` on.
-fn read_piece<S: Source>(mode: &Mode, choice: &Choice, source: &S, first: u64, piece: &mut Piece)
+fn read_piece<S: Source>(
+    mode: &Mode,
+    choice: &Choice,
+    source: &S,
+    first: u64,
+    piece: &mut ReadAhead,
+)
     ensures { IsRead (S.contents source.now) choice.now mode.now piece.new }
 {
     let len = len_from(choice, first).min(piece.bytes.len() as u64);
@@ -124,8 +130,8 @@ fn read_piece<S: Source>(mode: &Mode, choice: &Choice, source: &S, first: u64, p
 /// The piece that is written, and the one after it.
 #[derive(Drop)]
 pub(crate) struct Pieces {
-    now: Piece,
-    next: Piece,
+    now: ReadAhead,
+    next: ReadAhead,
 }
 
 // Writes all of the text, while another thread reads the piece from chunk `first` on.
@@ -135,7 +141,7 @@ fn send_and_read<R: Threads + Sync, S: Source + Sync, W: Write>(
     choice: &Choice,
     source: &S,
     first: u64,
-    piece: &mut Piece,
+    piece: &mut ReadAhead,
     text: &[u8],
     out: &mut W,
 ) -> Result<(), AgainFault>
@@ -160,8 +166,8 @@ impl Pieces {
     pub(crate) fn new(alloc: Global) -> Result<Pieces, AllocError>
         ensures { IfOk result AreUnread }
     {
-        let now = Piece::new(alloc)?;
-        let next = Piece::new(alloc)?;
+        let now = ReadAhead::new(alloc)?;
+        let next = ReadAhead::new(alloc)?;
         Ok(Pieces { now, next })
     }
 
@@ -194,7 +200,7 @@ impl Pieces {
         ensures read { AreRead (S.contents source.now) choice.now mode.now self.new }
         ensures piece { IfOk result (λ is_there. is_there ≡ true → IsPieceOf (S.contents source.now) choice.now mode.now first n asked.now.0 self.new.now.text.items) }
     {
-        if n > PIECE_LEN as u64 {
+        if n > AHEAD_LEN as u64 {
             return Ok(false);
         }
         self.go_on(mode, choice, source, first, n);
@@ -214,7 +220,7 @@ impl Pieces {
         ensures read { AreRead (S.contents source.now) choice.now mode.now self.new }
         ensures sent { Sends self.old.now.text.items (W.contents out.old) (W.contents out.new) result }
     {
-        let next_first = self.now.first.saturating_add(PIECE_CHUNKS);
+        let next_first = self.now.first.saturating_add(AHEAD_CHUNKS);
         send_and_read(
             rt,
             mode,

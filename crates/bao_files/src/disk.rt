@@ -11,7 +11,7 @@ use std::io;
 use std::io::{Read, Write};
 
 /// Files by their paths: all that the program reads and writes. [`System`](crate::System) is the system's own, of whose files
-/// no contract knows what they hold; [`Held`](crate::Held) has its files in memory, so that contracts know them.
+/// no contract knows what they hold; [`MemoryFiles`](crate::MemoryFiles) has its files in memory, so that contracts know them.
 ///
 /// A file is opened, and read from its start on or by position. A file is written as a draft, which is nowhere on the disk until it
 /// is finished; then it is at its path, in place of what was there.

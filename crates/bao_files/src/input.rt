@@ -20,14 +20,14 @@ pub(crate) const LEAST_SHARED_LEN: u64 = 4 << 20;
 
 /// Why a reader was not read to its end.
 #[derive(Clone, Copy, Debug, PartialEq, Eq)]
-pub enum ReadFault {
+pub enum InputFault {
     /// A growth was refused.
     Memory,
     /// A read answered a fault, of whatever kind.
     Reader,
 }
 
-impl ReadFault {
+impl InputFault {
     /// The fault's number: none.
     pub fn code(&self) -> Option<u16>
         ensures { result ≡ None }
@@ -38,7 +38,7 @@ impl ReadFault {
 
 // Appends what one read gives, and answers how many bytes that is: none only at the reader's end. A fault
 // leaves the bytes as they were.
-fn read_some<R: Read>(reader: &mut R, bytes: &mut Vec<u8>) -> Result<usize, ReadFault>
+fn read_some<R: Read>(reader: &mut R, bytes: &mut Vec<u8>) -> Result<usize, InputFault>
     ensures ok { IfOk result (λ count. (taken : List ℕ) × (length taken ≡ count)
         × AppendsTaken (R.remaining reader.old) (R.remaining reader.new) bytes.old.items bytes.new.items taken) }
     ensures end { IfOk result (λ count. count ≡ 0 → IsAtEnd (R.remaining reader.new)) }
@@ -46,7 +46,7 @@ fn read_some<R: Read>(reader: &mut R, bytes: &mut Vec<u8>) -> Result<usize, Read
 {
     let start = bytes.len();
     if bytes.resize(start.saturating_add(READ_LEN), 0).is_err() {
-        return Err(ReadFault::Memory);
+        return Err(InputFault::Memory);
     }
     match reader.read(&mut bytes.as_mut_slice()[start..]) {
         Ok(count) => {
@@ -55,7 +55,7 @@ fn read_some<R: Read>(reader: &mut R, bytes: &mut Vec<u8>) -> Result<usize, Read
         }
         Err(_) => {
             bytes.truncate(start);
-            Err(ReadFault::Reader)
+            Err(InputFault::Reader)
         }
     }
 }
@@ -64,7 +64,7 @@ fn read_some<R: Read>(reader: &mut R, bytes: &mut Vec<u8>) -> Result<usize, Read
 ///
 /// Answers `Memory` where a growth was refused, and `Reader` where a read answered a fault, one of the kind
 /// `Interrupted` too, which is not tried again: then the bytes have what was read.
-pub fn read_whole<R: Read>(reader: &mut R, bytes: &mut Vec<u8>) -> Result<(), ReadFault>
+pub fn read_whole<R: Read>(reader: &mut R, bytes: &mut Vec<u8>) -> Result<(), InputFault>
     ensures all { OnOk result (IfSome (R.remaining reader.old) (λ left. bytes.new.items ≡ bytes.old.items ++ left)) }
     ensures end { OnOk result (IsAtEnd (R.remaining reader.new)) }
     ensures read { (taken : List ℕ) × AppendsTaken (R.remaining reader.old) (R.remaining reader.new) bytes.old.items bytes.new.items taken }
@@ -78,7 +78,7 @@ pub fn read_whole<R: Read>(reader: &mut R, bytes: &mut Vec<u8>) -> Result<(), Re
 
 /// As `read_whole`, of a reader that is said to have `size` bytes. That is room for a start, so that bytes are moved at
 /// most once, and nothing more. Where this room is refused, nothing was read.
-pub fn read_sized<R: Read>(reader: &mut R, size: u64, bytes: &mut Vec<u8>) -> Result<(), ReadFault>
+pub fn read_sized<R: Read>(reader: &mut R, size: u64, bytes: &mut Vec<u8>) -> Result<(), InputFault>
     ensures all { OnOk result (IfSome (R.remaining reader.old) (λ left. bytes.new.items ≡ bytes.old.items ++ left)) }
     ensures end { OnOk result (IsAtEnd (R.remaining reader.new)) }
     ensures read { (taken : List ℕ) × AppendsTaken (R.remaining reader.old) (R.remaining reader.new) bytes.old.items bytes.new.items taken }
@@ -87,7 +87,7 @@ pub fn read_sized<R: Read>(reader: &mut R, size: u64, bytes: &mut Vec<u8>) -> Re
         .unwrap_or(usize::MAX)
         .saturating_add(READ_LEN);
     if bytes.reserve(room).is_err() {
-        return Err(ReadFault::Memory);
+        return Err(InputFault::Memory);
     }
     read_whole(reader, bytes)
 }
@@ -144,8 +144,8 @@ pub fn read_input<'a, I: Read>(
     let mut bytes = Vec::new(alloc);
     match read_sized(input, size, &mut bytes) {
         Ok(()) => Ok(bytes),
-        Err(ReadFault::Memory) => Err(FileFault::Memory),
-        Err(ReadFault::Reader) => Err(FileFault::Read(path)),
+        Err(InputFault::Memory) => Err(FileFault::Memory),
+        Err(InputFault::Reader) => Err(FileFault::Read(path)),
     }
 }
 

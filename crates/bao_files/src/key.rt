@@ -5,7 +5,7 @@ ghost use Rattle.bao_files.specs.Keys.{GivesKey, IsKeyText};
 
 use crate::digits::decoded;
 use crate::fault::FileFault;
-use crate::input::ReadFault;
+use crate::input::InputFault;
 use b3tree::bytes_are;
 use std::io::Read;
 
@@ -13,7 +13,7 @@ use std::io::Read;
 const MOST_LEN: usize = 66;
 
 // Reads into `room` until that is full or the reader at its end, and answers how many bytes that were.
-fn read_start<R: Read>(reader: &mut R, room: &mut [u8]) -> Result<usize, ReadFault>
+fn read_start<R: Read>(reader: &mut R, room: &mut [u8]) -> Result<usize, InputFault>
     ensures room { length room.new ≡ length room.old }
     ensures bound { IfOk result (λ count. count ≤ length room.old) }
     ensures start { IfOk result (λ count. Consumes (R.remaining reader.old) (R.remaining reader.new) (take count room.new)) }
@@ -25,7 +25,7 @@ fn read_start<R: Read>(reader: &mut R, room: &mut [u8]) -> Result<usize, ReadFau
         match reader.read(&mut room[filled..]) {
             Ok(0) => return Ok(filled),
             Ok(count) => filled += count,
-            Err(_) => return Err(ReadFault::Reader),
+            Err(_) => return Err(InputFault::Reader),
         }
     }
     Ok(filled)

@@ -16,16 +16,16 @@ const MOST_SUFFIX_LEN: usize = 6;
 
 // A regular file that is to be replaced, or made, and the new file beside it.
 #[derive(Drop)]
-struct Place {
+struct DraftPlace {
     target: String,
     // With room for the target's name and a suffix.
     draft: String,
 }
 
 // The name of what is to be replaced at this path, and room for that of the new file.
-fn named(alloc: Global, target: &str) -> Result<Place, AllocError> {
+fn named(alloc: Global, target: &str) -> Result<DraftPlace, AllocError> {
     let room = target.len().saturating_add(MOST_SUFFIX_LEN);
-    Ok(Place {
+    Ok(DraftPlace {
         target: String::from_str(alloc, target)?,
         draft: String::with_capacity(alloc, room)?,
     })
@@ -39,7 +39,7 @@ fn is_open_file(path: &str) -> bool {
 }
 
 // What is replaced at the path: nothing, where there is no regular file but something else.
-fn place_of<R: Files + AllocGlobal>(rt: &R, path: &str) -> Result<Option<Place>, AllocError> {
+fn place_of<R: Files + AllocGlobal>(rt: &R, path: &str) -> Result<Option<DraftPlace>, AllocError> {
     if is_open_file(path) {
         return Ok(None);
     }
@@ -74,7 +74,7 @@ fn permissions_of<R: Files>(rt: &R, target: &str) -> io::Result<Option<Permissio
     }
 }
 
-impl Place {
+impl DraftPlace {
     // Makes the new file, under the first name that no file has.
     fn create<R: Files>(&mut self, rt: &R) -> io::Result<R::File> {
         for suffix in SUFFIXES {
@@ -102,7 +102,7 @@ impl Place {
 pub struct LateFile<'a, R: Files> {
     rt: &'a R,
     path: String,
-    place: Option<Place>,
+    place: Option<DraftPlace>,
     file: Option<R::File>,
     is_drafted: bool,
 }

@@ -6,14 +6,14 @@ pub use digits::{bytes_of_digits, print_count, print_digits, print_output, print
 pub use disk::Disk;
 pub use extent::Extent;
 pub use fault::FileFault;
-pub use held::{Held, HeldInput};
 pub use input::{
-    ReadFault, STANDARD_INPUT, open_file, read_file, read_input, read_sized, read_whole,
+    InputFault, STANDARD_INPUT, open_file, read_file, read_input, read_sized, read_whole,
 };
 pub use key::read_key;
 pub use late_file::LateFile;
+pub use memory_files::{HeldInput, MemoryFiles};
 pub use meter::Meter;
-pub use once::Once;
+pub use one_try::Once;
 pub use output::{encode_input, encode_on, write_encoding};
 pub use progress::Progress;
 pub use reading::{hash_reader, print_file, print_input, print_reader};
@@ -26,12 +26,12 @@ mod digits;
 mod disk;
 mod extent;
 mod fault;
-mod held;
 mod input;
 mod key;
 mod late_file;
+mod memory_files;
 mod meter;
-mod once;
+mod one_try;
 mod output;
 mod places;
 mod progress;

@@ -10,7 +10,7 @@ ghost use Rattle.bao_files.specs.Printed.{OnOutput, Prints, digits_line};
 use crate::digits::{print_digits, print_output};
 use crate::disk::{Disk, len_hint};
 use crate::fault::FileFault;
-use crate::input::ReadFault;
+use crate::input::InputFault;
 use crate::progress::Progress;
 use crate::shown::Shown;
 use b3tree::{Hash, Hasher, Mode, bytes_are};
@@ -20,7 +20,7 @@ use std::io::{Read, Write};
 use std::thread::Threads;
 
 // The most bytes that one read asks for: few enough to stay in a processor's cache.
-const PIECE_LEN: usize = 1 << 20;
+const HASHED_LEN: usize = 1 << 20;
 
 // The bytes of a hash, as far as extended output goes.
 const HASH_LEN: u32 = 32;
@@ -31,24 +31,24 @@ fn hash_some<R: Read>(
     reader: &mut R,
     hasher: &mut Hasher,
     piece: &mut [u8],
-) -> Result<usize, ReadFault>
+) -> Result<usize, InputFault>
     requires { 0 < length piece.old }
     ensures room { length piece.new ≡ length piece.old }
     ensures taken { IfOk result (λ count. (taken : List ℕ) × Consumes (R.remaining reader.old) (R.remaining reader.new) taken × AreBytes taken
         × ((mode : Mode) (s : List ℕ) → Holds hasher.old mode s → Holds hasher.new mode (s ++ taken))) }
     ensures end { IfOk result (λ count. count ≡ 0 → IsAtEnd (R.remaining reader.new)) }
-    ensures fault { IfErr result (λ fault. fault ≡ ReadFault.Reader) }
+    ensures fault { IfErr result (λ fault. fault ≡ InputFault.Reader) }
 {
     let count = match reader.read(piece) {
         Ok(count) => count,
-        Err(_) => return Err(ReadFault::Reader),
+        Err(_) => return Err(InputFault::Reader),
     };
     let taken = &piece[..count];
     // A law, so that the proof has what it says: nothing runs.
     bytes_are(taken);
     match hasher.update(taken) {
         Ok(()) => Ok(count),
-        Err(_) => Err(ReadFault::Reader),
+        Err(_) => Err(InputFault::Reader),
     }
 }
 
@@ -60,12 +60,12 @@ pub fn hash_reader<R: Read>(
     mode: &Mode,
     reader: &mut R,
     piece: &mut [u8],
-) -> Result<Hasher, ReadFault>
+) -> Result<Hasher, InputFault>
     requires { 0 < length piece.old }
     ensures all { IfOk result (λ hasher. IfSome (R.remaining reader.old) (λ left. Holds hasher mode.now left)) }
     ensures some { IfOk result (λ hasher. (bytes : List ℕ) × AreBytes bytes × Holds hasher mode.now bytes) }
     ensures end { OnOk result (IsAtEnd (R.remaining reader.new)) }
-    ensures fault { IfErr result (λ fault. fault ≡ ReadFault.Reader) }
+    ensures fault { IfErr result (λ fault. fault ≡ InputFault.Reader) }
 {
     let mut hasher = Hasher::new(mode);
     'reads: for _ in 0..u64::MAX {
@@ -73,7 +73,7 @@ pub fn hash_reader<R: Read>(
             return Ok(hasher);
         }
     }
-    Err(ReadFault::Reader)
+    Err(InputFault::Reader)
 }
 
 /// Writes `len` bytes of the extended output of all that `reader` has left in `mode`, from byte `at` on, to
@@ -98,7 +98,7 @@ pub fn print_reader<'a, R: Read, W: Write>(
     ensures end { OnOk result (IsAtEnd (R.remaining reader.new)) }
     ensures fault { IfErr result (λ fault. (fault ≡ FileFault.Memory) ⊎ (fault ≡ FileFault.Output) ⊎ (fault ≡ FileFault.Read path.entry)) }
 {
-    let mut piece = vec![in alloc; 0u8; PIECE_LEN].map_err(|_| FileFault::Memory)?;
+    let mut piece = vec![in alloc; 0u8; HASHED_LEN].map_err(|_| FileFault::Memory)?;
     match hash_reader(mode, reader, piece.as_mut_slice()) {
         Ok(hasher) => print_output(alloc, &hasher, at, len, out),
         Err(_) => Err(FileFault::Read(path)),

@@ -1,7 +1,7 @@
 ghost use Rattle.std.specs.Prelude.{◌≡◌, ◌*◌, ◌<◌, ◌≤◌, ◌^◌};
 
 use crate::fault::ReadFault;
-use crate::made::Made;
+use crate::subtree_text::Made;
 use b3tree::CHUNK_LEN;
 
 /// The most chunks of a job of bytes that lie in memory: so many that the work is worth the stealing, and few enough that

@@ -10,8 +10,8 @@ ghost use Rattle.bao_read.specs.Jobs.{AllThere, IsJob, IsJobAnswer, job_count, j
 use crate::fault::ReadFault;
 use crate::gate::Gate;
 use crate::jobs::{Answer, Cutting, Job};
-use crate::made::make;
 use crate::source::Source;
+use crate::subtree_text::make;
 use crate::tree::{Tree, tree_over};
 use b3tree::Mode;
 use bao_text::Choice;

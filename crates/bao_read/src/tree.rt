@@ -11,8 +11,8 @@ ghost use Rattle.bao_read.specs.Jobs.{AllThere, IsJobAnswer};
 
 use crate::fault::ReadFault;
 use crate::jobs::Answer;
-use crate::made::{Made, make};
 use crate::source::Source;
+use crate::subtree_text::{Made, make};
 use b3tree::{CHUNK_LEN, Cv, Input, Mode, cv, left_len, parent_input};
 use bao_text::{Choice, PARENT_LEN, put_parent};
 use std::alloc::{AllocError, Global};

@@ -1,7 +1,7 @@
 -- what became of a file
 use Rattle.std.specs.Prelude.{List, ℕ, None, Option, Some, codes}
-use Rattle.bao_tasks.specs.declared.fate.Fate.{Fate}
-use Rattle.bao_tasks.specs.declared.fate.Fate.TheVariants.{Taken, Unread, Starved, Unopened}
+use Rattle.bao_tasks.specs.declared.file_fate.Fate.{Fate}
+use Rattle.bao_tasks.specs.declared.file_fate.Fate.TheVariants.{Taken, Unread, Starved, Unopened}
 
 -- it was read
 abbrev pub IsTaken : Fate → Type 0

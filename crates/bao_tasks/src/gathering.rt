@@ -20,7 +20,7 @@ ghost use Rattle.bao_tasks.specs.Gathered.{Fits, HasOutlineIn, HasRootAndFits, I
 ghost use Rattle.bao_tasks.specs.Givens.{given_contents, is_given_faultless, most_bytes, watched_contents, watched_faultless};
 ghost use Rattle.bao_tasks.specs.Worth.{IsWorthAs};
 
-use crate::fate::Fate;
+use crate::file_fate::Fate;
 use crate::gathered_fault::GatheredFault;
 use crate::given::{Given, held, placed};
 use crate::missing::{Lack, lack_of};

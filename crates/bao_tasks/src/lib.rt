@@ -1,7 +1,7 @@
 //! Each task of the program over files: a file checked and what it certifies written, a schedule run, a blob gathered.
 #![tactic(auto)]
 
-pub use fate::Fate;
+pub use file_fate::Fate;
 pub use gather::{Form, Grain};
 pub use gathered_fault::GatheredFault;
 pub use gathering::{Gathering, gather_beside_on, gather_on};
@@ -15,8 +15,7 @@ pub use spot::{Spot, spot_in_outboard, spot_in_slice};
 pub use worth::{Worth, worth_of_copy, worth_of_encoding};
 pub use writing::write_gathered;
 
-mod fate;
-mod found;
+mod file_fate;
 mod gathered_fault;
 mod gathering;
 mod given;
@@ -27,5 +26,6 @@ mod replaying;
 mod rerun_fault;
 mod spot;
 mod watched;
+mod whole_blob;
 mod worth;
 mod writing;

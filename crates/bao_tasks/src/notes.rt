@@ -1,8 +1,8 @@
 ghost use Rattle.std.specs.Prelude.{◌≡◌, IfOk, replicate};
-ghost use Rattle.bao_tasks.specs.declared.fate.Fate.TheVariants as Fate;
+ghost use Rattle.bao_tasks.specs.declared.file_fate.Fate.TheVariants as Fate;
 ghost use Rattle.bao_tasks.specs.declared.missing.Lack.TheVariants as Lack;
 
-use crate::fate::Fate;
+use crate::file_fate::Fate;
 use crate::missing::Lack;
 use std::alloc::{AllocError, Global};
 

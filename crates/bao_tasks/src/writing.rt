@@ -13,9 +13,9 @@ ghost use Rattle.store_core.specs.Laws.{IsBlob};
 ghost use Rattle.bao_tasks.specs.TakenFiles.{IsRightOf};
 ghost use Rattle.bao_tasks.specs.Gathered.{IsWrittenOut, LeavesBlob, WritesBlob};
 
-use crate::found::write_found;
 use crate::gathered_fault::GatheredFault;
 use crate::gathering::Gathering;
+use crate::whole_blob::write_found;
 use b3tree::{Hash, Mode};
 use bao_read::Source;
 use bao_text::chunk_count;

@@ -9,7 +9,7 @@ use Rattle.b3tree.proofs.TopInput.{IsLeftLen_chunks}
 use Rattle.bao_text.specs.declared.choice.Choice.{Choice}
 use Rattle.bao_text.specs.declared.walk.Node.{Node}
 use Rattle.bao_text.specs.declared.walk.Node.TheVariants.{Chunk, Parent}
-use Rattle.bao_text.specs.declared.walk.Subtree.{Subtree}
+use Rattle.bao_text.specs.declared.walk.WaitingSubtree.{WaitingSubtree}
 use Rattle.bao_text.specs.Choice.{wants}
 use Rattle.bao_text.specs.NodeNames.{AreWaiting, IsWaiting, name, node_names, waiting_names}
 use Rattle.bao_text.specs.Nodes.{TreeNode, Side, left, nodes_within, right, subtree_nodes, subtree_size}
@@ -63,25 +63,25 @@ names-parent choice number n wanted more =
     (simp map-append (λ i. Parent middle ∷ (names-anywhere choice number l (left ∷ []) 64 i ++ names-anywhere choice middle (n - l) (right ∷ []) (64 + subtree_size l) i)))
 
 -- a subtree put last comes first
-pub waiting_names-last : (choice : Choice) (xs : List Subtree) (x : Subtree) → waiting_names choice (xs ++ x ∷ []) ≡ node_names choice x.number x.len ++ waiting_names choice xs
+pub waiting_names-last : (choice : Choice) (xs : List WaitingSubtree) (x : WaitingSubtree) → waiting_names choice (xs ++ x ∷ []) ≡ node_names choice x.number x.len ++ waiting_names choice xs
 waiting_names-last choice [] x = sym (append-nil (node_names choice x.number x.len))
 waiting_names-last choice (y ∷ ys) x =
     ap (λ (zs : List Node). zs ++ node_names choice y.number y.len) (waiting_names-last choice ys x)
     ∙ append_assoc (node_names choice x.number x.len) (waiting_names choice ys) (node_names choice y.number y.len)
 
-pub AreWaiting-last : (choice : Choice) (levels : ℕ) (xs : List Subtree) (x : Subtree) → AreWaiting choice levels xs → IsWaiting choice (levels - length xs) x
+pub AreWaiting-last : (choice : Choice) (levels : ℕ) (xs : List WaitingSubtree) (x : WaitingSubtree) → AreWaiting choice levels xs → IsWaiting choice (levels - length xs) x
     → AreWaiting choice levels (xs ++ x ∷ [])
 AreWaiting-last choice levels [] x all is =
-    let e : levels - length {A = Subtree} [] ≡ levels = omega arith in
+    let e : levels - length {A = WaitingSubtree} [] ≡ levels = omega arith in
     (rw e at is, tt)
 AreWaiting-last choice levels (y ∷ ys) x all is =
     let e : levels - length (y ∷ ys) ≡ levels - 1 - length ys = omega arith in
     (all.0, AreWaiting-last choice (levels - 1) ys x all.1 (rw e at is))
 
-AreWaiting-parted : (choice : Choice) (levels : ℕ) (xs : List Subtree) (x : Subtree) → AreWaiting choice levels (xs ++ x ∷ [])
+AreWaiting-parted : (choice : Choice) (levels : ℕ) (xs : List WaitingSubtree) (x : WaitingSubtree) → AreWaiting choice levels (xs ++ x ∷ [])
     → AreWaiting choice levels xs × IsWaiting choice (levels - length xs) x
 AreWaiting-parted choice levels [] x all =
-    let e : levels - length {A = Subtree} [] ≡ levels = omega arith in
+    let e : levels - length {A = WaitingSubtree} [] ≡ levels = omega arith in
     (tt, rw e all.0)
 AreWaiting-parted choice levels (y ∷ ys) x all =
     let e : levels - length (y ∷ ys) ≡ levels - 1 - length ys = omega arith in
@@ -98,14 +98,14 @@ left_levels n l k is fits =
     ]
 
 -- the last of those that wait, taken off
-pub record Taken (choice : Choice) (old new : List Subtree) (x : Subtree) : Type 0 where
+pub record Taken (choice : Choice) (old new : List WaitingSubtree) (x : WaitingSubtree) : Type 0 where
   pub waiting : AreWaiting choice 54 new
   pub wanted : wants choice (1024 * x.number) x.len ≡ true
   pub within : 1024 * x.number + x.len ≤ 2 ^ 64 - 1
   pub levels : x.len ≤ 1024 * 2 ^ (54 - length new)
   pub names : waiting_names choice old ≡ node_names choice x.number x.len ++ waiting_names choice new
 
-pub taken_last : (choice : Choice) (old new : List Subtree) (x : Subtree) → AreWaiting choice 54 old → old ≡ new ++ x ∷ [] → Taken choice old new x
+pub taken_last : (choice : Choice) (old new : List WaitingSubtree) (x : WaitingSubtree) → AreWaiting choice 54 old → old ≡ new ++ x ∷ [] → Taken choice old new x
 taken_last choice old new x all e =
     let kept = AreWaiting-parted choice 54 new x (rw e at all) in record {
       waiting = kept.0;
@@ -116,14 +116,14 @@ taken_last choice old new x all e =
     }
 
 -- what a subtree that has parts leaves room for
-pub record Parted (choice : Choice) (x : Subtree) (waiting l : ℕ) : Type 0 where
+pub record Parted (choice : Choice) (x : WaitingSubtree) (waiting l : ℕ) : Type 0 where
   pub room : waiting < 54
   pub middle : 1024 * (x.number + l / 1024) + (x.len - l) ≤ 2 ^ 64 - 1
   pub near : 1024 * x.number + l ≤ 2 ^ 64 - 1
   pub far_levels : x.len - l ≤ 1024 * 2 ^ (54 - waiting)
   pub near_levels : (more : ℕ) → more ≤ waiting + 1 → l ≤ 1024 * 2 ^ (54 - more)
 
-pub parted : (choice : Choice) (old new : List Subtree) (x : Subtree) (l : ℕ) → Taken choice old new x → 1024 < x.len → l ≡ left_len x.len → IsLeftLen x.len l → Parted choice x (length new) l
+pub parted : (choice : Choice) (old new : List WaitingSubtree) (x : WaitingSubtree) (l : ℕ) → Taken choice old new x → 1024 < x.len → l ≡ left_len x.len → IsLeftLen x.len l → Parted choice x (length new) l
 parted choice old new x l taken more l_is is =
     let whole : 1024 * (l / 1024) ≡ l = (IsLeftLen_chunks x.len l is).0 in
     elim (cases_lt (length new) 54) [

@@ -6,7 +6,7 @@ use Rattle.b3tree.specs.Tree.{left_len}
 use Rattle.bao_text.specs.declared.choice.Choice.{Choice}
 use Rattle.bao_text.specs.declared.walk.Node.{Node}
 use Rattle.bao_text.specs.declared.walk.Node.TheVariants.{Chunk, Parent}
-use Rattle.bao_text.specs.declared.walk.Subtree.{Subtree}
+use Rattle.bao_text.specs.declared.walk.WaitingSubtree.{WaitingSubtree}
 use Rattle.bao_text.specs.Choice.{wants}
 use Rattle.bao_text.specs.Nodes.{TreeNode, nodes, subtree_nodes}
 
@@ -27,23 +27,23 @@ abbrev pub slice_names : ℕ → ℕ → ℕ → List Node
 slice_names total start len = map name (nodes total start len)
 
 -- those of subtrees that wait, the last of them first
-abbrev pub waiting_names : Choice → List Subtree → List Node
+abbrev pub waiting_names : Choice → List WaitingSubtree → List Node
 waiting_names choice [] = []
 waiting_names choice (subtree ∷ rest) = waiting_names choice rest ++ node_names choice subtree.number subtree.len
 
 -- a wanted subtree of at most so many levels of parents
-abbrev pub IsWaiting : Choice → ℕ → Subtree → Type 0
+abbrev pub IsWaiting : Choice → ℕ → WaitingSubtree → Type 0
 IsWaiting choice levels subtree =
     (wants choice (1024 * subtree.number) subtree.len ≡ true) × ((1024 * subtree.number + subtree.len ≤ 2 ^ 64 - 1) × (subtree.len ≤ 1024 * 2 ^ levels))
 
-IsWaiting-prop : (choice : Choice) (levels : ℕ) (subtree : Subtree) → IsProp (IsWaiting choice levels subtree)
+IsWaiting-prop : (choice : Choice) (levels : ℕ) (subtree : WaitingSubtree) → IsProp (IsWaiting choice levels subtree)
 IsWaiting-prop choice levels subtree = ×_prop (Bool-set (wants choice (1024 * subtree.number) subtree.len) true) (×_prop le_prop le_prop)
 
 -- each that waits has fewer levels than the one before it
-abbrev pub AreWaiting : Choice → ℕ → List Subtree → Type 0
+abbrev pub AreWaiting : Choice → ℕ → List WaitingSubtree → Type 0
 AreWaiting choice levels [] = Unit {0}
 AreWaiting choice levels (subtree ∷ rest) = IsWaiting choice levels subtree × AreWaiting choice (levels - 1) rest
 
-pub AreWaiting-prop : (choice : Choice) (levels : ℕ) (subtrees : List Subtree) → IsProp (AreWaiting choice levels subtrees)
+pub AreWaiting-prop : (choice : Choice) (levels : ℕ) (subtrees : List WaitingSubtree) → IsProp (AreWaiting choice levels subtrees)
 AreWaiting-prop choice levels [] = Unit-prop
 AreWaiting-prop choice levels (subtree ∷ rest) = ×_prop (IsWaiting-prop choice levels subtree) (AreWaiting-prop choice (levels - 1) rest)

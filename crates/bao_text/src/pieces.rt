@@ -11,7 +11,7 @@ use b3tree::{CHUNK_LEN, left_len};
 use std::io::Write;
 
 // The largest subtree whose encoding goes out at once, in bytes of the blob.
-const PIECE_LEN: usize = 64 * CHUNK_LEN;
+const WRITTEN_LEN: usize = 64 * CHUNK_LEN;
 
 /// How many levels of larger subtrees a blob has at most: 2^64 bytes are 2^48 pieces.
 pub(crate) const LEVELS: u32 = 48;
@@ -19,18 +19,18 @@ pub(crate) const LEVELS: u32 = 48;
 /// The room for what goes out at once: the length, a parent of each level, and a piece with its parents.
 pub(crate) const ROOM_LEN: usize = LENGTH_LEN
     + PARENT_LEN * LEVELS as usize
-    + PIECE_LEN
+    + WRITTEN_LEN
     + PARENT_LEN * 63;
 
 /// A subtree's bytes, beside the encoding of its parents in pre-order.
 #[derive(Clone, Copy)]
-pub(crate) struct Subtree<'a> {
+pub(crate) struct SubtreeBytes<'a> {
     pub(crate) parents: &'a [u8],
     pub(crate) bytes: &'a [u8],
 }
 
 // The encoding of the subtree's own parent, and its left and right part.
-fn parts<'a>(subtree: Subtree<'a>) -> (&'a [u8], Subtree<'a>, Subtree<'a>)
+fn parts<'a>(subtree: SubtreeBytes<'a>) -> (&'a [u8], SubtreeBytes<'a>, SubtreeBytes<'a>)
     requires more { 1024 < length subtree.bytes.now }
     requires size { HasSize subtree.parents.now subtree.bytes.now }
     ensures parent { length result.0.now ≡ 64 }
@@ -49,11 +49,11 @@ fn parts<'a>(subtree: Subtree<'a>) -> (&'a [u8], Subtree<'a>, Subtree<'a>)
     let (left, right) = subtree.bytes.split_at(left_len);
     let (parent, below) = subtree.parents.split_at(PARENT_LEN);
     let (near, far) = below.split_at(PARENT_LEN * (left_len / CHUNK_LEN - 1));
-    let left = Subtree {
+    let left = SubtreeBytes {
         parents: near,
         bytes: left,
     };
-    let right = Subtree {
+    let right = SubtreeBytes {
         parents: far,
         bytes: right,
     };
@@ -61,7 +61,7 @@ fn parts<'a>(subtree: Subtree<'a>) -> (&'a [u8], Subtree<'a>, Subtree<'a>)
 }
 
 // Puts the subtree's combined encoding into the room, from place `at` on.
-fn fill(subtree: Subtree<'_>, room: &mut [u8], at: usize)
+fn fill(subtree: SubtreeBytes<'_>, room: &mut [u8], at: usize)
     requires size { HasSize subtree.parents.now subtree.bytes.now }
     requires room { at + subtree_size (length subtree.bytes.now) ≤ length room.old }
     ensures { (total : ℕ) (mode : Mode) (first : ℕ) → HasParents total mode first subtree.entry.parents.now subtree.entry.bytes.now
@@ -82,7 +82,7 @@ fn fill(subtree: Subtree<'_>, room: &mut [u8], at: usize)
 // Writes the first `lead` bytes of the room, and the subtree's combined encoding after them. A larger subtree's
 // parent goes out with its left part.
 pub(crate) fn write_subtree<W: Write>(
-    subtree: Subtree<'_>,
+    subtree: SubtreeBytes<'_>,
     levels: u32,
     room: &mut [u8],
     lead: usize,
@@ -97,7 +97,7 @@ pub(crate) fn write_subtree<W: Write>(
         → Writes before (W.contents out.old) (W.contents out.new)
         (take lead room.old ++ whole_text total mode first subtree.entry.bytes.now) result }
 {
-    if subtree.bytes.len() <= PIECE_LEN {
+    if subtree.bytes.len() <= WRITTEN_LEN {
         fill(subtree, room, lead);
         let end = lead + subtree.parents.len() + subtree.bytes.len();
         return write_after(before, &room[..end], out);

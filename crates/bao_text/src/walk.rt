@@ -16,7 +16,7 @@ pub enum Node {
 
 // The subtree over `len` bytes from chunk `number` on.
 #[derive(Clone, Copy, Debug, Default)]
-struct Subtree {
+struct WaitingSubtree {
     number: u64,
     len: u64,
 }
@@ -25,7 +25,7 @@ struct Subtree {
 /// right part waits, and at last a chunk.
 pub const WAITING_LEN: usize = 55;
 
-type Waiting = ArrayVec<Subtree, WAITING_LEN>;
+type Waiting = ArrayVec<WaitingSubtree, WAITING_LEN>;
 
 /// The nodes of a slice in pre-order. It takes no memory.
 #[derive(Drop)]
@@ -46,7 +46,7 @@ fn push_wanted(choice: &Choice, waiting: &mut Waiting, number: u64, len: u64)
     ensures room { length waiting.new.items ≤ length waiting.old.items + 1 }
 {
     if choice.wants(CHUNK_LEN as u64 * number, len) {
-        waiting.push(Subtree { number, len });
+        waiting.push(WaitingSubtree { number, len });
     }
 }
 
@@ -59,7 +59,7 @@ fn next_node(choice: &Choice, waiting: &mut Waiting) -> Option<Node>
     ensures first { IfSome result (λ node. waiting_names choice.now waiting.old.items ≡ node ∷ waiting_names choice.now waiting.new.items) }
     ensures none { IfNone result ((waiting_names choice.now waiting.old.items ≡ []) × (waiting_names choice.now waiting.new.items ≡ [])) }
 {
-    let Subtree { number, len } = waiting.pop()?;
+    let WaitingSubtree { number, len } = waiting.pop()?;
     if len <= CHUNK_LEN as u64 {
         return Some(Node::Chunk(number));
     }

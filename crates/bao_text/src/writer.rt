@@ -7,7 +7,7 @@ ghost use Rattle.bao_text.specs.Faults.{Writes, WroteOnly};
 ghost use Rattle.bao_text.specs.Texts.{combined_text, joined, outboard_text};
 
 use crate::fault::WriteFault;
-use crate::pieces::{LEVELS, ROOM_LEN, Subtree, write_subtree};
+use crate::pieces::{LEVELS, ROOM_LEN, SubtreeBytes, write_subtree};
 use crate::sizes::LENGTH_LEN;
 use crate::texts::outboard;
 use b3tree::{Hash, Mode};
@@ -82,7 +82,7 @@ fn write_beside<W: Write>(
 {
     let (length, parents) = outboard.split_at(LENGTH_LEN);
     room[..LENGTH_LEN].copy_from_slice(length);
-    let whole = Subtree { parents, bytes };
+    let whole = SubtreeBytes { parents, bytes };
     write_subtree(whole, LEVELS, room, LENGTH_LEN, 0, out)
 }
 

@@ -3,11 +3,11 @@ ghost use Rattle.bao_windows.specs.Available.{LacksGroup, LacksOne};
 ghost use Rattle.bao_windows.specs.Windows.{Adds, IsFrom, fixed_for};
 
 use crate::appending::CHUNK_BYTES;
-use crate::taking::{Part, take_any};
+use crate::taking::take_any;
 use crate::wanted::Wanted;
 use bao_check::GROUP_BYTES;
 use bao_read::Source;
-use gather::Grain;
+use gather::{ByteRange, Grain};
 use std::alloc::{AllocError, Global};
 
 // Takes the chunks of a part one by one, each from the first source in turn that has it, up to one that none has.
@@ -16,19 +16,19 @@ fn take_chunks<S: Source>(
     wanted: &Wanted<'_>,
     sources: &[S],
     last: &mut usize,
-    part: Part,
+    part: ByteRange,
     room: &mut Vec<u8>,
     into: &mut Vec<u8>,
 ) -> Result<bool, AllocError>
-    requires aligned { part.at % 1024 ≡ 0 }
-    requires range { part.at + part.len < 2 ^ 64 }
-    ensures took { IfOk result (λ took. took ≡ true → Adds (IsFrom wanted.now S.contents S.faultless sources.now) (fixed_for wanted.now) part.at part.len into.old.items into.new.items) }
-    ensures lacks { IfOk result (λ took. took ≡ false → LacksOne S.contents S.faultless wanted.now sources.now part.at part.len) }
+    requires aligned { part.start % 1024 ≡ 0 }
+    requires range { part.start + part.len < 2 ^ 64 }
+    ensures took { IfOk result (λ took. took ≡ true → Adds (IsFrom wanted.now S.contents S.faultless sources.now) (fixed_for wanted.now) part.start part.len into.old.items into.new.items) }
+    ensures lacks { IfOk result (λ took. took ≡ false → LacksOne S.contents S.faultless wanted.now sources.now part.start part.len) }
 {
     let mut came: u64 = 0;
     'chunks: while came < part.len {
-        let chunk = Part {
-            at: part.at + came,
+        let chunk = ByteRange {
+            start: part.start + came,
             len: CHUNK_BYTES.min(part.len - came),
         };
         if !take_any(alloc, wanted, sources, last, chunk, CHUNK_BYTES, room, into)? {
@@ -46,15 +46,15 @@ pub(crate) fn take_group<S: Source>(
     wanted: &Wanted<'_>,
     sources: &[S],
     last: &mut usize,
-    part: Part,
+    part: ByteRange,
     room: &mut Vec<u8>,
     into: &mut Vec<u8>,
 ) -> Result<bool, AllocError>
-    requires aligned { part.at % 65536 ≡ 0 }
+    requires aligned { part.start % 65536 ≡ 0 }
     requires some { 0 < part.len }
-    requires range { part.at + part.len < 2 ^ 64 }
-    ensures took { IfOk result (λ took. took ≡ true → Adds (IsFrom wanted.now S.contents S.faultless sources.now) (fixed_for wanted.now) part.at part.len into.old.items into.new.items) }
-    ensures lacks { IfOk result (λ took. took ≡ false → LacksGroup S.contents S.faultless wanted.now sources.now part.at part.len) }
+    requires range { part.start + part.len < 2 ^ 64 }
+    ensures took { IfOk result (λ took. took ≡ true → Adds (IsFrom wanted.now S.contents S.faultless sources.now) (fixed_for wanted.now) part.start part.len into.old.items into.new.items) }
+    ensures lacks { IfOk result (λ took. took ≡ false → LacksGroup S.contents S.faultless wanted.now sources.now part.start part.len) }
 {
     if take_any(alloc, wanted, sources, last, part, GROUP_BYTES, room, into)? {
         return Ok(true);

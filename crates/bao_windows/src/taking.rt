@@ -10,15 +10,8 @@ use b3tree::bytes_are;
 use bao_check::{Outline, bare_fits, check_bare, check_slice};
 use bao_read::Source;
 use bao_text::chunk_count;
-use gather::{Encoded, Form, Holder, Plain};
+use gather::{ByteRange, Encoded, Form, Holder, Plain};
 use std::alloc::{AllocError, Global};
-
-// So many bytes of a blob from byte `at` on.
-#[derive(Clone, Copy, Debug)]
-pub(crate) struct Part {
-    pub(crate) at: u64,
-    pub(crate) len: u64,
-}
 
 // Takes a part of the blob from one source, whose slice of `span` bytes from the part's place on is fetched and checked.
 fn take_slice<S: Source>(
@@ -26,35 +19,35 @@ fn take_slice<S: Source>(
     wanted: &Wanted<'_>,
     sources: &[S],
     place: usize,
-    part: Part,
+    part: ByteRange,
     span: u64,
     room: &mut Vec<u8>,
     into: &mut Vec<u8>,
 ) -> Result<bool, AllocError>
     requires form { AreSlices wanted.now.form }
     requires place { place < length sources.now }
-    requires aligned { part.at % 1024 ≡ 0 }
-    requires range { part.at + part.len < 2 ^ 64 }
-    ensures took { IfOk result (λ took. Takes took (IsFrom wanted.now S.contents S.faultless sources.now) (fixed_for wanted.now) part.at part.len into.old.items into.new.items) }
-    ensures refused { IfOk result (λ took. took ≡ false → Refuses S.contents S.faultless wanted.now sources.now part.at part.len span place) }
+    requires aligned { part.start % 1024 ≡ 0 }
+    requires range { part.start + part.len < 2 ^ 64 }
+    ensures took { IfOk result (λ took. Takes took (IsFrom wanted.now S.contents S.faultless sources.now) (fixed_for wanted.now) part.start part.len into.old.items into.new.items) }
+    ensures refused { IfOk result (λ took. took ≡ false → Refuses S.contents S.faultless wanted.now sources.now part.start part.len span place) }
 {
     room.clear();
     let mut holder = Encoded::at(&sources[place]);
-    pass_over(holder.fetch(part.at, span, room))?;
+    pass_over(holder.fetch(part.start, span, room))?;
     // For the prover alone: the elements of a text are bytes.
     bytes_are(room.as_slice());
     match check_slice(
         alloc,
         &wanted.mode,
         &wanted.root,
-        part.at,
+        part.start,
         span,
         room.as_slice(),
     ) {
         Ok(piece) => {
             // For the prover alone: an accepted piece's encoding is of bytes.
             piece.is_accepted();
-            append_part(&piece, part.at, part.len, into)
+            append_part(&piece, part.start, part.len, into)
         }
         Err(_) => Ok(false),
     }
@@ -67,18 +60,18 @@ fn take_bare<S: Source>(
     outline: &Outline<'_>,
     sources: &[S],
     place: usize,
-    part: Part,
+    part: ByteRange,
     room: &mut Vec<u8>,
     into: &mut Vec<u8>,
 ) -> Result<bool, AllocError>
     requires form { IsBeside wanted.now.form outline.now }
     requires place { place < length sources.now }
-    requires aligned { part.at % 1024 ≡ 0 }
-    requires range { part.at + part.len < 2 ^ 64 }
-    ensures took { IfOk result (λ took. Takes took (IsFrom wanted.now S.contents S.faultless sources.now) (fixed_for wanted.now) part.at part.len into.old.items into.new.items) }
-    ensures refused { IfOk result (λ took. took ≡ false → (span : ℕ) → Refuses S.contents S.faultless wanted.now sources.now part.at part.len span place) }
+    requires aligned { part.start % 1024 ≡ 0 }
+    requires range { part.start + part.len < 2 ^ 64 }
+    ensures took { IfOk result (λ took. Takes took (IsFrom wanted.now S.contents S.faultless sources.now) (fixed_for wanted.now) part.start part.len into.old.items into.new.items) }
+    ensures refused { IfOk result (λ took. took ≡ false → (span : ℕ) → Refuses S.contents S.faultless wanted.now sources.now part.start part.len span place) }
 {
-    let first = part.at / CHUNK_BYTES;
+    let first = part.start / CHUNK_BYTES;
     let count = chunk_count(part.len);
     if !wanted.fixed().is_of(&outline.root(), &outline.mode()) {
         return Ok(false);
@@ -88,17 +81,17 @@ fn take_bare<S: Source>(
     }
     let len = CHUNK_BYTES
         .saturating_mul(count)
-        .min(outline.claimed().saturating_sub(part.at));
+        .min(outline.claimed().saturating_sub(part.start));
     room.clear();
     let mut holder = Plain::at(&sources[place]);
-    pass_over(holder.fetch(part.at, len, room))?;
+    pass_over(holder.fetch(part.start, len, room))?;
     // For the prover alone: the elements of a text are bytes.
     bytes_are(room.as_slice());
     match check_bare(outline, first, count, room.as_slice()) {
         Ok(piece) => {
             // For the prover alone: an accepted piece's encoding is of bytes.
             piece.is_accepted();
-            append_part(&piece, part.at, part.len, into)
+            append_part(&piece, part.start, part.len, into)
         }
         Err(_) => Ok(false),
     }
@@ -125,15 +118,15 @@ pub(crate) fn take_any<S: Source>(
     wanted: &Wanted<'_>,
     sources: &[S],
     last: &mut usize,
-    part: Part,
+    part: ByteRange,
     span: u64,
     room: &mut Vec<u8>,
     into: &mut Vec<u8>,
 ) -> Result<bool, AllocError>
-    requires aligned { part.at % 1024 ≡ 0 }
-    requires range { part.at + part.len < 2 ^ 64 }
-    ensures took { IfOk result (λ took. Takes took (IsFrom wanted.now S.contents S.faultless sources.now) (fixed_for wanted.now) part.at part.len into.old.items into.new.items) }
-    ensures refused { IfOk result (λ took. took ≡ false → AllRefuse S.contents S.faultless wanted.now sources.now part.at part.len span) }
+    requires aligned { part.start % 1024 ≡ 0 }
+    requires range { part.start + part.len < 2 ^ 64 }
+    ensures took { IfOk result (λ took. Takes took (IsFrom wanted.now S.contents S.faultless sources.now) (fixed_for wanted.now) part.start part.len into.old.items into.new.items) }
+    ensures refused { IfOk result (λ took. took ≡ false → AllRefuse S.contents S.faultless wanted.now sources.now part.start part.len span) }
 {
     let count = sources.len();
     let first = (*last).min(count.saturating_sub(1));

@@ -4,11 +4,10 @@ ghost use Rattle.bao_windows.specs.Available.{IsFilled, IsTried};
 ghost use Rattle.bao_windows.specs.Windows.{HasFault};
 
 use crate::group::take_group;
-use crate::taking::Part;
 use crate::wanted::Wanted;
 use bao_check::GROUP_BYTES;
 use bao_read::Source;
-use gather::GatherFault;
+use gather::{ByteRange, GatherFault};
 use std::alloc::{AllocError, Global};
 use std::thread::{Threads, for_each_mut};
 
@@ -79,8 +78,8 @@ fn fill_slot<S: Source>(
         return;
     }
     let at = start + before;
-    let part = Part {
-        at,
+    let part = ByteRange {
+        start: at,
         len: GROUP_BYTES.min(total - at),
     };
     let taken = take_group(

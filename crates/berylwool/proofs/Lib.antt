@@ -2,7 +2,7 @@ pub mod Beside
 pub mod Bytes
 pub mod EachGroup
 pub mod Feeds
-pub mod Finding
+pub mod PlacesOfNodes
 pub mod Finishing
 pub mod HandleValues
 pub mod HeldBits

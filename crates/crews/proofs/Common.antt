@@ -25,7 +25,7 @@ pub use Rattle.gather.proofs.Binding.{are_longer, found_by, pair_of, some_bytes}
 pub use Rattle.gather.proofs.Finishing.{binds_found, filled_whole, judged_at, no_none, verdict_binds}
 pub use Rattle.gather.proofs.Gaining.{among_onward}
 pub use Rattle.gather.proofs.Handing.{large_pair, text_true, unfinished_named}
-pub use Rattle.gather.proofs.Lending.{lent_beside, lent_by, lent_over, source_true}
+pub use Rattle.gather.proofs.HolderLists.{lent_beside, lent_by, lent_over, source_true}
 pub use Rattle.gather.proofs.Reporting.{large_wider, later_then, none_gained, onward}
 pub use Rattle.gather.proofs.Rooms.{whole_is}
 pub use Rattle.gather.proofs.Served.{served}

@@ -5,7 +5,7 @@ pub mod Knowing
 pub mod Finishing
 pub mod Uniting
 pub mod Alone
-pub mod Whence
+pub mod HandedOver
 pub mod Rereading
 pub mod HandingOut
 pub mod Giving

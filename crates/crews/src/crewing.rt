@@ -9,8 +9,9 @@ use gather::{GatherFault, Lists};
 use std::alloc::Global;
 use store_shared::{Assembly, Seat};
 
-// The most workers that gather.
-pub(crate) const MOST_WORKERS: u32 = 64;
+// The most crews, one for each worker that gathers. The program's command line takes as many workers at the most
+// (`bao_request`), and stands on no crate that has workers.
+pub(crate) const MOST_CREWS: u32 = 64;
 
 // So many crews, each with a seat of its own that is split off this one and a list of holders of its own; and the seat
 // that stays.

@@ -9,7 +9,7 @@ ghost use Rattle.store_core.specs.Laws.{IsBlob};
 ghost use Rattle.store_core.specs.Knowledge.{opening_view};
 ghost use Rattle.store_shared.specs.Seats.{IsSeatOf, fixed_of};
 
-use crate::crewing::{MOST_WORKERS, crews_with};
+use crate::crewing::{MOST_CREWS, crews_with};
 use crate::handing::hand_out;
 use crate::joining::all_joined;
 use crate::rounds::{all_reports, first_round};
@@ -64,7 +64,7 @@ fn gather_within<R: Threads + Sync, H: Holder + Send + Drop, L: Lists<H>>(
         → IsHandedOut own_bytes (IsLent (made_of form.now H.gives) (L.over lists.now)) fixed.now blob result }
 {
     let (assembly, seat) = store_for(alloc, fixed)?;
-    let workers = how.workers.clamp(1, MOST_WORKERS);
+    let workers = how.workers.clamp(1, MOST_CREWS);
     let (mut crews, seat) = crews_with::<H, L>(alloc, &assembly, seat, workers, lists)?;
     first_round(rt, alloc, &assembly, form, crews.as_mut_slice(), &Open);
     let report = all_reports(crews.as_slice());

@@ -1,3 +1,3 @@
 pub mod Values
 pub mod Sent
-pub mod Held
+pub mod SameHashers

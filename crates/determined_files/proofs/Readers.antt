@@ -8,8 +8,8 @@ use Rattle.b3tree.specs.declared.hasher.Hasher.{Hasher}
 use Rattle.b3tree.specs.declared.mode.Mode.{Mode}
 use Rattle.b3tree.specs.declared.values.Hash.{Hash}
 use Rattle.bao_files.specs.Reading.{AppendsTaken}
-use Rattle.bao_files.specs.declared.input.ReadFault.{ReadFault}
-use Rattle.bao_files.specs.declared.input.ReadFault.TheVariants.{Reader}
+use Rattle.bao_files.specs.declared.input.InputFault.{InputFault}
+use Rattle.bao_files.specs.declared.input.InputFault.TheVariants.{Reader}
 use Rattle.determined_files.proofs.Writers.{same_hash}
 
 -- what is left of known bytes
@@ -81,10 +81,10 @@ hashes_agree mode None also r s u v same p q f g = tt
 hashes_agree mode (Some all) also r s u v same p q f g =
     one_hash (hash mode all) u v (f all p) (g all (subst (λ (o : Option (List ℕ)). IfOk s (λ h. IfSome o (λ all. Holds h mode all))) (sym same) q))
 
-pub one_reader_fault : (r s : Result Hasher ReadFault) (u v : Result Hash ReadFault) → IfErr r (λ f. f ≡ Reader) → IfErr s (λ f. f ≡ Reader)
+pub one_reader_fault : (r s : Result Hasher InputFault) (u v : Result Hash InputFault) → IfErr r (λ f. f ≡ Reader) → IfErr s (λ f. f ≡ Reader)
     → IfErr u (λ f. r ≡ Err f) → IfErr v (λ f. s ≡ Err f) → IfErr u (λ e. IfErr v (λ f. e ≡ f))
 one_reader_fault r s (Ok x) v p q a b = tt
 one_reader_fault r s (Err e) (Ok y) p q a b = tt
 one_reader_fault r s (Err e) (Err f) p q a b =
-    let one : e ≡ Reader = subst (λ (t : Result Hasher ReadFault). IfErr t (λ f. f ≡ Reader)) a p in
-    let other : f ≡ Reader = subst (λ (t : Result Hasher ReadFault). IfErr t (λ f. f ≡ Reader)) b q in one ∙ sym other
+    let one : e ≡ Reader = subst (λ (t : Result Hasher InputFault). IfErr t (λ f. f ≡ Reader)) a p in
+    let other : f ≡ Reader = subst (λ (t : Result Hasher InputFault). IfErr t (λ f. f ≡ Reader)) b q in one ∙ sym other

@@ -7,7 +7,7 @@ ghost use Rattle.b3tree.specs.Taken.{Holds};
 
 use b3tree::{Hash, Hasher, Mode};
 use bao_files::{
-    FileFault, ReadFault, hash_reader, open_file, read_file, read_input, read_key, read_sized,
+    FileFault, InputFault, hash_reader, open_file, read_file, read_input, read_key, read_sized,
     read_whole,
 };
 use std::alloc::Global;
@@ -21,7 +21,7 @@ pub fn read_whole_determined<R: Read, S: Read>(
     theirs: &mut S,
     a: &mut Vec<u8>,
     b: &mut Vec<u8>,
-) -> (Result<(), ReadFault>, Result<(), ReadFault>)
+) -> (Result<(), InputFault>, Result<(), InputFault>)
     requires bytes { a.old.items ≡ b.old.items }
     requires same { R.remaining ours.old ≡ S.remaining theirs.old }
     ensures whole { IfSome (R.remaining ours.old) (λ _. OnOk result.0 (OnOk result.1 ((a.new.items ≡ b.new.items) × (R.remaining ours.new ≡ S.remaining theirs.new)))) }
@@ -38,7 +38,7 @@ pub fn read_sized_determined<R: Read, S: Read>(
     other_size: u64,
     a: &mut Vec<u8>,
     b: &mut Vec<u8>,
-) -> (Result<(), ReadFault>, Result<(), ReadFault>)
+) -> (Result<(), InputFault>, Result<(), InputFault>)
     requires bytes { a.old.items ≡ b.old.items }
     requires same { R.remaining ours.old ≡ S.remaining theirs.old }
     ensures whole { IfSome (R.remaining ours.old) (λ _. OnOk result.0 (OnOk result.1 ((a.new.items ≡ b.new.items) × (R.remaining ours.new ≡ S.remaining theirs.new)))) }
@@ -86,7 +86,7 @@ pub fn read_key_determined<'a, R: Read, S: Read>(
 }
 
 // The hash that a hasher gives, where there is one.
-fn finished(answer: Result<Hasher, ReadFault>) -> Result<Hash, ReadFault>
+fn finished(answer: Result<Hasher, InputFault>) -> Result<Hash, InputFault>
     ensures hash { (mode : Mode) (s : List ℕ) → IfOk answer (λ hasher. Holds hasher mode s) → IfOk result (λ found. found.0 ≡ hash mode s) }
     ensures fault { IfErr result (λ f. answer ≡ Err f) }
 {
@@ -103,7 +103,7 @@ pub fn hash_reader_determined<R: Read, S: Read>(
     theirs: &mut S,
     piece: &mut [u8],
     other_piece: &mut [u8],
-) -> (Result<Hash, ReadFault>, Result<Hash, ReadFault>)
+) -> (Result<Hash, InputFault>, Result<Hash, InputFault>)
     requires first { 0 < length piece.old }
     requires second { 0 < length other_piece.old }
     requires same { R.remaining ours.old ≡ S.remaining theirs.old }

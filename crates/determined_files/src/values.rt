@@ -27,8 +27,8 @@ pub fn file_code_determined(fault: &FileFault<'_>) -> (Option<u16>, Option<u16>)
 }
 
 pub fn reader_code_determined(
-    a: &bao_files::ReadFault,
-    b: &bao_files::ReadFault,
+    a: &bao_files::InputFault,
+    b: &bao_files::InputFault,
 ) -> (Option<u16>, Option<u16>)
     ensures { result.0 ≡ result.1 }
 {

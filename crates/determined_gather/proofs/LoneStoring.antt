@@ -37,7 +37,7 @@ use Rattle.crews.specs.Seats.{claims_of, fixed_of}
 use Rattle.crews.proofs.Alone.{held_there, looks_on, rest_there}
 use Rattle.crews.proofs.Knowing.{all_there, granted_there, unstored_refused}
 use Rattle.crews.proofs.Sharing.{goes_on}
-use Rattle.crews.proofs.Whence.{opening_all}
+use Rattle.crews.proofs.HandedOver.{opening_all}
 use Rattle.determined_gather.specs.Serves.{AreStored, HasNode, HasSliceOf, IsReady, number_of}
 
 some_bytes : (o : Option (List ℕ)) → is_some o ≡ true → (bytes : List ℕ) × (o ≡ Some bytes)

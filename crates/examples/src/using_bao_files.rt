@@ -3,7 +3,7 @@
 use crate::telling::tell_text;
 use anyhow::{Context, Result};
 use b3tree::{Hash, Mode};
-use bao_files::{Disk, FileFault, Held, encode_on};
+use bao_files::{Disk, FileFault, MemoryFiles, encode_on};
 use bao_text::Encoding;
 use std::alloc::Global;
 use std::thread::Threads;
@@ -25,7 +25,7 @@ pub fn show<R: Print + AllocGlobal + Threads + Sync>(
     alloc: Global,
     blob: &[u8],
 ) -> Result<()> {
-    let mut disk = Held::new(alloc);
+    let mut disk = MemoryFiles::new(alloc);
     disk.put("blob", blob.to_vec(alloc)?)?;
     encode(rt, &mut disk, "blob", "blob.bao")?;
     let text = disk.get("blob.bao").context("a file that was written")?;

@@ -14,7 +14,7 @@ use Rattle.gather.proofs.Owning.{own_makes}
 use Rattle.gather.proofs.Serving.{is_of, later_slice, slice_good, slice_is}
 use Rattle.gather.specs.declared.form.Form.{Form}
 use Rattle.gather.specs.declared.form.Form.TheVariants.{Slices, Bare}
-use Rattle.gather.specs.declared.form.Part.{Part}
+use Rattle.gather.specs.declared.form.ByteRange.{ByteRange}
 use Rattle.gather.specs.Forms.{AreSlices, IsChunk, IsEnd, IsGroup, IsLengthOf, IsMade, IsPart, IsSliceCheck, checked_len, checked_text, chunks_of_part, form_mode, form_root, made_of}
 use Rattle.gather.specs.Parts.{HaveParts, IsAskedIn, IsBareFor, IsEndIn, IsFor, IsOutlineFor, IsOwn}
 use Rattle.gather.specs.Holders.{AreLater, GivesNoMore, IsGiven}
@@ -25,7 +25,7 @@ made_no_more Slices gives old new no_more = no_more
 made_no_more (Bare outline) gives old new no_more = λ start len text is. record { bytes = is.bytes; given = no_more start _ is.bytes is.given; is = is.is }
 
 -- a checked piece is made of what its holder gave, which was read as a text
-pub made_given : {H : Type 0} (form : Form) (gives : H → ℕ → ℕ → List ℕ → Type 0) (holder : H) (part : Part) (text bytes : List ℕ) (piece : Piece) → text ≡ bytes → gives holder part.start part.len bytes
+pub made_given : {H : Type 0} (form : Form) (gives : H → ℕ → ℕ → List ℕ → Type 0) (holder : H) (part : ByteRange) (text bytes : List ℕ) (piece : Piece) → text ≡ bytes → gives holder part.start part.len bytes
     → IsMade form part text piece → IsGiven (made_of form gives) holder piece
 made_given Slices gives holder part text bytes piece same given made =
     subst (λ (n : ℕ). gives holder n piece.len piece.text) (sym made.0) (subst (λ (n : ℕ). gives holder part.start n piece.text) (sym made.1)
@@ -65,7 +65,7 @@ end_at Slices = (2 ^ 64 - 1, 1, (refl, refl))
 end_at (Bare outline) = (1024 * (chunk_count (outline_claimed outline.now) - 1), 1024, (refl, refl))
 
 -- what is asked for the length is checked as that slice, which reaches the blob's end
-pub end_checked : (form : Form) (part : Part) (start len : ℕ) → IsEnd form part → IsEndIn form start len → (part.start ≡ start) × (checked_len form part ≡ len)
+pub end_checked : (form : Form) (part : ByteRange) (start len : ℕ) → IsEnd form part → IsEndIn form start len → (part.start ≡ start) × (checked_len form part ≡ len)
 end_checked Slices part start len is end = (is.0 ∙ sym end.0, is.1 ∙ sym end.1)
 end_checked (Bare outline) part start len is end = (omega (arith, is.0, end.0), omega (arith, is.1, end.1))
 
@@ -74,12 +74,12 @@ end_reaches Slices fixed blob start len of served end = omega (arith, served.few
 end_reaches (Bare outline) fixed blob start len of served end = omega (arith, of.claims, end.0, end.1)
 
 -- what is asked for a group or a chunk is checked as the slice that the chunk is asked for by, and reaches it
-pub group_checked : (form : Form) (fixed : Fixed) (blob : List ℕ) (group : ℕ) (part : Part) (c : ℕ) → IsFor form fixed blob → IsGroup form group part → c < chunk_count (length blob) → c / 64 ≡ group
+pub group_checked : (form : Form) (fixed : Fixed) (blob : List ℕ) (group : ℕ) (part : ByteRange) (c : ℕ) → IsFor form fixed blob → IsGroup form group part → c < chunk_count (length blob) → c / 64 ≡ group
     → IsAskedIn form ByGroup c part.start (checked_len form part)
 group_checked Slices fixed blob group part c of is below here = (omega (arith, is.0, here), is.1)
 group_checked (Bare outline) fixed blob group part c of is below here = (omega (arith, is.0, here), omega (arith, is.1, of.claims, below, here))
 
-pub chunk_checked : (form : Form) (c : ℕ) (part : Part) → IsChunk form c part → IsAskedIn form ByChunk c part.start (checked_len form part)
+pub chunk_checked : (form : Form) (c : ℕ) (part : ByteRange) → IsChunk form c part → IsAskedIn form ByChunk c part.start (checked_len form part)
 chunk_checked Slices c part is = is
 chunk_checked (Bare outline) c part is = (is.0, omega (arith, is.1))
 
@@ -96,7 +96,7 @@ length_for Slices fixed blob l of long = tt
 length_for (Bare outline) fixed blob l of long = of.claims ∙ sym long
 
 -- the text that is checked of what such a holder gave is the blob's slice
-pub slice_given : {H : Type 0} (form : Form) (gives : H → ℕ → ℕ → List ℕ → Type 0) (mode : Mode) (blob : List ℕ) (holder : H) (part : Part) (text given : List ℕ) → IsPart form part
+pub slice_given : {H : Type 0} (form : Form) (gives : H → ℕ → ℕ → List ℕ → Type 0) (mode : Mode) (blob : List ℕ) (holder : H) (part : ByteRange) (text given : List ℕ) → IsPart form part
     → GivesSlice (made_of form gives) mode blob part.start (checked_len form part) holder → text ≡ given → gives holder part.start part.len given
     → checked_text form part text ≡ slice_text mode blob part.start (checked_len form part)
 slice_given Slices gives mode blob holder part text given whole slices same is = same ∙ slices given is
@@ -114,7 +114,7 @@ never_empty mode blob start len none =
     absurd (omega (arith, no, length-append (length_text (length blob)) (subtree_text (of_slice (length blob) start len) mode 0 blob)))
 
 -- nor are the bytes of a blob's chunks
-never_bare : (fixed : Fixed) (outline : Outline) (blob : List ℕ) (part : Part) → IsServed fixed blob → IsOutlineFor fixed outline blob
+never_bare : (fixed : Fixed) (outline : Outline) (blob : List ℕ) (part : ByteRange) → IsServed fixed blob → IsOutlineFor fixed outline blob
     → 1024 * (part.start / 1024) ≡ part.start → part.start < max (outline_claimed outline) 1 → part.len ≡ bare_len (outline_claimed outline) part.start (bare_part (chunks_of_part part))
     → beside_text (outline_text outline) part.start (bare_part (chunks_of_part part)) [] ≡ slice_text fixed.mode blob part.start (bare_part (chunks_of_part part)) → ⊥
 never_bare fixed outline blob part served of starts within size none =
@@ -132,7 +132,7 @@ never_bare fixed outline blob part served of starts within size none =
     let there = (bare.good first (omega arith) (omega arith)).0 in
     absurd (omega (arith, there, within, starts, of.claims, of.some))
 
-pub slice_lost : {H : Type 0} (form : Form) (gives : H → ℕ → ℕ → List ℕ → Type 0) (fixed : Fixed) (blob : List ℕ) (holder : H) (part : Part) → IsPart form part → IsFor form fixed blob
+pub slice_lost : {H : Type 0} (form : Form) (gives : H → ℕ → ℕ → List ℕ → Type 0) (fixed : Fixed) (blob : List ℕ) (holder : H) (part : ByteRange) → IsPart form part → IsFor form fixed blob
     → IsServed fixed blob → GivesSlice (made_of form gives) fixed.mode blob part.start (checked_len form part) holder → gives holder part.start part.len [] → ⊥
 slice_lost Slices gives fixed blob holder part whole of served slices lost = never_empty fixed.mode blob part.start part.len (slices [] lost)
 slice_lost (Bare outline) gives fixed blob holder part whole of served slices lost =
@@ -140,13 +140,13 @@ slice_lost (Bare outline) gives fixed blob holder part whole of served slices lo
     (slice_given (Bare outline) gives fixed.mode blob holder part [] [] whole slices refl lost)
 
 -- it is accepted as that slice
-pub slice_made : (form : Form) (fixed known : Fixed) (part : Part) (text : List ℕ) (piece : Checked) (blob : List ℕ) (start len : ℕ) → part.start ≡ start → checked_len form part ≡ len
+pub slice_made : (form : Form) (fixed known : Fixed) (part : ByteRange) (text : List ℕ) (piece : Checked) (blob : List ℕ) (start len : ℕ) → part.start ≡ start → checked_len form part ≡ len
     → checked_text form part text ≡ slice_text fixed.mode blob part.start (checked_len form part) → IsSliceCheck form known part text (Ok piece) → piece_of fixed.base piece ≡ slice_of fixed blob start len
 slice_made form fixed known part text piece blob start len start_is len_is is check =
     slice_is fixed piece (form_mode form known) (form_root form known) part.start (checked_len form part) blob (checked_text form part text) check.1 is
     ∙ (ap (λ (n : ℕ). slice_of fixed blob n (checked_len form part)) start_is ∙ ap (λ (n : ℕ). slice_of fixed blob start n) len_is)
 
-pub slice_of_store : (form : Form) (fixed known : Fixed) (blob : List ℕ) (part : Part) (text : List ℕ) (piece : Checked) → IsFor form fixed blob → known ≡ fixed
+pub slice_of_store : (form : Form) (fixed known : Fixed) (blob : List ℕ) (part : ByteRange) (text : List ℕ) (piece : Checked) → IsFor form fixed blob → known ≡ fixed
     → IsSliceCheck form known part text (Ok piece) → IsOf fixed piece
 slice_of_store Slices fixed known blob part text piece of same check = is_of fixed known piece part.start part.len text same check.1
 slice_of_store (Bare outline) fixed known blob part text piece of same check = record {
@@ -154,7 +154,7 @@ slice_of_store (Bare outline) fixed known blob part text piece of same check = r
   mode = check.1.mode_is ∙ of.mode_is;
 }
 
-pub slice_refused : (form : Form) (fixed known : Fixed) (part : Part) (text blob : List ℕ) (fault : CheckFault) → IsFor form fixed blob → IsServed fixed blob → known ≡ fixed
+pub slice_refused : (form : Form) (fixed known : Fixed) (part : ByteRange) (text blob : List ℕ) (fault : CheckFault) → IsFor form fixed blob → IsServed fixed blob → known ≡ fixed
     → checked_text form part text ≡ slice_text fixed.mode blob part.start (checked_len form part) → IsSliceCheck form known part text (Err fault) → ⊥
 slice_refused Slices fixed known part text blob fault of served same is check =
     let no : false ≡ true = check.0.1 (slice_good fixed known blob text part.start part.len served same is) in cc
@@ -168,7 +168,7 @@ slice_refused (Bare outline) fixed known part text blob fault of served same is 
     let no : false ≡ true = check.0.1 here in cc
 
 -- what a holder gives of the slice that the length is asked for by
-pub end_slice : {H : Type 0} (form : Form) (gives : H → ℕ → ℕ → List ℕ → Type 0) (mode : Mode) (blob : List ℕ) (holder : H) (part : Part) (start len : ℕ) → IsEnd form part
+pub end_slice : {H : Type 0} (form : Form) (gives : H → ℕ → ℕ → List ℕ → Type 0) (mode : Mode) (blob : List ℕ) (holder : H) (part : ByteRange) (start len : ℕ) → IsEnd form part
     → IsEndIn form start len → GivesSlice (made_of form gives) mode blob start len holder → GivesSlice (made_of form gives) mode blob part.start (checked_len form part) holder
 end_slice form gives mode blob holder part start len is end slice =
     let at = end_checked form part start len is end in

@@ -16,5 +16,5 @@ pub mod Answering
 pub mod Rooms
 pub mod Reading
 pub mod Appending
-pub mod Lending
+pub mod HolderLists
 pub mod Owning

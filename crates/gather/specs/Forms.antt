@@ -12,7 +12,7 @@ use Rattle.bao_check.specs.Outline.{outline_claimed, outline_mode, outline_root,
 use Rattle.bao_text.specs.Choice.{chunk_count}
 use Rattle.gather.specs.declared.form.Form.{Form}
 use Rattle.gather.specs.declared.form.Form.TheVariants.{Slices, Bare}
-use Rattle.gather.specs.declared.form.Part.{Part}
+use Rattle.gather.specs.declared.form.ByteRange.{ByteRange}
 use Rattle.store_core.specs.declared.fixed.Fixed.{Fixed}
 use Rattle.store_core.specs.declared.history.Piece.{Piece}
 
@@ -49,45 +49,45 @@ HasGroup Slices group = Unit {0}
 HasGroup (Bare outline) group = 64 * group < chunk_count (outline_claimed outline.now)
 
 -- how many chunks so many bytes are, at least one
-abbrev pub chunks_of_part : Part → ℕ
+abbrev pub chunks_of_part : ByteRange → ℕ
 chunks_of_part part = max ((part.len + 1023) / 1024) 1
 
 -- bytes of plain copies are whole chunks of a blob of the outline's length
-abbrev pub IsPart : Form → Part → Type 0
+abbrev pub IsPart : Form → ByteRange → Type 0
 IsPart Slices part = Unit {0}
 IsPart (Bare outline) part =
     let total = outline_claimed outline.now in (1024 * (part.start / 1024) ≡ part.start) × (part.start < max total 1) × (part.len ≡ bare_len total part.start (bare_part (chunks_of_part part)))
 
 -- What is asked for the length. With the claimed length L of n chunks it is (1024 * (n - 1), L - 1024 * (n - 1)) of plain
 -- copies: the last chunk.
-abbrev pub IsEnd : Form → Part → Type 0
+abbrev pub IsEnd : Form → ByteRange → Type 0
 IsEnd Slices part = (part.start ≡ 2 ^ 64 - 1) × (part.len ≡ 1)
 IsEnd (Bare outline) part =
     let total = outline_claimed outline.now in let last = chunk_count total - 1 in (part.start ≡ 1024 * last) × (part.len ≡ total - 1024 * last)
 
 -- what is asked for a group
-abbrev pub IsGroup : Form → ℕ → Part → Type 0
+abbrev pub IsGroup : Form → ℕ → ByteRange → Type 0
 IsGroup Slices group part = (part.start ≡ 65536 * group) × (part.len ≡ 65536)
 IsGroup (Bare outline) group part = (part.start ≡ 65536 * group) × (part.len ≡ min 65536 (outline_claimed outline.now - 65536 * group))
 
 -- or for a chunk
-abbrev pub IsChunk : Form → ℕ → Part → Type 0
+abbrev pub IsChunk : Form → ℕ → ByteRange → Type 0
 IsChunk Slices c part = (part.start ≡ 1024 * c) × (part.len ≡ 1024)
 IsChunk (Bare outline) c part = (part.start ≡ 1024 * c) × (part.len ≡ min 1024 (outline_claimed outline.now - 1024 * c))
 
 -- the piece that is made of what was given for a part
-abbrev pub IsMade : Form → Part → List ℕ → Piece → Type 0
+abbrev pub IsMade : Form → ByteRange → List ℕ → Piece → Type 0
 IsMade Slices part text piece = (piece.start ≡ part.start) × (piece.len ≡ part.len) × (piece.text ≡ text)
 IsMade (Bare outline) part text piece =
     (piece.start ≡ part.start) × (part.len ≡ bare_len (outline_claimed outline.now) piece.start piece.len) × (piece.text ≡ beside_text (outline_text outline.now) piece.start piece.len text)
 
 -- How many bytes the slice has that is checked for a part, and its text. What plain copies give is checked as whole chunks,
 -- with the outline's parents.
-abbrev pub checked_len : Form → Part → ℕ
+abbrev pub checked_len : Form → ByteRange → ℕ
 checked_len Slices part = part.len
 checked_len (Bare outline) part = bare_part (chunks_of_part part)
 
-abbrev pub checked_text : Form → Part → List ℕ → List ℕ
+abbrev pub checked_text : Form → ByteRange → List ℕ → List ℕ
 checked_text Slices part text = text
 checked_text (Bare outline) part text = beside_text (outline_text outline.now) part.start (bare_part (chunks_of_part part)) text
 
@@ -101,7 +101,7 @@ form_root Slices fixed = fixed.root.0
 form_root (Bare outline) fixed = outline_root outline.now
 
 -- the slice is accepted exactly where it should be
-abbrev pub IsSliceCheck : Form → Fixed → Part → List ℕ → Result Checked CheckFault → Type 0
+abbrev pub IsSliceCheck : Form → Fixed → ByteRange → List ℕ → Result Checked CheckFault → Type 0
 IsSliceCheck form fixed part text result =
     (IsOk result ↔ IsAccepted (form_mode form fixed) (form_root form fixed) (checked_text form part text) (slice_nodes (checked_text form part text) part.start (checked_len form part)))
     × IfOk result (λ piece. IsPiece piece (form_mode form fixed) (form_root form fixed) part.start (checked_len form part) (checked_text form part text))

@@ -12,9 +12,9 @@ pub(crate) const CHUNK_LEN: u64 = b3tree::CHUNK_LEN as u64;
 
 /// So many bytes of a blob, from byte `start` on.
 #[derive(Clone, Copy, Debug)]
-pub(crate) struct Part {
-    pub(crate) start: u64,
-    pub(crate) len: u64,
+pub struct ByteRange {
+    pub start: u64,
+    pub len: u64,
 }
 
 /// What a worker's holders give, and so which bytes it asks them for, and how it checks what comes.
@@ -38,12 +38,12 @@ impl Form<'_> {
     }
 
     // What is asked for the length: the last chunk.
-    pub(crate) fn end(&self) -> Part
+    pub(crate) fn end(&self) -> ByteRange
         ensures end { IsEnd self.now result }
         ensures part { IsPart self.now result }
     {
         match self {
-            Form::Slices => Part {
+            Form::Slices => ByteRange {
                 start: u64::MAX,
                 len: 1,
             },
@@ -51,7 +51,7 @@ impl Form<'_> {
                 let total = outline.claimed();
                 let last = chunk_count(total) - 1;
                 let start = CHUNK_LEN * last;
-                Part {
+                ByteRange {
                     start,
                     len: total - start,
                 }
@@ -60,18 +60,18 @@ impl Form<'_> {
     }
 
     // What is asked for a group's chunks.
-    pub(crate) fn group(&self, group: u32) -> Part
+    pub(crate) fn group(&self, group: u32) -> ByteRange
         requires { HasGroup self.now group }
         ensures group { IsGroup self.now group result }
         ensures part { IsPart self.now result }
     {
         let start = GROUP_BYTES * u64::from(group);
         match self {
-            Form::Slices => Part {
+            Form::Slices => ByteRange {
                 start,
                 len: GROUP_BYTES,
             },
-            Form::Bare(outline) => Part {
+            Form::Bare(outline) => ByteRange {
                 start,
                 len: GROUP_BYTES.min(outline.claimed().saturating_sub(start)),
             },
@@ -79,7 +79,7 @@ impl Form<'_> {
     }
 
     // What is asked for a chunk.
-    pub(crate) fn chunk(&self, chunk: u64) -> Part
+    pub(crate) fn chunk(&self, chunk: u64) -> ByteRange
         requires number { chunk < 65536 }
         requires chunk { HasChunk self.now chunk }
         ensures chunk { IsChunk self.now chunk result }
@@ -87,11 +87,11 @@ impl Form<'_> {
     {
         let start = CHUNK_LEN * chunk;
         match self {
-            Form::Slices => Part {
+            Form::Slices => ByteRange {
                 start,
                 len: CHUNK_LEN,
             },
-            Form::Bare(outline) => Part {
+            Form::Bare(outline) => ByteRange {
                 start,
                 len: CHUNK_LEN.min(outline.claimed().saturating_sub(start)),
             },
@@ -103,7 +103,7 @@ impl Form<'_> {
         &'b self,
         alloc: Global,
         fixed: &Fixed,
-        part: &Part,
+        part: &ByteRange,
         text: &'b [u8],
     ) -> Result<Checked<'b>, CheckFault>
         requires { IsPart self.now part.now }

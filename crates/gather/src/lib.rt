@@ -4,7 +4,7 @@
 pub use encoded::Encoded;
 pub use fault::{FinishFault, GatherFault, cause, may_lack_room, why};
 pub use finish::{finish_one, judge};
-pub use form::Form;
+pub use form::{ByteRange, Form};
 pub use grain::Grain;
 pub use holder::{Holder, HolderFault};
 pub use holding::Holding;

@@ -12,7 +12,7 @@ use bao_text::Places;
 const END: u128 = u64::MAX as u128;
 
 // The most bytes that are asked for at once: a group's chunks with their parents are fewer.
-const READ_LEN: u128 = 1 << 17;
+const ASKED_LEN: u128 = 1 << 17;
 
 /// What a source has, as bytes that lie at places, and how many faults of its reads are counted. It keeps the source by
 /// reference.
@@ -50,7 +50,7 @@ impl<'a, S: Source> Places for Placed<'a, S> {
             if place >= END {
                 return Ok(false);
             }
-            let room = READ_LEN.min(len - came).min(END - place) as usize;
+            let room = ASKED_LEN.min(len - came).min(END - place) as usize;
             let start = into.len();
             if into.resize(start.saturating_add(room), 0).is_err() {
                 return Err(HolderFault::Memory);

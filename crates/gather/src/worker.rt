@@ -11,7 +11,7 @@ ghost use Rattle.gather.specs.Counts.{HasFailed, Reports};
 ghost use Rattle.gather.specs.Large.{IsTooLarge};
 ghost use Rattle.gather.specs.Holders.{AreLater, GivesNoMore, IsGiven, IsHanded};
 
-use crate::form::{Form, Part};
+use crate::form::{ByteRange, Form};
 use crate::holder::Holder;
 use crate::masks::{MAX_GROUPS, without};
 use crate::parents::store_parents;
@@ -133,7 +133,7 @@ fn ask<S: Shelf, H: Holder>(
     shelf: &S,
     seat: &mut S::Seat,
     holder: &mut H,
-    part: &Part,
+    part: &ByteRange,
     group: u32,
     left: u64,
     text: &mut Vec<u8>,
@@ -195,7 +195,7 @@ pub(crate) fn work_part<S: Shelf, H: Holder>(
     shelf: &S,
     seat: &mut S::Seat,
     holders: &mut [H],
-    part: &Part,
+    part: &ByteRange,
     group: u32,
     want: u64,
     room: &mut Vec<u8>,

@@ -34,7 +34,7 @@ use Rattle.bao_check.proofs.Forks.{Fork, Leaf, NoFork, fork_of, input_of, leaf_o
 use Rattle.bao_check.proofs.Lists.{Contains-cons_cases, Contains-head, Contains-tail}
 use Rattle.bao_check.proofs.Marked.{SameParts, same_parts}
 use Rattle.bao_check.proofs.EachNode.{chunk_node, leaf_nodes}
-use Rattle.bao_check.proofs.Made.{IsChunkMade, IsParentMade, made_accepted}
+use Rattle.bao_check.proofs.NodesAsEncoding.{IsChunkMade, IsParentMade, made_accepted}
 use Rattle.store_core.specs.declared.fixed.Fixed.{Fixed}
 use Rattle.store_core.specs.declared.history.Event.{Event}
 use Rattle.store_core.specs.declared.history.Piece.{Piece}

@@ -10,7 +10,7 @@ use store_core::SeatView;
 
 // What a call was asked for beside the words' own operands, which alone a `Play` reads: picked at each call from its
 // arguments.
-pub(crate) trait Asked {
+pub(crate) trait Arguments {
     ghost use Rattle.std.specs.Prelude.{ℕ};
     ghost use Rattle.store_core.specs.declared.history.Piece.{Piece};
 
@@ -23,7 +23,7 @@ pub(crate) trait Asked {
     ghost piece: { Piece };
 }
 
-impl Asked for Brand {
+impl Arguments for Brand {
     ghost use Rattle.store_steps.specs.Plays.{no_piece};
 
     ghost group = { 0 };
@@ -36,7 +36,7 @@ impl Asked for Brand {
 }
 
 // What a load of a node's held word was asked for: the node, whether it is its slice's last, and the slice's start and length.
-pub(crate) trait AskedNode {
+pub(crate) trait NodeArguments {
     ghost use Rattle.std.specs.Prelude.{ℕ, Bool};
     ghost use Rattle.bao_text.specs.declared.walk.Node.{Node};
 
@@ -49,7 +49,7 @@ pub(crate) trait AskedNode {
     ghost len: { ℕ };
 }
 
-impl AskedNode for Brand {
+impl NodeArguments for Brand {
     ghost use Rattle.std.specs.Prelude.{false};
     ghost use Rattle.bao_text.specs.declared.walk.Node.TheVariants.{Chunk};
 
@@ -67,7 +67,7 @@ pub(crate) struct Taking<A> {
     asked: PhantomData<A>,
 }
 
-impl<A: Asked> Play<(), LinkedList<SeatView>> for Taking<A> {
+impl<A: Arguments> Play<(), LinkedList<SeatView>> for Taking<A> {
     ghost use Rattle.store_steps.specs.Plays.{OfOne, TakesChunks};
 
     ghost then = { λ step me found later. OfOne (TakesChunks A.group A.first step.first found) me later };
@@ -78,18 +78,18 @@ pub(crate) struct Giving<A> {
     asked: PhantomData<A>,
 }
 
-impl<A: Asked> Play<(), LinkedList<SeatView>> for Giving<A> {
+impl<A: Arguments> Play<(), LinkedList<SeatView>> for Giving<A> {
     ghost use Rattle.store_steps.specs.Plays.{OfOne, Gives};
 
     ghost then = { λ step me found later. OfOne (Gives A.group A.first A.second) me later };
 }
 
 // `first` for the item and `second` for its word.
-pub(crate) struct Storing<K, A> {
+pub(crate) struct StoringWord<K, A> {
     asked: PhantomData<(K, A)>,
 }
 
-impl<K: Item, A: Asked> Play<(), LinkedList<SeatView>> for Storing<K, A> {
+impl<K: Item, A: Arguments> Play<(), LinkedList<SeatView>> for StoringWord<K, A> {
     ghost use Rattle.store_steps.specs.Plays.{OfOne};
     ghost use Rattle.store_steps.specs.Tells.{Stores};
 
@@ -101,7 +101,7 @@ pub(crate) struct Publishing<A> {
     asked: PhantomData<A>,
 }
 
-impl<A: Asked> Play<(), LinkedList<SeatView>> for Publishing<A> {
+impl<A: Arguments> Play<(), LinkedList<SeatView>> for Publishing<A> {
     ghost use Rattle.store_steps.specs.Plays.{OfOne, Publishes};
 
     ghost then = { λ step me found later. OfOne (Publishes A.group A.piece step.first) me later };
@@ -112,7 +112,7 @@ pub(crate) struct Loading<A> {
     asked: PhantomData<A>,
 }
 
-impl<A: Asked> Play<(), LinkedList<SeatView>> for Loading<A> {
+impl<A: Arguments> Play<(), LinkedList<SeatView>> for Loading<A> {
     ghost use Rattle.store_steps.specs.Plays.{OfOne, Loads};
 
     ghost then = { λ step me found later. OfOne (Loads A.group A.first A.second found) me later };
@@ -123,7 +123,7 @@ pub(crate) struct Copying<K, A> {
     asked: PhantomData<(K, A)>,
 }
 
-impl<K: Item, A: Asked> Play<(), LinkedList<SeatView>> for Copying<K, A> {
+impl<K: Item, A: Arguments> Play<(), LinkedList<SeatView>> for Copying<K, A> {
     ghost use Rattle.store_steps.specs.Plays.{OfOne, CopiesWord};
 
     ghost then = { λ step me found later. OfOne (CopiesWord K.kind A.first A.second found) me later };
@@ -133,7 +133,7 @@ pub(crate) struct LoadingNode<A> {
     asked: PhantomData<A>,
 }
 
-impl<A: AskedNode> Play<(), LinkedList<SeatView>> for LoadingNode<A> {
+impl<A: NodeArguments> Play<(), LinkedList<SeatView>> for LoadingNode<A> {
     ghost use Rattle.store_steps.specs.Plays.{LoadsNode, OfOne};
 
     ghost then = { λ step me found later. OfOne (LoadsNode A.node A.last A.start A.len found) me later };
@@ -144,7 +144,7 @@ pub(crate) struct LoadingToServe<A> {
     asked: PhantomData<A>,
 }
 
-impl<A: Asked> Play<(), LinkedList<SeatView>> for LoadingToServe<A> {
+impl<A: Arguments> Play<(), LinkedList<SeatView>> for LoadingToServe<A> {
     ghost use Rattle.store_steps.specs.Plays.{LoadsToServe, OfOne};
 
     ghost then = { λ step me found later. OfOne (LoadsToServe A.first A.second found) me later };
@@ -155,18 +155,18 @@ pub(crate) struct LoadingToStore<A> {
     asked: PhantomData<A>,
 }
 
-impl<A: Asked> Play<(), LinkedList<SeatView>> for LoadingToStore<A> {
+impl<A: Arguments> Play<(), LinkedList<SeatView>> for LoadingToStore<A> {
     ghost use Rattle.store_steps.specs.Plays.{LoadsToStore, OfOne};
 
     ghost then = { λ step me found later. OfOne (LoadsToStore A.group A.piece found) me later };
 }
 
 // `piece`.
-pub(crate) struct Settling<A> {
+pub(crate) struct SettlingLength<A> {
     asked: PhantomData<A>,
 }
 
-impl<A: Asked> Play<(), LinkedList<SeatView>> for Settling<A> {
+impl<A: Arguments> Play<(), LinkedList<SeatView>> for SettlingLength<A> {
     ghost use Rattle.store_steps.specs.Plays.{OfOne, SettlesLength};
 
     ghost then = { λ step me found later. OfOne (SettlesLength A.piece found) me later };
@@ -177,7 +177,7 @@ pub(crate) struct ClaimingParents<A> {
     asked: PhantomData<A>,
 }
 
-impl<A: Asked> Play<(), LinkedList<SeatView>> for ClaimingParents<A> {
+impl<A: Arguments> Play<(), LinkedList<SeatView>> for ClaimingParents<A> {
     ghost use Rattle.store_steps.specs.Plays.{ClaimsParents, OfOne};
 
     ghost then = { λ step me found later. OfOne (ClaimsParents A.group step.first found) me later };
@@ -188,7 +188,7 @@ pub(crate) struct PublishingParents<A> {
     asked: PhantomData<A>,
 }
 
-impl<A: Asked> Play<(), LinkedList<SeatView>> for PublishingParents<A> {
+impl<A: Arguments> Play<(), LinkedList<SeatView>> for PublishingParents<A> {
     ghost use Rattle.store_steps.specs.Plays.{OfOne, PublishesParents};
 
     ghost then = { λ step me found later. OfOne (PublishesParents A.group A.piece step.first) me later };

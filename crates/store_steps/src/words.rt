@@ -12,9 +12,9 @@ use crate::places::{
     parent_held_place, word_count,
 };
 use crate::plays::{
-    Answering, Asked, AskedNode, ClaimingParents, Copying, Giving, Loading, LoadingNode,
-    LoadingToServe, LoadingToStore, Publishing, PublishingParents, Settling as SettlingStep,
-    Storing, Taking,
+    Answering, Arguments, ClaimingParents, Copying, Giving, Loading, LoadingNode, LoadingToServe,
+    LoadingToStore, NodeArguments, Publishing, PublishingParents, SettlingLength, StoringWord,
+    Taking,
 };
 use crate::rule::Law;
 use crate::zeros::{ZEROS_LEN, zeros};
@@ -129,7 +129,7 @@ impl Words {
     }
 
     // Each step stands twice. What it is asked for beside its operands, as the piece of a commit, reaches what it tells by
-    // a type alone (`Asked`), that each call picks anew: so `take` picks one, and `take_asked` makes the step for any.
+    // a type alone (`Arguments`), that each call picks anew: so `take` picks one, and `take_asked` makes the step for any.
     // docs/DECISIONS.md says why.
 
     /// Claims the wanted chunks of a group that are below the capacity and neither held nor claimed, and answers their
@@ -143,7 +143,7 @@ impl Words {
         self.take_asked::<Brand>(grip, group, want)
     }
 
-    fn take_asked<A: Asked>(&self, grip: &mut Grip, group: u32, want: u64) -> u64
+    fn take_asked<A: Arguments>(&self, grip: &mut Grip, group: u32, want: u64) -> u64
         requires of { IsGripOf self.now grip.old }
         requires group { CoversGroup self.now group }
         requires asked { (A.group ≡ group) × (A.first ≡ want) }
@@ -171,7 +171,7 @@ impl Words {
         self.give_asked::<Brand>(grip, group, mask, given);
     }
 
-    fn give_asked<A: Asked>(&self, grip: &mut Grip, group: u32, mask: u64, given: u64)
+    fn give_asked<A: Arguments>(&self, grip: &mut Grip, group: u32, mask: u64, given: u64)
         requires of { IsGripOf self.now grip.old }
         requires group { CoversGroup self.now group }
         requires given { AreClaimed grip.old.view group mask given }
@@ -195,7 +195,7 @@ impl Words {
         self.give_none_asked::<Brand>(grip, group, mask);
     }
 
-    fn give_none_asked<A: Asked>(&self, grip: &mut Grip, group: u32, mask: u64)
+    fn give_none_asked<A: Arguments>(&self, grip: &mut Grip, group: u32, mask: u64)
         requires of { IsGripOf self.now grip.old }
         requires group { ¬ CoversGroup self.now group }
         requires asked { (A.group ≡ group) × (A.first ≡ mask) × (A.second ≡ 0) }
@@ -219,7 +219,7 @@ impl Words {
         self.store_asked::<K, Brand>(grip, item, word, value);
     }
 
-    fn store_asked<K: Item, A: Asked>(&self, grip: &mut Grip, item: u32, word: u8, value: u64)
+    fn store_asked<K: Item, A: Arguments>(&self, grip: &mut Grip, item: u32, word: u8, value: u64)
         requires of { IsGripOf self.now grip.old }
         requires own { Owns K.kind grip.old.view item }
         requires word { word < width K.kind }
@@ -230,7 +230,7 @@ impl Words {
         let place = K::place(&self.fixed, self.cells, item, word);
         self.table
             .shared
-            .store::<Storing<K, A>>(&mut grip.seat, place, value);
+            .store::<StoringWord<K, A>>(&mut grip.seat, place, value);
     }
 
     /// Publishes chunks of a piece of this store's root and mode, all of whose words the grip stored: they are held, and
@@ -248,7 +248,13 @@ impl Words {
         self.publish_asked::<Brand>(grip, group, piece, mask);
     }
 
-    fn publish_asked<A: Asked>(&self, grip: &mut Grip, group: u32, piece: &Checked<'_>, mask: u64)
+    fn publish_asked<A: Arguments>(
+        &self,
+        grip: &mut Grip,
+        group: u32,
+        piece: &Checked<'_>,
+        mask: u64,
+    )
         requires of { IsGripOf self.now grip.old }
         requires group { CoversGroup self.now group }
         requires piece { IsOf (fixed_of self.now) piece.now }
@@ -277,7 +283,7 @@ impl Words {
         self.publish_none_asked::<Brand>(grip, group, piece);
     }
 
-    fn publish_none_asked<A: Asked>(&self, grip: &mut Grip, group: u32, piece: &Checked<'_>)
+    fn publish_none_asked<A: Arguments>(&self, grip: &mut Grip, group: u32, piece: &Checked<'_>)
         requires of { IsGripOf self.now grip.old }
         requires group { ¬ CoversGroup self.now group }
         requires piece { IsOf (fixed_of self.now) piece.now }
@@ -303,7 +309,7 @@ impl Words {
         self.load_asked::<Brand>(grip, group, at, len)
     }
 
-    fn load_asked<A: Asked>(&self, grip: &mut Grip, group: u32, at: u64, len: u64) -> u64
+    fn load_asked<A: Arguments>(&self, grip: &mut Grip, group: u32, at: u64, len: u64) -> u64
         requires of { IsGripOf self.now grip.old }
         requires group { CoversGroup self.now group }
         requires asked { (A.group ≡ group) × (A.first ≡ at) × (A.second ≡ len) }
@@ -327,7 +333,7 @@ impl Words {
         self.copy_asked::<K, Brand>(grip, item, word)
     }
 
-    fn copy_asked<K: Item, A: Asked>(&self, grip: &mut Grip, item: u32, word: u8) -> u64
+    fn copy_asked<K: Item, A: Arguments>(&self, grip: &mut Grip, item: u32, word: u8) -> u64
         requires of { IsGripOf self.now grip.old }
         requires item { item < (fixed_of self.now).capacity }
         requires word { word < width K.kind }
@@ -354,7 +360,7 @@ impl Words {
         self.settle_asked::<Brand>(grip, tail)
     }
 
-    fn settle_asked<A: Asked>(&self, grip: &mut Grip, tail: &Tail<'_>) -> Settling
+    fn settle_asked<A: Arguments>(&self, grip: &mut Grip, tail: &Tail<'_>) -> Settling
         requires of { IsGripOf self.now grip.old }
         requires piece { IsOf (fixed_of self.now) (tail_piece tail.now) }
         requires fits { has_room (fixed_of self.now) (piece_claimed (tail_piece tail.now)) ≡ true }
@@ -369,7 +375,7 @@ impl Words {
         let found = self
             .table
             .shared
-            .compare_exchange::<SettlingStep<A>>(&mut grip.seat, place, 0, length + 1);
+            .compare_exchange::<SettlingLength<A>>(&mut grip.seat, place, 0, length + 1);
         settling(length_in(found), length)
     }
 
@@ -396,7 +402,7 @@ impl Words {
         self.load_node_asked::<Brand>(grip, node, last, start, len)
     }
 
-    fn load_node_asked<A: AskedNode>(
+    fn load_node_asked<A: NodeArguments>(
         &self,
         grip: &mut Grip,
         node: &Node,
@@ -430,7 +436,12 @@ impl Words {
         self.length_to_serve_asked::<Brand>(grip, start, len)
     }
 
-    fn length_to_serve_asked<A: Asked>(&self, grip: &mut Grip, start: u64, len: u64) -> Option<u64>
+    fn length_to_serve_asked<A: Arguments>(
+        &self,
+        grip: &mut Grip,
+        start: u64,
+        len: u64,
+    ) -> Option<u64>
         requires of { IsGripOf self.now grip.old }
         requires asked { (A.first ≡ start) × (A.second ≡ len) }
         ensures of { IsGripOf self.now grip.new }
@@ -457,7 +468,7 @@ impl Words {
         self.length_to_store_asked::<Brand>(grip, group, piece)
     }
 
-    fn length_to_store_asked<A: Asked>(
+    fn length_to_store_asked<A: Arguments>(
         &self,
         grip: &mut Grip,
         group: u32,
@@ -496,7 +507,7 @@ impl Words {
         self.claim_parents_asked::<Brand>(grip, group, want)
     }
 
-    fn claim_parents_asked<A: Asked>(&self, grip: &mut Grip, group: u32, want: u64) -> u64
+    fn claim_parents_asked<A: Arguments>(&self, grip: &mut Grip, group: u32, want: u64) -> u64
         requires of { IsGripOf self.now grip.old }
         requires group { CoversGroup self.now group }
         requires none { grip.old.view.storing ≡ [] }
@@ -532,7 +543,7 @@ impl Words {
         self.publish_parents_asked::<Brand>(grip, group, piece, mask);
     }
 
-    fn publish_parents_asked<A: Asked>(
+    fn publish_parents_asked<A: Arguments>(
         &self,
         grip: &mut Grip,
         group: u32,

@@ -2,7 +2,7 @@
 
 use crate::program::words;
 use bao_command::command;
-use bao_files::Held;
+use bao_files::MemoryFiles;
 use std::process::Abort;
 use std::test::Fail;
 use std::thread::Threads;
@@ -32,7 +32,7 @@ struct Run<'a>(&'a [&'a str], u8, &'a str, &'a [u8]);
 // Runs the program over the files.
 fn is_run<R: AllocGlobal + Threads + Sync + Abort>(
     rt: &R,
-    held: &mut Held,
+    held: &mut MemoryFiles,
     run: &Run<'_>,
 ) -> Result<(), Fail> {
     let Run(given, status, line, out) = run;
@@ -47,9 +47,9 @@ fn is_run<R: AllocGlobal + Threads + Sync + Abort>(
 }
 
 // The files that are there.
-fn files<R: AllocGlobal>(rt: &R) -> Result<Held, Fail> {
+fn files<R: AllocGlobal>(rt: &R) -> Result<MemoryFiles, Fail> {
     let alloc = rt.alloc();
-    let mut held = Held::new(alloc);
+    let mut held = MemoryFiles::new(alloc);
     for (path, bytes) in [
         ("abc", BYTES),
         ("text", TEXT),
@@ -147,7 +147,7 @@ fn tasks_over_files_in_memory(rt: HostRuntime) -> Result<(), Fail> {
 // Runs the program over the files, and looks at the file `key`.
 fn lists<R: AllocGlobal + Threads + Sync + Abort>(
     rt: &R,
-    held: &mut Held,
+    held: &mut MemoryFiles,
     run: &Run<'_>,
     list: &[u8],
 ) -> Result<(), Fail> {

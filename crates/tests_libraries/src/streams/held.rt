@@ -2,7 +2,7 @@ use crate::bytes::blob;
 use b3tree::{Hash, Mode};
 use bao_check::CheckFault;
 use bao_decode::{DecodeFault, decode_copy_on, decode_on};
-use bao_files::{FileFault, Held};
+use bao_files::{FileFault, MemoryFiles};
 use bao_text::{Part, combined, outboard};
 use std::alloc::Global;
 use std::process::Abort;
@@ -14,7 +14,7 @@ const LEN: usize = 1_200_000;
 // The file at the path has these bytes.
 fn holds<R: AllocGlobal + Abort>(
     rt: &R,
-    held: &Held,
+    held: &MemoryFiles,
     path: &str,
     bytes: &[u8],
 ) -> Result<(), Fail> {
@@ -38,7 +38,7 @@ fn is_decoded<R: AllocGlobal + Abort>(rt: &R) -> Result<(), Fail> {
     let mode = Mode::hash();
     let bytes = blob(alloc, LEN)?;
     let (root, text) = combined(alloc, &mode, bytes.as_slice())?;
-    let mut held = Held::new(alloc);
+    let mut held = MemoryFiles::new(alloc);
     let len = text.len();
     held.put("forged", changed(alloc, text.as_slice(), len - 1)?)?;
     held.put("text", text)?;
@@ -89,7 +89,7 @@ fn is_decoded<R: AllocGlobal + Abort>(rt: &R) -> Result<(), Fail> {
 // Decodes the copy beside the outboard encoding to the file "out".
 fn beside<'a>(
     alloc: Global,
-    held: &mut Held,
+    held: &mut MemoryFiles,
     root: &Hash,
     outboard: &'a str,
     copy: &'a str,
@@ -102,7 +102,7 @@ fn is_copied<R: AllocGlobal + Abort>(rt: &R) -> Result<(), Fail> {
     let alloc = rt.alloc();
     let bytes = blob(alloc, LEN)?;
     let (root, text) = outboard(alloc, &Mode::hash(), bytes.as_slice())?;
-    let mut held = Held::new(alloc);
+    let mut held = MemoryFiles::new(alloc);
     let len = text.len();
     assert!(rt; len > 65_536);
     let mut longer = Vec::from_slice(alloc, text.as_slice())?;

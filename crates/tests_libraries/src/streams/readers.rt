@@ -1,6 +1,6 @@
 use crate::bytes::{Broken, blob, taking};
 use b3tree::Mode;
-use bao_files::{FileFault, ReadFault, print_input, print_reader, read_whole};
+use bao_files::{FileFault, InputFault, print_input, print_reader, read_whole};
 use std::alloc::Global;
 use std::io;
 use std::io::{ErrorKind, Read};
@@ -175,9 +175,12 @@ fn reads_to_the_end_or_a_fault(rt: HostRuntime) -> Result<(), Fail> {
             before: 3,
             kind: Some(kind),
         };
-        assert_eq!(rt; read_whole(&mut reader, &mut bytes), Err(ReadFault::Reader));
+        assert_eq!(rt;
+            read_whole(&mut reader, &mut bytes),
+            Err(InputFault::Reader)
+        );
         assert_eq!(rt; bytes.len(), 3000);
     }
-    assert_ne!(rt; ReadFault::Memory, ReadFault::Reader);
+    assert_ne!(rt; InputFault::Memory, InputFault::Reader);
     Ok(())
 }

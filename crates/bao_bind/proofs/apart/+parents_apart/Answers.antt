@@ -6,7 +6,7 @@ use Rattle.bao_check.specs.Inputs.{marked}
 use Rattle.bao_check.proofs.Forks.{input_of}
 use Rattle.bao_check.proofs.SubtreeInputs.{subtree_parent}
 use Rattle.bao_bind.proofs.Comparing.{apart_far, apart_here, apart_near, made, ours_small, ours_unknown, told_same}
-use Rattle.bao_bind.proofs.Found.{told, told_not}
+use Rattle.bao_bind.proofs.CollidingPairs.{told, told_not}
 use Rattle.bao_bind.proofs.apart.+parents_apart.Goals as goal
 
 pub returns-then-ours-le-CHUNK_LEN-clause-apart : goal.returns-then-ours-le-CHUNK_LEN-clause-apart

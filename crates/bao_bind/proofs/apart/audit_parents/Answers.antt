@@ -6,7 +6,7 @@ use Rattle.bao_check.specs.Checked.{piece_claimed, piece_mode, piece_places, pie
 use Rattle.bao_check.specs.Inputs.{blob_inputs, text_inputs}
 use Rattle.bao_bind.specs.Search.{FindsOnly}
 use Rattle.bao_bind.specs.Verdict.{HasParentsOf}
-use Rattle.bao_bind.proofs.Found.{not_false}
+use Rattle.bao_bind.proofs.CollidingPairs.{not_false}
 use Rattle.bao_bind.proofs.ParentAudits.{audited}
 use Rattle.bao_bind.proofs.apart.audit_parents.Goals as goal
 

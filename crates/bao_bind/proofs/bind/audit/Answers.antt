@@ -3,15 +3,15 @@ use Rattle.std.proofs.lemmas.Slice.Eq.{bytes_eq-Decides}
 use Rattle.std.specs.Prelude.{IfSome}
 use Rattle.bao_check.specs.Checked.{piece_claimed, piece_places, piece_text}
 use Rattle.bao_check.specs.Pieces.{chunk_in}
-use Rattle.bao_bind.specs.declared.part.Part.{Part}
+use Rattle.bao_bind.specs.declared.chunk_run.ChunkRun.{ChunkRun}
 use Rattle.bao_bind.specs.Verdict.{IsOurs}
 use Rattle.bao_bind.proofs.Audits.{audit_finds, chunk_range, chunk_size, disagrees}
-use Rattle.bao_bind.proofs.Found.{not_false}
+use Rattle.bao_bind.proofs.CollidingPairs.{not_false}
 use Rattle.bao_bind.proofs.bind.audit.Goals as goal
 
 -- the chunk that isn't the blob's
-told_some : (P : Part → Type 0) (found : Option Part) (chunk : Part) → found ≡ Some chunk → IfSome found P → P chunk
-told_some P found chunk is told = subst (λ (o : Option Part). IfSome o P) is told
+told_some : (P : ChunkRun → Type 0) (found : Option ChunkRun) (chunk : ChunkRun) → found ≡ Some chunk → IfSome found P → P chunk
+told_some P found chunk is told = subst (λ (o : Option ChunkRun). IfSome o P) is told
 
 pub walk-requires-clause-chunk_range : goal.walk-requires-clause-chunk_range
 walk-requires-clause-chunk_range c =

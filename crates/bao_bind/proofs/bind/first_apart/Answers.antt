@@ -4,7 +4,7 @@ use Rattle.std.proofs.lemmas.Bool.{cases_lt}
 use Rattle.bao_check.specs.Checked.{piece_places, piece_text}
 use Rattle.bao_check.specs.Pieces.{chunk_in}
 use Rattle.bao_bind.specs.Verdict.{Compared, IsOurs}
-use Rattle.bao_bind.proofs.Found.{told}
+use Rattle.bao_bind.proofs.CollidingPairs.{told}
 use Rattle.bao_bind.proofs.bind.first_apart.Goals as goal
 use Rattle.bao_bind.proofs.bind.first_apart.Goals.{in-Some-chunk+else-not-is_ours, in_default-chunk}
 

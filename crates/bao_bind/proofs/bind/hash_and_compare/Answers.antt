@@ -5,7 +5,7 @@ use Rattle.bao_text.specs.Choice.{chunk_count}
 use Rattle.bao_check.specs.declared.checked.Checked.{Checked}
 use Rattle.bao_check.specs.Checked.{piece_claimed, piece_mode, piece_places, piece_text}
 use Rattle.bao_check.specs.Pieces.{chunk_in}
-use Rattle.bao_bind.specs.declared.part.Part.{Part}
+use Rattle.bao_bind.specs.declared.chunk_run.ChunkRun.{ChunkRun}
 use Rattle.bao_bind.specs.Verdict.{AgreesWith, Compared}
 use Rattle.bao_bind.proofs.bind.hash_and_compare.Goals as goal
 
@@ -23,7 +23,7 @@ of_ok (Ok x) h p = p
 of_ok (Err e) h p = cc
 
 -- all chunks of the piece are the blob's where those before the last are
-all_ours : (blob : List ℕ) (piece : Checked) (after : ℕ) (found : Option Part)
+all_ours : (blob : List ℕ) (piece : Checked) (after : ℕ) (found : Option ChunkRun)
     → ((i : ℕ) → IsSome (chunk_in (piece_text piece) (piece_places piece) i) → i < after)
     → Compared blob piece after found → IfNone found (AgreesWith blob piece)
 all_ours blob piece after None within ours =

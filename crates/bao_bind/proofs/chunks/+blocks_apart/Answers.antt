@@ -1,6 +1,6 @@
 use Rattle.std.proofs.Common.{ℕ, List, false, sym, ◌∙◌, arith, inl, inr}
 use Rattle.bao_bind.proofs.Blocks.{blocks_collide, blocks_on, blocks_start}
-use Rattle.bao_bind.proofs.Found.{told, told_not}
+use Rattle.bao_bind.proofs.CollidingPairs.{told, told_not}
 use Rattle.bao_bind.proofs.chunks.+blocks_apart.Goals as goal
 use Rattle.bao_bind.proofs.chunks.+blocks_apart.Goals.{then-k-eq0-via-then-k-eq0, then-k-eq0-via-else-k-eq0+then-l-eq0}
 

@@ -5,7 +5,7 @@ use Rattle.b3tree.specs.Chunk.{block_count, chunk_input, last_chunk_input}
 use Rattle.bao_check.specs.Inputs.{marked, whole_chunk}
 use Rattle.bao_bind.specs.Search.{Finds}
 use Rattle.bao_bind.proofs.Blocks.{chunks_collide, chunks_on}
-use Rattle.bao_bind.proofs.Found.{told, told_not}
+use Rattle.bao_bind.proofs.CollidingPairs.{told, told_not}
 use Rattle.bao_bind.proofs.chunks.chunks_apart.Goals as goal
 
 -- a chunk's last input, marked

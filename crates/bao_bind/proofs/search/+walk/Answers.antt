@@ -7,7 +7,7 @@ use Rattle.bao_text.proofs.SubtreeText.{Parts, left_len-Parts}
 use Rattle.bao_check.specs.Accepted.{part_value}
 use Rattle.bao_check.specs.Inputs.{marked}
 use Rattle.bao_check.proofs.Ways.{AtParent}
-use Rattle.bao_bind.proofs.Found.{told, told_not}
+use Rattle.bao_bind.proofs.CollidingPairs.{told, told_not}
 use Rattle.bao_bind.proofs.Walks.{at_parent, chunk_chunk, chunk_parent, goes_left, goes_right, parent_chunk, parent_of, parents_differ, searches_same}
 use Rattle.bao_bind.proofs.search.+walk.Goals as goal
 use Rattle.bao_bind.proofs.search.+walk.Goals.{then-ours-le-CHUNK_LEN-2-via-then-ours-le-CHUNK_LEN-2, then-ours-le-CHUNK_LEN-2-via-else-ours-le-CHUNK_LEN-2+then-not-are_same}

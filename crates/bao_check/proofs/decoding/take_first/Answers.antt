@@ -5,7 +5,7 @@ use Rattle.std.proofs.lemmas.Slice.{take-put_mid}
 use Rattle.b3word.specs.Compression.{cv}
 use Rattle.b3tree.specs.declared.values.Cv.{Cv}
 use Rattle.b3tree.specs.Chunk.{last_chunk_input}
-use Rattle.bao_check.specs.declared.part.Part.{Part}
+use Rattle.bao_check.specs.declared.part.WaitingPart.{WaitingPart}
 use Rattle.bao_check.specs.Decoded.{chunk_bytes, subtree_kinds}
 use Rattle.bao_check.specs.Waiting.{last_part, part_size}
 use Rattle.bao_check.proofs.ChunkBytes.{kinds_size-some, refused_front, same_part, some_weaker, whole_decodes, whole_size, whole_taken_from}
@@ -38,7 +38,7 @@ pub returns-in-Some-whole_at_hand-clause-parts : goal.returns-in-Some-whole_at_h
 returns-in-Some-whole_at_hand-clause-parts c =
     let first = first_next c.args.choice.now c.args.waiting.now.items c.requires.parts c.next_part.ensures c.in-Some.is in
     (part_taken c.args.choice.now c.args.waiting.now.items c.pop-taken.new.self.items c.in-Some.part c.requires.parts
-    (first.is ∙ ap (λ (s : List Part). s ++ c.in-Some.part ∷ []) (sym c.pop-taken.ensures.rest))).waiting
+    (first.is ∙ ap (λ (s : List WaitingPart). s ++ c.in-Some.part ∷ []) (sym c.pop-taken.ensures.rest))).waiting
 
 pub returns-in-Some-whole_at_hand-clause-taken : goal.returns-in-Some-whole_at_hand-clause-taken
 returns-in-Some-whole_at_hand-clause-taken c =
@@ -62,7 +62,7 @@ returns-in-Some-whole_at_hand-clause-chunks c =
       chunk_bytes (subtree_kinds c.args.choice.now c.in-Some.part.number c.in-Some.part.len) c.args.bytes.now,
       c.copy_chunks-free.ensures.bytes,
       whole_decodes c.args.mode.now c.args.choice.now c.args.waiting.now.items c.pop-taken.new.self.items c.in-Some.part c.in-Some-whole_at_hand.len c.args.bytes.now
-          (first.is ∙ ap (λ (s : List Part). s ++ c.in-Some.part ∷ []) (sym c.pop-taken.ensures.rest)) whole,
+          (first.is ∙ ap (λ (s : List WaitingPart). s ++ c.in-Some.part ∷ []) (sym c.pop-taken.ensures.rest)) whole,
     )
 
 pub take_node-requires-clause-known : goal.take_node-requires-clause-known
@@ -71,12 +71,12 @@ take_node-requires-clause-known c =
     let bytes : List ℕ = c.args.bytes.now in
     let len : ℕ = c.size-len.result in
     let last : last_part c.args.waiting.now.items ≡ Some c.in-Some.part = sym c.next_part.ensures ∙ c.in-Some.is in
-    let whole : (part : Part) → last_part c.args.waiting.now.items ≡ Some part → part.len ≡ 1024 → take 1024 bytes ≡ take 1024 (take len bytes) = λ part next one.
+    let whole : (part : WaitingPart) → last_part c.args.waiting.now.items ≡ Some part → part.len ≡ 1024 → take 1024 bytes ≡ take 1024 (take len bytes) = λ part next one.
     let len_is : len ≡ 1024 = c.size-len.ensures ∙ ap part_size (same_part (last_part c.args.waiting.now.items) c.in-Some.part part last next)
     ∙ ap (λ (n : ℕ). if nat_le n 1024 then n else 64) one in
     sym (take-take 1024 len bytes (omega (arith, len_is))) in
-    some_weaker c.args.known (λ (value : Cv). (part : Part) → last_part c.args.waiting.now.items ≡ Some part → part.len ≡ 1024 → value.0 ≡ cv (last_chunk_input mode part.number (take 1024 bytes)))
-    (λ (value : Cv). (part : Part) → last_part c.args.waiting.now.items ≡ Some part → part.len ≡ 1024 → value.0 ≡ cv (last_chunk_input mode part.number (take 1024 (take len bytes))))
+    some_weaker c.args.known (λ (value : Cv). (part : WaitingPart) → last_part c.args.waiting.now.items ≡ Some part → part.len ≡ 1024 → value.0 ≡ cv (last_chunk_input mode part.number (take 1024 bytes)))
+    (λ (value : Cv). (part : WaitingPart) → last_part c.args.waiting.now.items ≡ Some part → part.len ≡ 1024 → value.0 ≡ cv (last_chunk_input mode part.number (take 1024 (take len bytes))))
     (λ value known part next one. known part next one ∙ ap (λ (s : List ℕ). cv (last_chunk_input mode part.number s)) (whole part next one)) c.requires.known
 
 pub returns-in_err-take_node-clause-err : goal.returns-in_err-take_node-clause-err

@@ -1,6 +1,6 @@
 use Rattle.std.proofs.Common.{◌≡◌, ◌-◌, ℕ, List, length, take, drop, refl, ◌∙◌, arith, length-drop, rules, take_all}
 use Rattle.std.proofs.lemmas.Result.{err_from_is_err_and}
-use Rattle.bao_check.specs.declared.part.Part.{Part}
+use Rattle.bao_check.specs.declared.part.WaitingPart.{WaitingPart}
 use Rattle.bao_check.proofs.ChunkBytes.{decodes_more, refused_later, taken_more}
 use Rattle.bao_check.proofs.decoding.take_nodes.Goals as goal
 
@@ -25,9 +25,9 @@ nodes-preserved c =
     let all = all_left c.nodes.used bytes in
     let rest : List ℕ = take (length bytes - c.nodes.used) (drop c.nodes.used bytes) in
     let choice = c.args.choice.now in
-    let a : List Part = c.args.waiting.now.items in
-    let b : List Part = c.nodes.waiting.items in
-    let d : List Part = c.take_first.new.waiting.items in
+    let a : List WaitingPart = c.args.waiting.now.items in
+    let b : List WaitingPart = c.nodes.waiting.items in
+    let d : List WaitingPart = c.take_first.new.waiting.items in
     let nodes = rw c.in-Some.is at c.in_ok-step.ensures.nodes in
     let had : List ℕ = take c.nodes.filled c.nodes.room in
     let chunks = rw c.in-Some.is at c.in_ok-step.ensures.chunks in

@@ -6,7 +6,7 @@ use Rattle.b3tree.specs.declared.values.Cv.{Cv}
 use Rattle.b3tree.specs.Chunk.{last_chunk_input}
 use Rattle.b3tree.specs.Tree.{parent_input}
 use Rattle.bao_text.specs.Nodes.{left, right}
-use Rattle.bao_check.specs.declared.part.Part.{Part}
+use Rattle.bao_check.specs.declared.part.WaitingPart.{WaitingPart}
 use Rattle.bao_check.specs.Accepted.{part_value}
 use Rattle.bao_check.specs.Waiting.{last_part}
 use Rattle.bao_check.specs.Walk.{Meets}
@@ -26,7 +26,7 @@ chunk_meets-requires-clause-known c =
     let last : last_part c.args.waiting.now.items ≡ Some c.in-Some.part = sym c.next_part.ensures ∙ c.in-Some.is in
     let first = first_part c.args.choice.now c.args.waiting.now.items c.in-Some.part (length node) c.requires.parts last c.requires.next in
     let len : length node ≡ c.in-Some.part.len = first.chunk c.if-part.true in
-    some_weaker c.args.known (λ (value : Cv). (part : Part) → last_part c.args.waiting.now.items ≡ Some part → part.len ≡ 1024 → value.0 ≡ cv (last_chunk_input mode part.number (take 1024 node)))
+    some_weaker c.args.known (λ (value : Cv). (part : WaitingPart) → last_part c.args.waiting.now.items ≡ Some part → part.len ≡ 1024 → value.0 ≡ cv (last_chunk_input mode part.number (take 1024 node)))
     (λ (value : Cv). length node ≡ 1024 → value.0 ≡ cv (last_chunk_input mode c.in-Some.part.number node))
     (λ value known size. known c.in-Some.part last (sym len ∙ size) ∙ ap (λ (s : List ℕ). cv (last_chunk_input mode c.in-Some.part.number s)) (take_all 1024 node (omega (arith, size)))) c.requires.known
 
@@ -42,14 +42,14 @@ pub returns-then-part-clause-parts : goal.returns-then-part-clause-parts
 returns-then-part-clause-parts c =
     let first = first_part c.args.choice.now c.args.waiting.now.items c.in-Some.part (length c.args.node.now) c.requires.parts (sym c.next_part.ensures ∙ c.in-Some.is) c.requires.next in
     (part_taken c.args.choice.now c.args.waiting.now.items c.pop-taken.new.self.items c.in-Some.part c.requires.parts
-    (first.is ∙ ap (λ (s : List Part). s ++ c.in-Some.part ∷ []) (sym c.pop-taken.ensures.rest))).waiting
+    (first.is ∙ ap (λ (s : List WaitingPart). s ++ c.in-Some.part ∷ []) (sym c.pop-taken.ensures.rest))).waiting
 
 pub returns-then-part-clause-ok : goal.returns-then-part-clause-ok
 returns-then-part-clause-ok c =
     let first = first_part c.args.choice.now c.args.waiting.now.items c.in-Some.part (length c.args.node.now) c.requires.parts (sym c.next_part.ensures ∙ c.in-Some.is) c.requires.next in
     let len : length c.args.node.now ≡ c.in-Some.part.len = first.chunk c.if-part.true in
     chunk_taken_from c.args.mode.now c.args.choice.now c.args.waiting.now.items c.pop-taken.new.self.items c.in-Some.part c.args.node.now
-    (first.is ∙ ap (λ (s : List Part). s ++ c.in-Some.part ∷ []) (sym c.pop-taken.ensures.rest)) first.wanted c.requires.chunks c.if-part.true len
+    (first.is ∙ ap (λ (s : List WaitingPart). s ++ c.in-Some.part ∷ []) (sym c.pop-taken.ensures.rest)) first.wanted c.requires.chunks c.if-part.true len
     (c.chunk_meets.ensures.0 c.if-not-chunk_meets.false)
 
 pub returns-then-not-meets-clause-err : goal.returns-then-not-meets-clause-err
@@ -68,7 +68,7 @@ returns-clause-ok c =
     c.parent_input.ensures ∙ (λ i. parent_input c.args.mode.now (c.halves.ensures.left i).value.0 (c.halves.ensures.right i).value.0) in
     parent_taken_from c.args.mode.now c.args.choice.now c.args.waiting.now.items c.pop-taken-2.new.self.items c.push_halves.ensures.before.0 c.push_halves.new.waiting.items c.in-Some.part
     c.args.node.now c.halves.result.0 c.halves.result.1
-    (first.is ∙ ap (λ (s : List Part). s ++ c.in-Some.part ∷ []) (sym c.pop-taken-2.ensures.rest)) first.wanted c.if-part.false (first.parent c.if-part.false)
+    (first.is ∙ ap (λ (s : List WaitingPart). s ++ c.in-Some.part ∷ []) (sym c.pop-taken-2.ensures.rest)) first.wanted c.if-part.false (first.parent c.if-part.false)
     (subst (λ (x : Input). Meets c.in-Some.part.asked x) is (c.meets.ensures.0 c.if-not-meets.false))
     c.halves.ensures.left c.halves.ensures.right c.push_halves.ensures.before.1 c.push_halves.ensures.before.2
 

@@ -1,13 +1,13 @@
 use Rattle.std.proofs.Common.{◌≡◌, ◌++◌, ◌+◌, ◌-◌, List, Option, Some, arith}
 use Rattle.std.specs.Option.{option_to_list}
 use Rattle.bao_text.specs.declared.choice.Choice.{Choice}
-use Rattle.bao_text.specs.declared.walk.Subtree.{Subtree}
+use Rattle.bao_text.specs.declared.walk.WaitingSubtree.{WaitingSubtree}
 use Rattle.bao_text.specs.NodeNames.{AreWaiting}
 use Rattle.bao_text.proofs.NodeNaming.{Taken, parted, taken_last}
 use Rattle.bao_text.proofs.walk.next_node.Goals as goal
 
 -- the subtree that was popped
-taken_by_pop : (choice : Choice) (old new : List Subtree) (popped : Option Subtree) (x : Subtree) → AreWaiting choice 54 old → old ≡ new ++ option_to_list popped → popped ≡ Some x
+taken_by_pop : (choice : Choice) (old new : List WaitingSubtree) (popped : Option WaitingSubtree) (x : WaitingSubtree) → AreWaiting choice 54 old → old ≡ new ++ option_to_list popped → popped ≡ Some x
     → Taken choice old new x
 taken_by_pop choice old new popped x all items was = taken_last choice old new x all (rw was at items)
 

@@ -11,7 +11,7 @@ returns-then-not-branch-clause-lacks g c = λ _.
       came = c.chunks.came;
       whole = omega (arith, c.chunks.invariant.step, c.chunks-test.true);
       below = c.chunks-test.true;
-      refused = subst (λ (n : ℕ). AllRefuse g.S.Source.contents g.S.Source.faultless c.args.wanted.now c.args.sources.now (c.args.part.at + c.chunks.came) n 1024) c.min.ensures
+      refused = subst (λ (n : ℕ). AllRefuse g.S.Source.contents g.S.Source.faultless c.args.wanted.now c.args.sources.now (c.args.part.start + c.chunks.came) n 1024) c.min.ensures
           (c.in_ok-take_any.ensures.refused none);
     }
 
@@ -19,7 +19,7 @@ pub chunks-preserved : goal.chunks-preserved
 chunks-preserved g c =
     let wanted = c.args.wanted.now in
     let sources = c.args.sources.now in
-    let at : ℕ = c.args.part.at in
+    let at : ℕ = c.args.part.start in
     let came : ℕ = c.chunks.came in
     let n : ℕ = c.min.result in
     let mid : List ℕ = c.chunks.into.items in

@@ -15,10 +15,10 @@ loop-turn-preserved g c =
           let new : List ℕ = w.take_slice.new.into.items in
           let none : w.in_ok-take_slice-in-Slices.field-0 ≡ false = w.if-branch.false in
           let kept : new ≡ mid =
-          subst (λ (took : Bool). Takes took (IsFrom wanted g.S.Source.contents g.S.Source.faultless sources) (fixed_for wanted) c.args.part.at c.args.part.len mid new) none w.in_ok-take_slice-in-Slices.ensures.took in
+          subst (λ (took : Bool). Takes took (IsFrom wanted g.S.Source.contents g.S.Source.faultless sources) (fixed_for wanted) c.args.part.start c.args.part.len mid new) none w.in_ok-take_slice-in-Slices.ensures.took in
           record {
             same = ap (λ (v : Vec ℕ Global). v.items) w.into-is ∙ kept ∙ c.loop-turn.invariant.same;
-            refused = next_turn (λ (p : ℕ). Refuses g.S.Source.contents g.S.Source.faultless wanted sources c.args.part.at c.args.part.len c.args.span p) c.min-first.result (length sources) c.loop-turn.turn
+            refused = next_turn (λ (p : ℕ). Refuses g.S.Source.contents g.S.Source.faultless wanted sources c.args.part.start c.args.part.len c.args.span p) c.min-first.result (length sources) c.loop-turn.turn
                 c.in_turn-place.result c.loop-turn.invariant.refused c.in_turn-place.ensures.turn
                 (w.in_ok-take_slice-in-Slices.ensures.refused none);
           }
@@ -26,10 +26,10 @@ loop-turn-preserved g c =
           let new : List ℕ = w.take_bare.new.into.items in
           let none : w.in_ok-take_bare-in-Bare.field-0 ≡ false = w.if-branch-2.false in
           let kept : new ≡ mid =
-          subst (λ (took : Bool). Takes took (IsFrom wanted g.S.Source.contents g.S.Source.faultless sources) (fixed_for wanted) c.args.part.at c.args.part.len mid new) none w.in_ok-take_bare-in-Bare.ensures.took in
+          subst (λ (took : Bool). Takes took (IsFrom wanted g.S.Source.contents g.S.Source.faultless sources) (fixed_for wanted) c.args.part.start c.args.part.len mid new) none w.in_ok-take_bare-in-Bare.ensures.took in
           record {
             same = ap (λ (v : Vec ℕ Global). v.items) w.into-is ∙ kept ∙ c.loop-turn.invariant.same;
-            refused = next_turn (λ (p : ℕ). Refuses g.S.Source.contents g.S.Source.faultless wanted sources c.args.part.at c.args.part.len c.args.span p) c.min-first.result (length sources) c.loop-turn.turn
+            refused = next_turn (λ (p : ℕ). Refuses g.S.Source.contents g.S.Source.faultless wanted sources c.args.part.start c.args.part.len c.args.span p) c.min-first.result (length sources) c.loop-turn.turn
                 c.in_turn-place.result c.loop-turn.invariant.refused c.in_turn-place.ensures.turn
                 (w.in_ok-take_bare-in-Bare.ensures.refused none c.args.span);
           }
@@ -40,5 +40,5 @@ returns-clause-refused g c = λ _ place below.
     let first : ℕ = c.min-first.result in
     let count : ℕ = length c.args.sources.now in
     let begun : first < count = omega (arith, c.min-first.ensures, c.saturating_sub.ensures, below) in
-    each_turn (λ (p : ℕ). Refuses g.S.Source.contents g.S.Source.faultless c.args.wanted.now c.args.sources.now c.args.part.at c.args.part.len c.args.span p) first count begun
+    each_turn (λ (p : ℕ). Refuses g.S.Source.contents g.S.Source.faultless c.args.wanted.now c.args.sources.now c.args.part.start c.args.part.len c.args.span p) first count begun
     (λ turn other less is. c.loop-turn.invariant.refused turn other (omega (arith, less, c.loop-turn-test.false)) is) place below

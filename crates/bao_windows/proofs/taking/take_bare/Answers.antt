@@ -34,7 +34,7 @@ pub returns-then-not-bare_fits-clause-refused : goal.returns-then-not-bare_fits-
 returns-then-not-bare_fits-clause-refused g c = λ _ span _ within other _.
     let wanted : Wanted = c.args.wanted.now in
     let outline : Outline = c.args.outline.now in
-    let has : AreChunksOf outline (c.args.part.at / 1024) (chunk_count c.args.part.len) = chunks_within wanted.form outline c.args.part.at c.args.part.len c.requires.form within in
+    let has : AreChunksOf outline (c.args.part.start / 1024) (chunk_count c.args.part.len) = chunks_within wanted.form outline c.args.part.start c.args.part.len c.requires.form within in
     let no : c.bare_fits.result ≡ false = search rules in
     let yes : c.bare_fits.result ≡ true = c.bare_fits.ensures.1 (omega (arith, has.0, c.chunk_count-count.ensures), omega (arith, has.1, c.chunk_count-count.ensures)) in
     let wrong : false ≡ true = sym no ∙ yes in
@@ -50,13 +50,13 @@ returns-in-Ok-clause-took g c =
     let there : slice_get c.args.sources.now c.args.place ≡ Some source = there_at c.args.sources.now c.args.place source c.requires.place c.index-sources-place.is in
     let yes : c.is_of.result ≡ true = search rules in
     let of = c.is_of.ensures.0 yes in
-    let start : ℕ = 1024 * (c.args.part.at / 1024) in
+    let start : ℕ = 1024 * (c.args.part.start / 1024) in
     let len : ℕ = bare_part c.chunk_count-count.result in
     let text : List ℕ = beside_text (outline_text outline) start len bytes in
-    let place : c.args.part.at ≡ start = omega (arith, c.requires.aligned) in
+    let place : c.args.part.start ≡ start = omega (arith, c.requires.aligned) in
     let cut : IsPartAt (g.S.Source.contents source) (g.S.Source.faultless source) start c.min-len.result bytes =
     subst (λ (n : ℕ). IsPartAt (g.S.Source.contents source) (g.S.Source.faultless source) n c.min-len.result bytes) place
-    (subst (λ (s : List ℕ). IsPartAt (g.S.Source.contents source) (g.S.Source.faultless source) c.args.part.at c.min-len.result s) (sym c.as_slice-2.ensures.value) (part_by g.S.Source.contents g.S.Source.faultless c.at-holder.result.places.source.now source c.args.part.at c.min-len.result c.fetch.result c.clear.new.self.items c.fetch.new.into.items c.at-holder.ensures.source c.clear.ensures.items
+    (subst (λ (s : List ℕ). IsPartAt (g.S.Source.contents source) (g.S.Source.faultless source) c.args.part.start c.min-len.result s) (sym c.as_slice-2.ensures.value) (part_by g.S.Source.contents g.S.Source.faultless c.at-holder.result.places.source.now source c.args.part.start c.min-len.result c.fetch.result c.clear.new.self.items c.fetch.new.into.items c.at-holder.ensures.source c.clear.ensures.items
     c.fetch.ensures.appended c.fetch.ensures.unchanged c.fetch.ensures.lost c.in_ok-pass_over.ensures)) in
     let sound = sound_beside piece wanted outline c.fixed.result c.root.result c.mode.result start len text c.fixed.ensures of.0 of.1 c.root.ensures c.mode.ensures c.in-Ok.ensures.piece
     c.is_accepted.ensures.bytes c.is_accepted.ensures.accepted in
@@ -64,9 +64,9 @@ returns-in-Ok-clause-took g c =
     (omega (arith, c.requires.aligned, c.min-len.ensures, c.saturating_mul.ensures, c.saturating_sub.ensures, c.claimed.ensures, c.claimed.type_inv, c.chunk_count-count.ensures)) (piece_is 0 piece (outline_mode outline) (outline_root outline) start len text c.in-Ok.ensures.piece) in
     let old : List ℕ = c.args.into.now.items in
     let new : List ℕ = c.append_part.new.into.items in
-    if_ok c.append_part.result (λ (took : Bool). TakesOf took piece c.args.part.at c.args.part.len old new)
-    (λ (took : Bool). Takes took (IsFrom wanted g.S.Source.contents g.S.Source.faultless c.args.sources.now) (fixed_for wanted) c.args.part.at c.args.part.len old new)
-    (λ took takes. takes_of took (IsFrom wanted g.S.Source.contents g.S.Source.faultless c.args.sources.now) wanted.mode wanted.root piece c.args.part.at c.args.part.len old new sound from takes)
+    if_ok c.append_part.result (λ (took : Bool). TakesOf took piece c.args.part.start c.args.part.len old new)
+    (λ (took : Bool). Takes took (IsFrom wanted g.S.Source.contents g.S.Source.faultless c.args.sources.now) (fixed_for wanted) c.args.part.start c.args.part.len old new)
+    (λ took takes. takes_of took (IsFrom wanted g.S.Source.contents g.S.Source.faultless c.args.sources.now) wanted.mode wanted.root piece c.args.part.start c.args.part.len old new sound from takes)
     c.append_part.ensures
 
 pub returns-in-Ok-clause-refused : goal.returns-in-Ok-clause-refused
@@ -77,7 +77,7 @@ returns-in-Ok-clause-refused g c =
     let bytes : List ℕ = c.as_slice-2.result.now in
     let source = c.index-sources-place.result in
     let there : slice_get c.args.sources.now c.args.place ≡ Some source = there_at c.args.sources.now c.args.place source c.requires.place c.index-sources-place.is in
-    let at : ℕ = c.args.part.at in
+    let at : ℕ = c.args.part.start in
     let len : ℕ = c.args.part.len in
     let place : 1024 * (at / 1024) ≡ at = omega (arith, c.requires.aligned) in
     let given : IsPartAt (g.S.Source.contents source) (g.S.Source.faultless source) at c.min-len.result bytes =
@@ -105,7 +105,7 @@ returns-in-Err-clause-refused g c = λ _ span.
     let bytes : List ℕ = c.as_slice-2.result.now in
     let source = c.index-sources-place.result in
     let there : slice_get c.args.sources.now c.args.place ≡ Some source = there_at c.args.sources.now c.args.place source c.requires.place c.index-sources-place.is in
-    let at : ℕ = c.args.part.at in
+    let at : ℕ = c.args.part.start in
     let len : ℕ = c.args.part.len in
     let place : at ≡ 1024 * (at / 1024) = omega (arith, c.requires.aligned) in
     let given : IsPartAt (g.S.Source.contents source) (g.S.Source.faultless source) at c.min-len.result bytes =

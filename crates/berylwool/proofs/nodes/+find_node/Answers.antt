@@ -4,7 +4,7 @@ use Rattle.std.proofs.lemmas.Result.{IfErr-weaker, IfOk-weaker}
 use Rattle.bao_text.specs.Nodes.{TreeNode, subtree_size}
 use Rattle.berylwool.specs.declared.nodes.BwPlaced.{BwPlaced}
 use Rattle.berylwool.specs.Placed.{node_over, placed_of}
-use Rattle.berylwool.proofs.Finding.{far_found, far_past, near_found, over_chunk, over_none, over_parent, past_chunk, past_whole}
+use Rattle.berylwool.proofs.PlacesOfNodes.{far_found, far_past, near_found, over_chunk, over_none, over_parent, past_chunk, past_whole}
 use Rattle.berylwool.proofs.Placed.{parent_is}
 use Rattle.berylwool.proofs.nodes.+find_node.Goals as goal
 

@@ -7,7 +7,7 @@ use Rattle.bao_text.specs.Choice.{of_outboard}
 use Rattle.bao_text.specs.Nodes.{TreeNode, subtree_nodes}
 use Rattle.berylwool.specs.Placed.{node_over, over_no_byte, placed_of}
 use Rattle.berylwool.proofs.Beside.{all_among}
-use Rattle.berylwool.proofs.Finding.{search_told}
+use Rattle.berylwool.proofs.PlacesOfNodes.{search_told}
 use Rattle.berylwool.proofs.nodes.bw_node_at.Goals as goal
 
 pub returns-then-at-first-clause-node : goal.returns-then-at-first-clause-node

@@ -1,6 +1,6 @@
 use Rattle.crews.proofs.Common.{◌≡◌, ℕ, List, map, subst, vec_items, ◌≤◌, length, chunk_count, Outline, PlainBytes, HaveAll, IsBlob, IsHandedOut, IsMadeBeside, Gathers, own_bytes, fixed_as, IsLent, IsPartOfCopy, copy_gives, IsPartOf, copy_of, gathers_wider, memory_gathers, memory_out, out_wider, lent_beside, Fixed, Piece}
 use Rattle.gather.specs.declared.form.Form.TheVariants.{Bare}
-use Rattle.gather.proofs.Lending.{parts_mapped}
+use Rattle.gather.proofs.HolderLists.{parts_mapped}
 use Rattle.gather.specs.Parts.{IsFor}
 use Rattle.gather.proofs.Forming.{own_parts}
 use Rattle.crews.proofs.copies.gather_copies.Goals as goal

@@ -5,7 +5,7 @@ use Rattle.crews.specs.Crews.{IsHandedTo, all_of}
 use Rattle.crews.specs.Joined.{AreCallsOf, AreClaimsOf, HasAllNamesOf, HaveAllNames}
 use Rattle.crews.specs.Seats.{BeginsAfter}
 use Rattle.crews.proofs.Summing.{all_each, large_all}
-use Rattle.crews.proofs.Whence.{handed_wide, left_to_one, lent_all, opening_all}
+use Rattle.crews.proofs.HandedOver.{handed_wide, left_to_one, lent_all, opening_all}
 use Rattle.crews.proofs.gathering.gather_within.Goals as goal
 
 pub all_joined-seat-requires-clause-crews : goal.all_joined-seat-requires-clause-crews

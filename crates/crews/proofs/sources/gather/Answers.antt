@@ -1,6 +1,6 @@
 use Rattle.crews.proofs.Common.{arith, ◌≡◌, ℕ, List, Option, map, subst, sym, Form, Slices, HaveSlices, HaveAll, Grain, Mode, chunk_count, length, ◌≤◌, AreSlices, made_of, own_bytes, IsFromSource, IsLent, copy_source_of, part_gives, source_gives, source_of, gathers_wider, out_wider, lent_beside, lent_over, source_true, true_slices, Piece}
 use Rattle.gather.proofs.Forming.{bare_for, own_for, own_parts, slices_for, slices_parts}
-use Rattle.gather.proofs.Lending.{part_true, parts_mapped}
+use Rattle.gather.proofs.HolderLists.{part_true, parts_mapped}
 use Rattle.gather.specs.Parts.{HaveParts, IsBareFor, IsOwn}
 use Rattle.gather.specs.declared.encoded.Encoded.{Encoded}
 use Rattle.gather.specs.declared.places.Placed.{Placed}

@@ -1,6 +1,6 @@
 use Rattle.crews.proofs.Common.{◌≡◌, ℕ, List, arith, map, vec_items, EncodedBytes, IsCut, IsCutOf, cut_gives, encoding, own_bytes, fixed_as, IsLent, gathers_wider, memory_gathers, memory_out, out_wider, text_true, lent_over, true_slices, Piece, Slices}
 use Rattle.gather.proofs.Forming.{slices_parts}
-use Rattle.gather.proofs.Lending.{parts_mapped}
+use Rattle.gather.proofs.HolderLists.{parts_mapped}
 use Rattle.crews.proofs.texts.gather_texts.Goals as goal
 
 -- what holders over these texts hand over

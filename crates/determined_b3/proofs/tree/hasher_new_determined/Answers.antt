@@ -1,4 +1,4 @@
-use Rattle.determined_b3.proofs.Held.{none_held}
+use Rattle.determined_b3.proofs.SameHashers.{none_held}
 use Rattle.determined_b3.proofs.tree.hasher_new_determined.Goals as goal
 
 pub returns : goal.returns

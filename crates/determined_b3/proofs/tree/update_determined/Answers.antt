@@ -1,5 +1,5 @@
 use Rattle.std.proofs.Common.{◌+◌, ◌-◌, ◌^◌, ◌<◌, length}
-use Rattle.determined_b3.proofs.Held.{held_after}
+use Rattle.determined_b3.proofs.SameHashers.{held_after}
 use Rattle.determined_b3.proofs.tree.update_determined.Goals as goal
 
 pub returns-clause-refused : goal.returns-clause-refused

@@ -3,7 +3,7 @@ use Rattle.gather.proofs.texts.gather_within.Goals as goal
 use Rattle.gather.proofs.Answering.{certifies_none, certifies_ok, gathers_none, gathers_ok, out_by, store_refused, why_gathers, why_unfinished}
 use Rattle.gather.proofs.Binding.{handed_cut, of_blob, of_none}
 use Rattle.gather.proofs.Handing.{large_pair, text_true, unfinished_pair}
-use Rattle.gather.proofs.Lending.{slices_mapped}
+use Rattle.gather.proofs.HolderLists.{slices_mapped}
 use Rattle.gather.proofs.Reporting.{large_wider}
 use Rattle.gather.proofs.Serving.{true_slices}
 use Rattle.gather.specs.declared.fault.FinishFault.{FinishFault}

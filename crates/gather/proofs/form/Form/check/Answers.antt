@@ -3,7 +3,7 @@ use Rattle.bao_check.specs.Bare.{bare_part}
 use Rattle.bao_check.specs.Beside.{beside_text}
 use Rattle.bao_check.specs.Outline.{outline_mode, outline_root, outline_text}
 use Rattle.gather.specs.declared.form.Form.{Form}
-use Rattle.gather.specs.declared.form.Part.{Part}
+use Rattle.gather.specs.declared.form.ByteRange.{ByteRange}
 use Rattle.gather.specs.Forms.{IsPart, IsSliceCheck, chunks_of_part}
 use Rattle.gather.proofs.form.Form.check.Goals as goal
 
@@ -16,7 +16,7 @@ IsMadeCheck outline start len chunks result =
 
 pub returns-in-Bare-clause-slice : goal.returns-in-Bare-clause-slice
 returns-in-Bare-clause-slice c =
-    let part : Part = c.args.part.now in
+    let part : ByteRange = c.args.part.now in
     let text : List ℕ = c.args.text.now in
     let outline : Outline = c.in-Bare.outline.now in
     let whole = subst (λ (f : Form). IsPart f part) c.in-Bare.is c.requires in

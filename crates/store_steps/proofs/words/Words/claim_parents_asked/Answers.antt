@@ -19,7 +19,7 @@ fetch_or-before-requires g c =
     let words = c.args.self.now in
     let fixed : Fixed = words.fixed in
     let seat = c.grip.inside.seat in
-    let group : ℕ = g.A.Asked.group in
+    let group : ℕ = g.A.Arguments.group in
     let mask : ℕ = bit_and c.mask_below.result c.args.want in
     let same : group ≡ c.args.group = c.requires.asked in
     let asks : (m : ℕ) → m / 64 ≡ group → has_bit mask (m % 64) ≡ true → m < fixed.capacity =
@@ -45,7 +45,7 @@ returns-clause-alone g c = λ all.
     let view : SeatView = first_of seat.me.0 in
     let its : view ≡ c.args.grip.now.view = ap (λ (x : Gripped). x.view) c.grip.view_is in
     let told = (c.fetch_or-before.ensures.2 view c.grip.invariant.0).3 in
-    let same : g.A.Asked.group ≡ c.args.group = c.requires.asked in
+    let same : g.A.Arguments.group ≡ c.args.group = c.requires.asked in
     let below : IsMaskOf c.args.group c.mask_below.result (λ m. nat_lt m fixed.capacity) =
     subst (λ (end : ℕ). IsMaskOf c.args.group c.mask_below.result (λ m. nat_lt m end)) c.from.ensures c.mask_below.ensures in
     subst (λ (v : SeatView). IsMaskOf c.args.group (bit_and (bit_and c.mask_below.result c.args.want) (18446744073709551615 - c.fetch_or-before.result)) (λ m. has_bit c.args.want (m % 64)

@@ -17,7 +17,7 @@ fetch_and-requires g c =
     let seat = c.grip.inside.seat in
     let place : ℕ = claim_place words.fixed c.args.group in
     let after : ℕ → ℕ = λ n. bit_and n (bit_not w64 c.args.given) in
-    let call : Call = Give g.A.Asked.group g.A.Asked.first g.A.Asked.second in
+    let call : Call = Give g.A.Arguments.group g.A.Arguments.first g.A.Arguments.second in
     let same : Give c.args.group c.args.mask c.args.given ≡ call = cc in
     step_asks words seat c.grip.view_is c.requires.of c.grip.invariant.0 c.claim_place-place.ensures.place c.claim_place-place.ensures.within after (λ n. Did call) (λ s kept at small.
     subst (λ (x : Call). Steps words.fixed s seat.id place (after (slice_index s.words place)) (λ new. Did x (first_of seat.me.0) new)) same

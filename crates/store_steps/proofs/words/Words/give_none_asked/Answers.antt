@@ -11,7 +11,7 @@ pub load-requires : goal.load-requires
 load-requires g c =
     let words = c.args.self.now in
     let seat = c.grip.inside.seat in
-    let call : Call = Give g.A.Asked.group g.A.Asked.first g.A.Asked.second in
+    let call : Call = Give g.A.Arguments.group g.A.Arguments.first g.A.Arguments.second in
     let same : Give c.args.group c.args.mask 0 ≡ call = cc in
     step_asks words seat c.grip.view_is c.requires.of c.grip.invariant.0 refl (omega arith)
     (λ n. n) (λ n. Did call) (λ s kept at small.

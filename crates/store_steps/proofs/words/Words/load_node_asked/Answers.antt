@@ -10,7 +10,7 @@ pub load-found-requires : goal.load-found-requires
 load-found-requires g c =
     let words = c.args.self.now in
     let seat = c.grip.inside.seat in
-    let asked = g.A.AskedNode in
+    let asked = g.A.NodeArguments in
     let same : c.args.node.now ≡ asked.node = sym c.requires.asked.0 in
     step_asks words seat c.grip.view_is c.requires.of c.grip.invariant.0 (c.node_place-place.ensures.place ∙ ap (λ (n : Node). node_place words.fixed n) same)
     c.node_place-place.ensures.within (λ n. n) (λ n. LoadsNode asked.node asked.last asked.start asked.len n) (λ s kept at small.

@@ -20,7 +20,7 @@ fetch_or-requires g c =
     let group : ℕ = c.args.group in
     let mask : ℕ = c.args.mask in
     let piece : Piece = piece_of words.fixed.base c.args.piece.now in
-    let call : Call = Commit g.A.Asked.group g.A.Asked.piece mask in
+    let call : Call = Commit g.A.Arguments.group g.A.Arguments.piece mask in
     let same : Commit group piece mask ≡ call = cc in
     step_asks words seat c.grip.view_is c.requires.of c.grip.invariant.0
     c.held_place-place.ensures.place c.held_place-place.ensures.within (λ n. bit_or n mask) (λ n. Did call) (λ s kept at small.

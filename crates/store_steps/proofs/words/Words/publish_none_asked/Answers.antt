@@ -12,8 +12,8 @@ load-requires g c =
     let words = c.args.self.now in
     let seat = c.grip.inside.seat in
     step_asks words seat c.grip.view_is c.requires.of c.grip.invariant.0 refl (omega arith)
-    (λ n. n) (λ n. Publishes g.A.Asked.group g.A.Asked.piece 0) (λ s kept at small.
-    publish_none_steps words.fixed s kept seat.id _ at words.some g.A.Asked.group
-    (λ there. c.requires.group (omega (arith, there, c.requires.asked.0))) g.A.Asked.piece
+    (λ n. n) (λ n. Publishes g.A.Arguments.group g.A.Arguments.piece 0) (λ s kept at small.
+    publish_none_steps words.fixed s kept seat.id _ at words.some g.A.Arguments.group
+    (λ there. c.requires.group (omega (arith, there, c.requires.asked.0))) g.A.Arguments.piece
     (subst (λ (p : Piece). IsAcceptedPiece words.fixed p) (sym c.requires.asked.1)
     (accepted_piece words.fixed c.args.piece.now c.is_accepted.ensures.bytes c.is_accepted.ensures.accepted c.requires.piece)))

@@ -20,7 +20,7 @@ fetch_or-requires g c =
     let piece : Piece = piece_of words.fixed.base c.args.piece.now in
     let place : ℕ = parent_held_place words.fixed c.args.group in
     step_asks words seat c.grip.view_is c.requires.of c.grip.invariant.0 c.parent_held_place-place.ensures.place c.parent_held_place-place.ensures.within
-    (λ n. bit_or n mask) (λ n. PublishesParents g.A.Asked.group g.A.Asked.piece mask) (λ s kept at small.
+    (λ n. bit_or n mask) (λ n. PublishesParents g.A.Arguments.group g.A.Arguments.piece mask) (λ s kept at small.
     subst (λ (x : ℕ × Piece). Steps words.fixed s seat.id place (bit_or (slice_index s.words place) mask) (λ new. PublishesParents x.0 x.1 mask (first_of seat.me.0) new))
     (λ i. (sym c.requires.asked.0 i, sym c.requires.asked.1 i))
     (publish_parents_steps words.fixed s kept seat.id _ at c.args.group mask piece c.requires.group

@@ -18,7 +18,7 @@ compare_exchange-found-requires g c =
     let place : ℕ = length_place words.fixed in
     let piece : Piece = piece_of words.fixed.base (tail_piece c.args.tail.now) in
     step_asks words seat c.grip.view_is c.requires.of c.grip.invariant.0 c.length_place-place.ensures.place c.length_place-place.ensures.within
-    (λ n. either (n == 0) (c.length-length.result + 1) n) (λ n. SettlesLength g.A.Asked.piece n) (λ s kept at small.
+    (λ n. either (n == 0) (c.length-length.result + 1) n) (λ n. SettlesLength g.A.Arguments.piece n) (λ s kept at small.
     let found : ℕ = slice_index s.words place in
     subst (λ (x : ℕ × Piece). Steps words.fixed s seat.id place (either (found == 0) (x.0 + 1) found) (λ new. SettlesLength x.1 found (first_of seat.me.0) new))
     (λ i. (sym c.length-length.ensures.value i, sym c.requires.asked i))

@@ -17,8 +17,8 @@ store-requires g c =
     let kind : Kind = g.K.Item.kind in
     let words = c.args.self.now in
     let seat = c.grip.inside.seat in
-    let item : ℕ = g.A.Asked.first in
-    let w : ℕ = g.A.Asked.second in
+    let item : ℕ = g.A.Arguments.first in
+    let w : ℕ = g.A.Arguments.second in
     step_asks words seat c.grip.view_is c.requires.of c.grip.invariant.0
     (c.place-place.ensures.place ∙ (λ i. word_place kind words.fixed (width kind * sym c.requires.asked.0 i + sym c.requires.asked.1 i))) c.place-place.ensures.within
     (λ n. c.args.value) (λ n. Stores kind item w c.args.value) (λ s kept at small.

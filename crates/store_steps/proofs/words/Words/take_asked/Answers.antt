@@ -12,8 +12,8 @@ pub fetch_or-found-requires : goal.fetch_or-found-requires
 fetch_or-found-requires g c =
     let words = c.args.self.now in
     let seat = c.grip.inside.seat in
-    let group : ℕ = g.A.Asked.group in
-    let want : ℕ = g.A.Asked.first in
+    let group : ℕ = g.A.Arguments.group in
+    let want : ℕ = g.A.Arguments.first in
     let mask : ℕ = bit_and c.args.want c.mask_below.result in
     let same : group ≡ c.args.group = c.requires.asked.0 in
     let asks : IsMaskOf group mask (λ k. has_bit want (k % 64) && nat_lt k words.fixed.capacity) = record {

@@ -3,7 +3,7 @@ use Rattle.std.proofs.KnownBytes.{Appends-kept}
 use Rattle.std.proofs.lemmas.List.{take_all}
 use Rattle.std.specs.Io.KnownBytes.{Appends}
 use Rattle.bao_tasks.specs.Gathered.{gathered_text}
-use Rattle.bao_tasks.proofs.found.write_whole.Goals as goal
+use Rattle.bao_tasks.proofs.whole_blob.write_whole.Goals as goal
 
 pub returns-then-is_err-clause-fault : goal.returns-then-is_err-clause-fault
 returns-then-is_err-clause-fault g c =

@@ -10,7 +10,7 @@ use std::collections::BTreeMap;
 use std::io;
 use std::io::{Cursor, Read};
 
-/// A file of [`Held`] that was opened: its bytes as they were then.
+/// A file of [`MemoryFiles`] that was opened: its bytes as they were then.
 #[derive(Drop)]
 pub struct HeldInput {
     cursor: Cursor<Vec<u8>>,
@@ -46,21 +46,21 @@ impl Source for HeldInput {
 
 /// Files in memory, so that it is known what they hold. A path is a name and no more: no two of them lead to one file.
 #[derive(Drop)]
-pub struct Held {
+pub struct MemoryFiles {
     alloc: Global,
     files: BTreeMap<String, Vec<u8>>,
 }
 
-impl Held {
+impl MemoryFiles {
     ghost use Rattle.std.specs.Prelude.{ℕ, List, IfSome, IsNone, OnErr, OnOk, Some};
     ghost use Rattle.bao_files.specs.Disks.{Absent, KeepsFiles, Puts, Stored};
     ghost use Rattle.bao_files.specs.HeldFiles.{held_at};
 
     /// No files.
-    pub fn new(alloc: Global) -> Held
+    pub fn new(alloc: Global) -> MemoryFiles
         ensures { (path : List ℕ) → held_at result.files path ≡ Absent }
     {
-        Held {
+        MemoryFiles {
             alloc,
             files: BTreeMap::new(alloc),
         }
@@ -100,7 +100,7 @@ fn extent_of(bytes: &[u8]) -> Extent
     }
 }
 
-impl Disk for Held {
+impl Disk for MemoryFiles {
     ghost use Rattle.std.specs.Prelude.{⊤};
     ghost use Rattle.bao_files.specs.HeldFiles.{held_at};
 

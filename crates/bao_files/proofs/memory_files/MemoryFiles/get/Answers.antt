@@ -2,7 +2,7 @@ use Rattle.std.proofs.Common.{ap, sym, ◌∙◌}
 use Rattle.std.specs.Option.{option_copied}
 use Rattle.bao_files.specs.Disks.{Stored}
 use Rattle.bao_files.specs.HeldFiles.{state_of}
-use Rattle.bao_files.proofs.held.Held.get.Goals as goal
+use Rattle.bao_files.proofs.memory_files.MemoryFiles.get.Goals as goal
 
 pub returns-in-Some-clause-some : goal.returns-in-Some-clause-some
 returns-in-Some-clause-some c =

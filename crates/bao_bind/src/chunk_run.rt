@@ -5,14 +5,14 @@ use b3tree::{CHUNK_LEN, left_len};
 
 /// Bytes whose first chunk has the number `first`.
 #[derive(Clone, Copy)]
-pub(crate) struct Part<'a> {
+pub(crate) struct ChunkRun<'a> {
     pub(crate) first: u64,
     pub(crate) bytes: &'a [u8],
 }
 
-impl<'a> Part<'a> {
+impl<'a> ChunkRun<'a> {
     // The parts of the tree over more than a chunk.
-    pub(crate) fn parts(&self) -> (Part<'a>, Part<'a>)
+    pub(crate) fn parts(&self) -> (ChunkRun<'a>, ChunkRun<'a>)
         requires more { 1024 < length self.now.bytes.now }
         requires range { 1024 * self.now.first + length self.now.bytes.now ≤ 2 ^ 64 - 1 }
         ensures left_first { result.0.first ≡ self.now.first }
@@ -24,11 +24,11 @@ impl<'a> Part<'a> {
         let (left, right) = self.bytes.split_at(left_len as usize);
         let right_first = self.first + left_len / CHUNK_LEN as u64;
         (
-            Part {
+            ChunkRun {
                 first: self.first,
                 bytes: left,
             },
-            Part {
+            ChunkRun {
                 first: right_first,
                 bytes: right,
             },

@@ -1,6 +1,6 @@
 use Rattle.std.proofs.Common.{◌≡◌, ◌-◌, ◌≤◌, ℕ, List, ◌++◌, length, take, drop, arith, ap, ◌∙◌}
 use Rattle.bao_tasks.proofs.Parts.{more_bytes, more_written, part_written}
-use Rattle.bao_tasks.proofs.found.write_parts.Goals as goal
+use Rattle.bao_tasks.proofs.whole_blob.write_parts.Goals as goal
 
 pub parts-preserved : goal.parts-preserved
 parts-preserved g c =

@@ -4,7 +4,7 @@ use Rattle.std.proofs.lemmas.Result.{IfOk-at_ok}
 use Rattle.bao_files.specs.Disks.{Puts}
 use Rattle.bao_files.specs.HeldFiles.{held_at}
 use Rattle.bao_files.proofs.HeldFiles.{puts_held}
-use Rattle.bao_files.proofs.held.Held.put.Goals as goal
+use Rattle.bao_files.proofs.memory_files.MemoryFiles.put.Goals as goal
 
 -- the key has the path's bytes
 pub returns-in-Ok-clause-put : goal.returns-in-Ok-clause-put
