@@ -116,7 +116,7 @@ test:
 	@python3 scripts/program_scenarios.py crates/bao_gather/out/bao_gather{,.by-rattle}
 
 # The parts of make test that take long, some at a time, so that no processor waits for one of them. What needs no proof takes what
-# rt ci leaves, and so do the trials of the program and of the C library, each from when the crate is proved that it waits for.
+# rt ci leaves, and so do the trials of the program and of the C library, each from when the libraries are proved that it stands on.
 proofs:
 	@python3 scripts/ci.py
 
@@ -134,7 +134,7 @@ trials:
 
 c-trials:
 	@python3 scripts/proved_by_ci.py berylwool
-	@$(MAKE) --no-print-directory c-library
+	@nice -n 5 $(MAKE) --no-print-directory c-library
 	@if $(HAS_CURL); then fetch=fetch-test; else fetch=; echo 'left out: make fetch-test, since libcurl with its headers is not installed here'; fi; \
 	    $(MAKE) --no-print-directory -j 2 --output-sync=recurse c-test $$fetch
 

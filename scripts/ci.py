@@ -1,12 +1,12 @@
 #!/usr/bin/env python3
-"""Runs rt ci, and beside it the trials of what it proved, each as soon as rt says that the crate is proved that it waits for.
+"""Runs rt ci, and beside it the trials of what it proved, each as soon as rt says that the libraries are proved which it stands on.
 
 usage: python3 scripts/ci.py
 
-At the top of the repository. rt says so in a line, once the crate is proved, in this run or in an earlier one. What the trials try is built in a copy of the
-repository, out of what rt keeps of its proofs, since rt ci holds the crates until it ends. An rt that keeps nothing has left them here then, and the trials are
-made here. What rt ci prints is printed as it comes, and what the trials print once all have ended. The exit status is that of rt ci, or of the last trials that
-failed. Where rt ci fails, no trials are begun after it.
+At the top of the repository. rt says so in a line a crate, once it is proved, in this run or in an earlier one. What the trials try is built in a copy of the
+repository, since rt ci holds the crates until it ends. The copy has the libraries as rt ci proved them: out of what rt keeps of its proofs, or, where it keeps
+nothing, as they lie in the crates' folders. What rt ci prints is printed as it comes, and what the trials print once all have ended. The exit status is that of
+rt ci, or of the last trials that failed. Trials that haven't begun when rt ci ends are made here, unless it failed.
 """
 import os
 import re
@@ -18,13 +18,13 @@ import tempfile
 sys.dont_write_bytecode = True
 import rt_module
 
-# The trials, targets of the Makefile, by the crate that they wait for: the program is little more than bao_command.
-TRIALS = {"bao_command": "trials", "berylwool": "c-trials"}
+# The trials, targets of the Makefile, by the crate that they build. Those of the C library are begun first, since their build takes longest.
+TRIALS = {"berylwool": "c-trials", "bao_gather": "trials"}
 
 # What they build is proved once more, by one process, which takes the processors least.
 ONE_JOB = "JOBS=1"
 
-PROVED = re.compile(r"rt: (\w+) (?:proved$|is kept:)")
+PROVED = re.compile(r"^rt: (\w+) (?:proved$|is kept:)")
 
 # No proof of this repository takes so many bytes with one job, and most take a third. rt counts on more, and would leave a processor idle where that isn't there.
 ROOM = 5 << 30
@@ -42,10 +42,13 @@ def lanes(rt):
         os.environ["RT_JOBS"] = str(count)
 
 
-def copy_to(folder):
-    """Copies the repository without what was made of it. rt goes by .git as the top of one."""
+def copy_to(folder, libraries):
+    """Copies the repository, and of what was made of it these libraries alone. rt goes by .git as the top of one."""
     shutil.copytree(".", folder, ignore=shutil.ignore_patterns(".git", "out"))
     os.mkdir(f"{folder}/.git")
+    for it in libraries:
+        # (with their times, by which proved_by_ci.py knows that they are newer than their sources)
+        shutil.copytree(f"crates/{it}/out/rlib", f"{folder}/crates/{it}/out/rlib")
 
 
 class Trial:
@@ -67,22 +70,24 @@ class Trial:
 
 
 def main():
-    begun, waits, rt = [], dict(TRIALS), rt_module.load()
-    is_kept = keeps(rt)
+    rt = rt_module.load()
+    crates = {it.name: it for it in rt.rtlib.crates_below(os.getcwd())}
+    waits = {name: {it.name for it in crates[name].below()} for name in TRIALS}
+    is_kept, begun, proved = keeps(rt), [], set()
     lanes(rt)
     with tempfile.TemporaryDirectory(prefix="berylwool-ci-") as room:
         with subprocess.Popen(["rt", "ci"], stdout=subprocess.PIPE, text=True, errors="replace") as ci:
             for line in ci.stdout:
                 print(line, end="", flush=True)
-                said = PROVED.match(line)
-                if is_kept and said and said[1] in waits:
-                    target = waits.pop(said[1])
-                    copy_to(f"{room}/{target}")
+                proved.update(PROVED.findall(line))
+                for name in [it for it in waits if waits[it] <= proved]:
+                    below, target = waits.pop(name), TRIALS[name]
+                    copy_to(f"{room}/{target}", [] if is_kept else below)
                     begun.append(Trial(target, f"{room}/{target}", ONE_JOB))
             status = ci.wait()
         if not status:
-            for target in waits.values():
-                begun.append(Trial(target, "."))
+            # (of an rt that says otherwise what is proved, no line was understood)
+            begun += [Trial(TRIALS[name], ".") for name in waits]
         for it in begun:
             status = it.end() or status
     return status
