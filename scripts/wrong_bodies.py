@@ -3,6 +3,7 @@
 
 usage: python3 scripts/wrong_bodies.py [--jobs N] [--anew] [CRATE ..]
        python3 scripts/wrong_bodies.py --read [--strict]
+       python3 scripts/wrong_bodies.py --renamed OLD=NEW .. [--since COMMIT] -- CRATE ..
 
 At the top of the repository. A wrong body is a file crates/NAME/wrong-bodies/FUNCTION.WHAT.edit, in the form of those of
 crates/NAME/must-fail/, which the gate tries; both are tried. With no CRATE it is all that crates.txt names.
@@ -22,6 +23,8 @@ its contract, what that cites, and the contracts of what it calls, without comme
 body it is the crate's text. What was refused of the same is not tried again, but with --anew.
 --read proves nothing and takes seconds: it fails on an edit of either folder that can't be applied any more, or that
 stands in both, and names each crate with edits that were never tried so, or of other grounds. With --strict it fails on those too.
+--renamed proves nothing either: an edit that was refused in COMMIT, HEAD if left out, is noted as refused now where both the edit and
+what it was refused of are the same but for these names, as words of texts and of paths. NEW may not have been a word of the crate.
 """
 import argparse
 import copy
@@ -30,6 +33,7 @@ import os
 import queue
 import re
 import shutil
+import subprocess
 import sys
 import tempfile
 import threading
@@ -116,6 +120,85 @@ def tried_of(rt, folder, sums, of):
     lines = [it.split() for it in told if it]
     said = {name: (made, ground, *why) for made, ground, name, *why in lines}
     return {name: it for name, it in said.items() if name in sums and it[:2] == (sums[name], of[name])}
+
+
+def note_tried(folder, known):
+    """Writes wrong-bodies/TRIED: of each refused edit, by its name, what tried_of gives."""
+    told = "".join(f"{' '.join([made, ground, name, *why])}\n" for name, (made, ground, *why) in sorted(known.items()))
+    os.makedirs(f"{folder}/{OURS}", exist_ok=True)
+    with open(f"{folder}/{OURS}/TRIED", "w", encoding="utf-8") as it:
+        it.write(f"{len(known)} {HEADER}\n{told}")
+
+
+# Imports in a row, whose order says nothing.
+IMPORTS = re.compile(r"(?:^(?:ghost |pub )*(?:use|mod) [^\n]*\n)+", re.M)
+
+
+class Names:
+    """Names that were changed for others, as words."""
+
+    def __init__(self, pairs):
+        self.new = dict(pairs)
+        self.words = self.word(self.new)
+
+    @staticmethod
+    def pair(text):
+        found = re.fullmatch(r"([\w']+)=([\w']+)", text)
+        if not found:
+            raise argparse.ArgumentTypeError(f"{text}: a pair is OLD=NEW, a word each")
+        return found.groups()
+
+    @staticmethod
+    def word(names):
+        return re.compile(r"(?<![\w'])(?:" + "|".join(map(re.escape, names)) + r")(?![\w'])")
+
+    def put(self, text):
+        return self.words.sub(lambda it: self.new[it[0]], text)
+
+    def copy(self, rt, crate, folder, room):
+        """Returns the crate as it stands in this folder, copied into a room, with the new name for each old one and imports in order."""
+        made = copy.copy(crate)
+        made.folder = f"{room}/{crate.name}"
+        for part in (*rt.rtlib.PARTS, OURS, GATES):
+            for at, _, names in os.walk(f"{folder}/{part}"):
+                for name in names:
+                    inside = os.path.relpath(f"{at}/{name}", folder)
+                    to = f"{made.folder}/{inside if part in (OURS, GATES) else self.put(inside)}"
+                    os.makedirs(os.path.dirname(to), exist_ok=True)
+                    with open(to, "w", encoding="utf-8", newline="") as it:
+                        it.write(IMPORTS.sub(lambda rows: "".join(sorted(rows[0].splitlines(True))), self.put(rt.rtlib.text_of(f"{at}/{name}"))))
+        return made
+
+    def taken(self, rt, crate, folder):
+        """Returns the new names that are words of the crate in this folder, its comments aside."""
+        texts = [without_comments(it, rt.rtlib.text_of(it)) for it in rt.rtlib.files_of(folder)]
+        return {it for it in self.new.values() if any(self.word([it]).search(text) for text in texts)}
+
+
+def edits_and_grounds(rt, crate):
+    """Returns the sums of the edits of both folders, and those of what each is refused of."""
+    edits = [it for part in (OURS, GATES) for it in edits_of(crate, part)[0]]
+    return sums_of(edits), grounds_of(rt, crate, edits)
+
+
+def carry(rt, crate, names, commit):
+    """Notes in TRIED the edits that were refused in the commit of the same but for these names, and prints how many."""
+    with tempfile.TemporaryDirectory(prefix="wrong-bodies-") as room:
+        at = os.path.relpath(crate.folder)
+        kept = subprocess.run(["git", "archive", commit, at], stdout=subprocess.PIPE, check=True).stdout
+        subprocess.run(["tar", "x", "-C", room], input=kept, check=True)
+        old = copy.copy(crate)
+        old.folder = f"{room}/{at}"
+        taken = names.taken(rt, crate, old.folder)
+        if taken:
+            sys.exit(f"wrong-bodies: {' '.join(sorted(taken))}: a word of {crate.name} before the change, so that nothing is known of what was renamed")
+        was, now = (edits_and_grounds(rt, names.copy(rt, crate, folder, f"{room}/{name}")) for name, folder in (("was", old.folder), ("now", crate.folder)))
+        said = tried_of(rt, old.folder, *edits_and_grounds(rt, old))
+    sums, of = edits_and_grounds(rt, crate)
+    known = tried_of(rt, crate.folder, sums, of)
+    carried = {it for it in sums.keys() & said.keys() - known.keys() if all(there[it] == here[it] for there, here in zip(was, now))}
+    note_tried(crate.folder, known | {it: (sums[it], of[it], *said[it][2:]) for it in carried})
+    print(f"{crate.name}: {len(known)} of {len(sums)} were refused of the same before, {len(carried)} but for names, {len(sums) - len(known) - len(carried)} to try")
 
 
 def definitions(text):
@@ -229,7 +312,7 @@ class Work:
         self.lock, self.left, self.is_proved = threading.Lock(), len(edits), None
         # What a refused edit comes to: an older rt says no more than whether it was.
         self.changes, self.counts = {}, {getattr(rt, "REFUSED", True), getattr(rt, "AT_LIMIT", True)}
-        self.had, self.tried_file = f"{crate.folder}/out/incremental", f"{crate.folder}/{OURS}/TRIED"
+        self.had, self.noted = f"{crate.folder}/out/incremental", crate.folder
         self.grounds, self.sums, self.known = grounds, sums_of(edits), known
         self.crate = copy.copy(crate)
         self.crate.folder, self.crate.out = f"{self.room}/crate", sys.stderr
@@ -348,10 +431,7 @@ class Work:
             self.left -= 1
             if is_refused:
                 self.known[name] = (self.sums[name], self.grounds[name], *([why] if why else []))
-                told = "".join(f"{' '.join([made, ground, name, *why])}\n" for name, (made, ground, *why) in sorted(self.known.items()))
-                os.makedirs(os.path.dirname(self.tried_file), exist_ok=True)
-                with open(self.tried_file, "w", encoding="utf-8") as it:
-                    it.write(f"{len(self.known)} {HEADER}\n{told}")
+                note_tried(self.noted, self.known)
             if not self.left:
                 shutil.rmtree(self.room, ignore_errors=True)
 
@@ -438,6 +518,8 @@ def main():
     asked.add_argument("--anew", action="store_true", help="also those that were refused of the same before")
     asked.add_argument("--read", action="store_true", help="prove nothing: say which edits can't be applied, and which crates are to be tried")
     asked.add_argument("--strict", action="store_true", help="with --read: fail where a crate is to be tried")
+    asked.add_argument("--renamed", nargs="+", type=Names.pair, metavar="OLD=NEW", help="prove nothing: note what was refused of the same but for these names")
+    asked.add_argument("--since", metavar="COMMIT", default="HEAD", help="with --renamed: the commit with the old names (HEAD)")
     asked.add_argument("crates", nargs="*", metavar="CRATE")
     asked = asked.parse_args()
     rt = rt_module.load()
@@ -447,10 +529,14 @@ def main():
         sys.exit(f"wrong-bodies: crates.txt names no crate {unknown[0]}")
     if asked.read:
         return read_alone(rt, crates.values(), asked.strict)
+    chosen = [it for it in crates.values() if not asked.crates or it.name in asked.crates]
+    if asked.renamed:
+        for it in chosen:
+            carry(rt, it, Names(asked.renamed), asked.since)
+        return 0
     # (its first call sets a signal's handler, which only the main thread may)
     rt.rtlib.guarded()
     jobs = asked.jobs or max(1, min(rt.processors(), rt.free() // 2_000_000_000))
-    chosen = [it for it in crates.values() if not asked.crates or it.name in asked.crates]
     refused, failed = try_all(rt, chosen, jobs, asked.anew)
     print(f"{refused} refused, {failed} not refused")
     return 1 if failed else 0

@@ -4,7 +4,7 @@ pub mod Numbers
 pub mod Outcome
 pub mod Printed
 pub mod Refused
+pub mod ReportLines
 pub mod Status
 pub mod Tasks
-pub mod Told
 pub mod Works

@@ -12,7 +12,7 @@ ghost use Rattle.bao_command.specs.Printed.{CommandPrints, OnPrinted};
 ghost use Rattle.bao_command.specs.Refused.{IsEachBlob, IsRefusedGathering, OfRoot};
 ghost use Rattle.bao_command.specs.Status.{status_of};
 ghost use Rattle.bao_command.specs.Tasks.{IsBeside, IsDue, no_reasons};
-ghost use Rattle.bao_command.specs.Told.{part_line as missing_line, parts_line, unlooked_line, worth_line};
+ghost use Rattle.bao_command.specs.ReportLines.{part_line as missing_line, parts_line, unlooked_line, worth_line};
 ghost use Rattle.bao_command.specs.Works.{GathersRight, LeavesGathered};
 
 use crate::commands::{root_of, told};

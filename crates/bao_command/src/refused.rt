@@ -2,7 +2,7 @@
 
 ghost use Rattle.std.specs.Prelude.{OnOk};
 ghost use Rattle.std.specs.Io.KnownBytes.{Appends};
-ghost use Rattle.bao_command.specs.Told.{chunk_line, damage_line, long_line, parent_line, short_line};
+ghost use Rattle.bao_command.specs.ReportLines.{chunk_line, damage_line, long_line, parent_line, short_line};
 
 use crate::gathering::last_of;
 use b3tree::{CHUNK_LEN, Hash, Mode};

@@ -2,8 +2,8 @@
 use Rattle.std.proofs.Common.{◌≡◌, ◌↔◌, ℕ, ◌<◌, ◌≤◌, true, false, List, length, Option, None, Some, IfSome, unwrap_or, refl, sym, subst, arith}
 use Rattle.std.specs.Prelude.{IsNone}
 use Rattle.bao_check.specs.declared.checking.Checking.{Checking}
-use Rattle.berylwool.specs.declared.held.Held.{Held}
-use Rattle.berylwool.specs.declared.held.Held.TheVariants.{Feed}
+use Rattle.berylwool.specs.declared.owned.Held.{Held}
+use Rattle.berylwool.specs.declared.owned.Held.TheVariants.{Feed}
 use Rattle.berylwool.specs.Handles.{HasFeed}
 
 -- it is 0 exactly where nothing is wanted

@@ -16,8 +16,8 @@ use Rattle.std.proofs.GlobalToken.{dealloc_token-Testable}
 use Rattle.std_alloc.specs.Box.Ownership.{box_owns}
 use Rattle.std.specs.declared.option.Option.{Option}
 use Rattle.std.specs.declared.option.Option.TheVariants.{None, Some}
-use Rattle.berylwool.specs.declared.held.Held.{Held}
-use Rattle.berylwool.specs.contracts.held.Held as held
+use Rattle.berylwool.specs.declared.owned.Held.{Held}
+use Rattle.berylwool.specs.contracts.owned.Held as held
 use types.Kit.{Item, Goal, Seq, Step, step, ‵, ◌$◌, move, drop, fsplit, fjoin, fpick, fpack, feq_i, feq_l, use1, given, learn}
 use denote.RattleType.{RattleType, Valss}
 use denote.Builtin.{RawPtr}

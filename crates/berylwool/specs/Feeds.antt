@@ -5,7 +5,7 @@ use Rattle.bao_check.specs.declared.fault.CheckFault.{CheckFault}
 use Rattle.bao_check.specs.Accepted.{slice_nodes}
 use Rattle.bao_check.specs.Checking.{HasDecodedAs, HasTakenAs, IsNodeFault, chunk_wanted, wanted}
 use Rattle.bao_check.specs.Waiting.{CheckTask}
-use Rattle.berylwool.specs.declared.held.Held.{Held}
+use Rattle.berylwool.specs.declared.owned.Held.{Held}
 use Rattle.berylwool.specs.Handles.{HasFeed}
 use Rattle.berylwool.specs.Status.{IsRefused, IsStatusOf}
 

@@ -10,10 +10,10 @@ use Rattle.bao_check.specs.declared.checking.Checking.{Checking}
 use Rattle.bao_feed.specs.declared.feed.OutboardFeed.{OutboardFeed}
 use Rattle.store_shared.specs.declared.assembly.Assembly.{Assembly}
 use Rattle.store_shared.specs.Seats.{Gripped, IsSeatOf, fixed_of}
-use Rattle.berylwool.specs.declared.held.Held.{Held}
-use Rattle.berylwool.specs.declared.held.Held.TheVariants.{Feed, Gone, Hasher, Outboard, Outline, Seat}
+use Rattle.berylwool.specs.declared.owned.Held.{Held}
+use Rattle.berylwool.specs.declared.owned.Held.TheVariants.{Feed, Gone, Hasher, Outboard, Outline, Seat}
 use Rattle.berylwool.specs.declared.outlined.Outlined.{Outlined}
-use Rattle.berylwool.specs.contracts.held.Held.{the_row}
+use Rattle.berylwool.specs.contracts.owned.Held.{the_row}
 use base.Fml.{Fml, ftrue, fex}
 use denote.RawPtr.{Ptr, block_ptr, null_ptr}
 

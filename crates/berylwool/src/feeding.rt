@@ -8,8 +8,8 @@ ghost use Rattle.berylwool.specs.Modes.{IsKnown, mode_of};
 
 use crate::checking::told;
 use crate::handle::{BwHandle, put, take, with_held};
-use crate::held::Held;
 use crate::mode::BwMode;
+use crate::owned::Held;
 use crate::status::{NO_MEMORY, NO_MODE, OTHER_SIZE, ROOM};
 use b3tree::Hash;
 use bao_check::Checking;

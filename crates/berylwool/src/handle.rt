@@ -1,12 +1,12 @@
 ghost use Rattle.std.specs.Prelude.{◌≡◌, IfSome, Option, None, Some};
 ghost use Rattle.std.specs.Option.{option_map};
 ghost use Rattle.std.specs.contracts.option.Option as option;
-ghost use Rattle.berylwool.specs.declared.held.Held.{Held};
-ghost use Rattle.berylwool.specs.contracts.held.Held as held;
+ghost use Rattle.berylwool.specs.declared.owned.Held.{Held};
+ghost use Rattle.berylwool.specs.contracts.owned.Held as held;
 ghost use Rattle.berylwool.specs.Handles.{IsGood, handle_owns};
 
-use crate::held::Held;
 use crate::loose::Loose;
+use crate::owned::Held;
 use std::alloc::Global;
 use std::marker::Model;
 use std::{mem, ptr};
@@ -98,7 +98,7 @@ macro_rules! with_held {
         let Some(mut held) = $crate::handle::take($handle, $alloc) else {
             return $crate::status::NO_HANDLE;
         };
-        let $crate::held::Held::$kind($it) = &mut *held else {
+        let $crate::owned::Held::$kind($it) = &mut *held else {
             $crate::handle::put($handle, held);
             return $crate::status::NO_HANDLE;
         };

@@ -5,8 +5,8 @@ ghost use Rattle.berylwool.specs.Handles.{HasHasher, HoldsIn};
 ghost use Rattle.berylwool.specs.Modes.{IsKnown, mode_of};
 
 use crate::handle::{BwHandle, put, take, with_held};
-use crate::held::Held;
 use crate::mode::BwMode;
+use crate::owned::Held;
 use crate::status::{NO_MEMORY, NO_MODE, PAST_OUTPUT};
 use b3tree::{Hasher, xof_fits};
 use std::alloc::Global;

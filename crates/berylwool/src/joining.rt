@@ -5,7 +5,7 @@ ghost use Rattle.berylwool.specs.Calls.{HaveMet};
 ghost use Rattle.berylwool.specs.Handles.{AreAlike, AreOfOneStore, AreUnlike, HasSeat, HaveSeats, SeatDid, SeatParts};
 
 use crate::handle::{BwHandle, put, take};
-use crate::held::{Held, Seated};
+use crate::owned::{Held, Seated};
 use crate::status::{NO_HANDLE, OTHER_STORE};
 use std::alloc::Global;
 use std::mem;

@@ -8,10 +8,10 @@ ghost use Rattle.berylwool.specs.Outlines.{IsOutlined};
 
 use crate::checking::told;
 use crate::handle::{BwHandle, put, take, with_held};
-use crate::held::Held;
 use crate::mode::BwMode;
 use crate::outlined::Outlined;
 use crate::outlines::put_outline;
+use crate::owned::Held;
 use crate::status::{NO_HANDLE, NO_MEMORY, NO_MODE};
 use b3tree::Hash;
 use bao_check::CheckFault;

@@ -9,9 +9,9 @@ ghost use Rattle.berylwool.specs.Status.{IsRefused};
 
 use crate::checking::told;
 use crate::handle::{BwHandle, put, take, with_held};
-use crate::held::Held;
 use crate::mode::BwMode;
 use crate::outlined::Outlined;
+use crate::owned::Held;
 use crate::room;
 use crate::slicing::slice_beside;
 use crate::status::{NO_CHUNKS, NO_MEMORY, NO_MODE, ROOM, TEXT_MEMORY};

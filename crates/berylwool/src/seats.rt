@@ -14,8 +14,8 @@ ghost use Rattle.berylwool.specs.Calls.{Commits, HasSettled, IsNoSliceOf, IsSlic
 
 use crate::checking::told;
 use crate::handle::{BwHandle, put, take, with_held};
-use crate::held::{Held, Seated};
 use crate::mode::BwMode;
+use crate::owned::{Held, Seated};
 use crate::status::{
     DIFFERS, MISSING, NO_HANDLE, NO_MEMORY, NO_MODE, NO_TAIL, NOT_THE_ROOT, ROOM, TOO_LARGE,
     UNFINISHED,

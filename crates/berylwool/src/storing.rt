@@ -12,9 +12,9 @@ ghost use Rattle.berylwool.specs.Storing.{CommitsGroup, EachGroup, IsOfOther, St
 
 use crate::checking::told;
 use crate::handle::{BwHandle, put, take, with_held};
-use crate::held::Held;
 use crate::joining::fixed;
 use crate::outlined::Outlined;
+use crate::owned::Held;
 use crate::status::{NO_CHUNKS, NO_HANDLE, OTHER_LENGTH, OTHER_ROOT};
 use bao_check::{Checked, bare_fits, check_bare, check_slice};
 use std::alloc::Global;

@@ -1,7 +1,7 @@
 use Rattle.std.proofs.Common.{◌≤◌, ◌∙◌, ◌*◌, Option, Some, length, subst, sym}
 use Rattle.bao_check.specs.Accepted.{IsAccepted, slice_nodes}
 use Rattle.bao_check.specs.Bare.{bare_part}
-use Rattle.berylwool.specs.declared.held.Held.{Held}
+use Rattle.berylwool.specs.declared.owned.Held.{Held}
 use Rattle.berylwool.specs.declared.outlined.Outlined.{Outlined}
 use Rattle.berylwool.specs.Handles.{HasOutline}
 use Rattle.berylwool.specs.Outlines.{AreBeside, AreNotBeside, bare_text, outlined_mode, outlined_root, outlined_text}

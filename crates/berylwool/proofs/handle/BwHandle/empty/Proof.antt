@@ -22,7 +22,7 @@ use Rattle.std.proofs.alloc.Global.TheLaws as heap_laws
 use Rattle.std.proofs.raw_atomic.Walks.{proved_at, leaves}
 use Rattle.std.specs.declared.option.Option.{Option}
 use Rattle.std.specs.declared.option.Option.TheVariants.{None}
-use Rattle.berylwool.specs.declared.held.Held.{Held}
+use Rattle.berylwool.specs.declared.owned.Held.{Held}
 use Rattle.berylwool.proofs.Values.{both}
 use Rattle.berylwool.proofs.HandleValues.{Z, handle_good, handle_in}
 use Rattle.berylwool.specs.contracts.handle.BwHandle.empty.{ended, clauses}

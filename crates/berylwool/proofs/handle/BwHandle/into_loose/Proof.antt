@@ -27,7 +27,7 @@ use Rattle.std.proofs.alloc.Global.TheLaws as heap_laws
 use Rattle.std.specs.contracts.impls.GlobalAllocator.TheImpl.{ghosts}
 use Rattle.std.proofs.raw_atomic.Walks.{proved_at, leaves}
 use Rattle.std_alloc.proofs.ResultValues.{and_tt}
-use Rattle.berylwool.specs.contracts.held.Held as held
+use Rattle.berylwool.specs.contracts.owned.Held as held
 use Rattle.std.specs.Prelude.{IfSome}
 use Rattle.std.specs.Option.{option_map}
 use Rattle.berylwool.specs.Handles.{IsGood}

@@ -22,8 +22,8 @@ use Rattle.std.proofs.raw_atomic.Walks.{proved_at, leaves}
 use Rattle.std_alloc.specs.Box.Ownership.{box_owns}
 use Rattle.std.specs.declared.option.Option.{Option}
 use Rattle.std.specs.declared.option.Option.TheVariants.{Some}
-use Rattle.berylwool.specs.declared.held.Held.{Held}
-use Rattle.berylwool.specs.contracts.held.Held as held
+use Rattle.berylwool.specs.declared.owned.Held.{Held}
+use Rattle.berylwool.specs.contracts.owned.Held as held
 use Rattle.berylwool.specs.Handles.{IsGood}
 use Rattle.berylwool.proofs.Values.{both, Loose, loose_good, loose_out}
 use Rattle.berylwool.proofs.HandleValues.{Z, handle_in}
