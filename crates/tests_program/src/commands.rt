@@ -40,9 +40,9 @@ fn is_run<R: AllocGlobal + Threads + Sync + Abort>(
     let mut printed = taking(rt.alloc());
     let mut faults = taking(rt.alloc());
     let got = command(rt, held, words.as_slice(), &mut printed, &mut faults, &());
-    assert_eq!(rt; got, *status, "{given:?}");
-    assert_eq!(rt; printed.held.as_slice(), line.as_bytes(), "{given:?}");
-    assert_eq!(rt; held.get("out"), Some(*out), "{given:?}");
+    assert!(rt; got == *status, "{given:?}");
+    assert!(rt; printed.held.as_slice() == line.as_bytes(), "{given:?}");
+    assert!(rt; held.get("out") == Some(*out), "{given:?}");
     Ok(())
 }
 
@@ -152,7 +152,7 @@ fn lists<R: AllocGlobal + Threads + Sync + Abort>(
     list: &[u8],
 ) -> Result<(), Fail> {
     is_run(rt, held, run)?;
-    assert_eq!(rt; held.get("key"), Some(list));
+    assert!(rt; held.get("key") == Some(list));
     Ok(())
 }
 

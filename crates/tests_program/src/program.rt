@@ -73,9 +73,9 @@ pub(crate) fn expect<R: Files<File = File> + AllocGlobal + Threads + Sync + Abor
     let mut printed = taking(rt.alloc());
     let mut faults = taking(rt.alloc());
     let got = ran(rt, given, &mut printed, &mut faults)?;
-    assert_eq!(rt; got, status, "{given:?}");
-    assert_eq!(rt; printed.held.as_slice(), out.as_bytes());
-    assert_eq!(rt; faults.held.as_slice(), err.as_bytes());
+    assert!(rt; got == status, "{given:?}");
+    assert!(rt; printed.held.as_slice() == out.as_bytes());
+    assert!(rt; faults.held.as_slice() == err.as_bytes());
     Ok(())
 }
 
@@ -90,7 +90,7 @@ fn copy_version<R: Files<File = File> + AllocGlobal + Abort>(
     file: &str,
 ) -> Result<(), Fail> {
     let told = fs::metadata(rt, "/proc/version")?.len();
-    assert_eq!(rt; told, 0);
+    assert!(rt; told == 0);
     let version = fs::read(rt, "/proc/version")?;
     assert!(rt; !version.is_empty());
     fs::write(rt, file, version.as_slice())?;
@@ -104,7 +104,7 @@ fn version_has_hash_of<R: Files<File = File> + AllocGlobal + Threads + Sync + Ab
 ) -> Result<(), Fail> {
     let mut line = taking(rt.alloc());
     let mut faults = taking(rt.alloc());
-    assert_eq!(rt; ran(rt, &["hash", file], &mut line, &mut faults)?, 0);
+    assert!(rt; ran(rt, &["hash", file], &mut line, &mut faults)? == 0);
     let line = str::from_utf8(line.held.as_slice())?;
     expect(rt, &["hash", "/proc/version"], 0, line, "")
 }
@@ -131,9 +131,9 @@ fn output_fails<R: Files<File = File> + AllocGlobal + Threads + Sync + Abort>(
 ) -> Result<(), Fail> {
     let mut out = failing(rt.alloc(), text.len(), kind);
     let mut faults = taking(rt.alloc());
-    assert_eq!(rt; ran(rt, given, &mut out, &mut faults)?, status);
-    assert_eq!(rt; faults.held.as_slice(), told.as_bytes());
-    assert_eq!(rt; out.held.as_slice(), text);
+    assert!(rt; ran(rt, given, &mut out, &mut faults)? == status);
+    assert!(rt; faults.held.as_slice() == told.as_bytes());
+    assert!(rt; out.held.as_slice() == text);
     Ok(())
 }
 
@@ -145,8 +145,8 @@ fn output_is_stuck<R: Files<File = File> + AllocGlobal + Threads + Sync + Abort>
     let mut out = taking(rt.alloc());
     out.stuck = true;
     let mut faults = taking(rt.alloc());
-    assert_eq!(rt; ran(rt, given, &mut out, &mut faults)?, 3);
-    assert_eq!(rt; faults.held.as_slice(), OUTPUT.as_bytes());
+    assert!(rt; ran(rt, given, &mut out, &mut faults)? == 3);
+    assert!(rt; faults.held.as_slice() == OUTPUT.as_bytes());
     Ok(())
 }
 
@@ -184,9 +184,9 @@ fn error_fails<R: Files<File = File> + AllocGlobal + Threads + Sync + Abort>(
 ) -> Result<(), Fail> {
     let mut printed = taking(rt.alloc());
     let mut err = failing(rt.alloc(), 5, kind);
-    assert_eq!(rt; ran(rt, given, &mut printed, &mut err)?, status);
+    assert!(rt; ran(rt, given, &mut printed, &mut err)? == status);
     assert!(rt; printed.held.is_empty());
-    assert_eq!(rt; err.held.len(), 5);
+    assert!(rt; err.held.len() == 5);
     Ok(())
 }
 
@@ -208,8 +208,8 @@ fn words_are_text(rt: HostRuntime) -> Result<(), Fail> {
         return Err("a word that is no text".into());
     };
     let mut printed = Vec::new(rt.alloc());
-    assert_eq!(rt; fault.report(&mut printed), 2);
+    assert!(rt; fault.report(&mut printed) == 2);
     let word = "bao_gather: usage: a word is not UTF-8\n";
-    assert_eq!(rt; printed.as_slice(), word.as_bytes());
+    assert!(rt; printed.as_slice() == word.as_bytes());
     Ok(())
 }

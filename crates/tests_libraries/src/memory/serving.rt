@@ -46,11 +46,11 @@ fn fill<R: Abort>(
     piece: &Checked<'_>,
     end: &Checked<'_>,
 ) -> Result<(), Fail> {
-    assert_eq!(rt; store.take(0, 0, 1)?, 1);
-    assert_eq!(rt; store.commit(0, 0, piece)?, 1);
-    assert_eq!(rt; store.settle(&end.tail().ok_or("tail")?), Settling::Settled);
-    assert_eq!(rt; stored(store, end)?, 4);
-    assert_eq!(rt; stored(store, piece)?, 2);
+    assert!(rt; store.take(0, 0, 1)? == 1);
+    assert!(rt; store.commit(0, 0, piece)? == 1);
+    assert!(rt; store.settle(&end.tail().ok_or("tail")?) == Settling::Settled);
+    assert!(rt; stored(store, end)? == 4);
+    assert!(rt; stored(store, piece)? == 2);
     Ok(())
 }
 
@@ -80,7 +80,7 @@ fn slices_of_a_store(rt: HostRuntime) -> Result<(), Fail> {
     let (root, first, last) = slices(rt.alloc())?;
     let (piece, end) = pieces(rt.alloc(), &root, first.as_slice(), last.as_slice())?;
     let text = serves(&rt, root, &piece, &end)?;
-    assert_eq!(rt; text.as_slice(), first.as_slice());
+    assert!(rt; text.as_slice() == first.as_slice());
     Ok(())
 }
 
@@ -95,14 +95,11 @@ fn fill_shared<R: Abort>(
     requires { IsSeatOf store.now seat.old }
     ensures { IsSeatOf store.now seat.new }
 {
-    assert_eq!(rt; store.take(seat, 0, 1), Ok(1));
-    assert_eq!(rt; store.commit(seat, 0, piece), Ok(1));
-    assert_eq!(rt;
-        store.settle(seat, &end.tail().ok_or("tail")?),
-        Settling::Settled
-    );
-    assert_eq!(rt; store.commit_parents(seat, 0, end), Ok(0b100));
-    assert_eq!(rt; store.commit_parents(seat, 0, piece), Ok(0b010));
+    assert!(rt; store.take(seat, 0, 1) == Ok(1));
+    assert!(rt; store.commit(seat, 0, piece) == Ok(1));
+    assert!(rt; store.settle(seat, &end.tail().ok_or("tail")?) == Settling::Settled);
+    assert!(rt; store.commit_parents(seat, 0, end) == Ok(0b100));
+    assert!(rt; store.commit_parents(seat, 0, piece) == Ok(0b010));
     Ok(())
 }
 
@@ -132,6 +129,6 @@ fn slices_of_a_shared_store(rt: HostRuntime) -> Result<(), Fail> {
     let (root, first, last) = slices(rt.alloc())?;
     let (piece, end) = pieces(rt.alloc(), &root, first.as_slice(), last.as_slice())?;
     let text = serves_shared(&rt, root, &piece, &end)?;
-    assert_eq!(rt; text.as_slice(), first.as_slice());
+    assert!(rt; text.as_slice() == first.as_slice());
     Ok(())
 }

@@ -23,7 +23,7 @@ fn granted(store: &mut Store) -> Result<u64, StoreFault> {
 fn committed<R: Abort>(rt: &R, store: &mut Store, piece: &Checked<'_>) -> Result<u64, StoreFault> {
     match store.commit(7, 0, piece) {
         Err(StoreFault::Memory) => {
-            assert_eq!(rt; store.take(8, 0, u64::MAX)?, 0);
+            assert!(rt; store.take(8, 0, u64::MAX)? == 0);
             store.commit(7, 0, piece)
         }
         committed => committed,
@@ -37,11 +37,11 @@ fn stores_all<R: AllocGlobal + Abort>(
     bytes: &[u8; 2049],
 ) -> Result<(), Fail> {
     let mut store = Store::new(rt.alloc(), root, Mode::hash(), 3)?;
-    assert_eq!(rt; granted(&mut store)?, 0b111);
-    assert_eq!(rt; committed(rt, &mut store, piece)?, 0b111);
+    assert!(rt; granted(&mut store)? == 0b111);
+    assert!(rt; committed(rt, &mut store, piece)? == 0b111);
     let mut out = [0; 2049];
-    assert_eq!(rt; store.read(0, &mut out), Ok(()));
-    assert_eq!(rt; out.as_slice(), bytes.as_slice());
+    assert!(rt; store.read(0, &mut out) == Ok(()));
+    assert!(rt; out.as_slice() == bytes.as_slice());
     Ok(())
 }
 
@@ -86,8 +86,8 @@ fn a_schedule(rt: HostRuntime) -> Result<(), Fail> {
         Err(ReplayFault::Memory) => replay(rt.alloc(), root, mode, 3, &pieces, &steps)?,
         run => run?,
     };
-    assert_eq!(rt; replies.len(), 5);
-    assert_eq!(rt; store.length(), Some(2049));
+    assert!(rt; replies.len() == 5);
+    assert!(rt; store.length() == Some(2049));
     Ok(())
 }
 
@@ -127,18 +127,15 @@ fn both_store<R: Abort>(
     requires first { IsSeatOf store.now first.old }
     requires second { IsSeatOf store.now second.old }
 {
-    assert_eq!(rt; store.take(first, 0, 0b011), Ok(0b011));
-    assert_eq!(rt; store.take(second, 0, 0b111), Ok(0b100));
-    assert_eq!(rt; store.commit(first, 0, piece), Ok(0b011));
-    assert_eq!(rt; store.commit(second, 0, piece), Ok(0b100));
-    assert_eq!(rt;
-        store.settle(first, &piece.tail().ok_or("tail")?),
-        Settling::Settled
-    );
+    assert!(rt; store.take(first, 0, 0b011) == Ok(0b011));
+    assert!(rt; store.take(second, 0, 0b111) == Ok(0b100));
+    assert!(rt; store.commit(first, 0, piece) == Ok(0b011));
+    assert!(rt; store.commit(second, 0, piece) == Ok(0b100));
+    assert!(rt; store.settle(first, &piece.tail().ok_or("tail")?) == Settling::Settled);
     store.meet(first, second);
     let mut out = [0; 2049];
-    assert_eq!(rt; store.read(second, 0, &mut out), Ok(()));
-    assert_eq!(rt; out, [7; 2049]);
+    assert!(rt; store.read(second, 0, &mut out) == Ok(()));
+    assert!(rt; out == [7; 2049]);
     Ok(())
 }
 

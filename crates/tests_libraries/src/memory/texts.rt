@@ -38,8 +38,8 @@ fn whole_of<R: AllocGlobal + Abort>(rt: &R, bytes: &[u8]) -> Result<Vec<u8>, Mem
         Err(Memory) => combined(rt.alloc(), &mode, bytes)?,
         Ok(made) => made,
     };
-    assert_eq!(rt; root, ROOT);
-    assert_eq!(rt; hash(&mode, text.as_slice()), COMBINED);
+    assert!(rt; root == ROOT);
+    assert!(rt; hash(&mode, text.as_slice()) == COMBINED);
     Ok(text)
 }
 
@@ -49,8 +49,8 @@ fn outboard_is_made<R: AllocGlobal + Abort>(rt: &R, bytes: &[u8]) -> Result<(), 
         Err(Memory) => outboard(rt.alloc(), &mode, bytes)?,
         Ok(made) => made,
     };
-    assert_eq!(rt; root, ROOT);
-    assert_eq!(rt; hash(&mode, text.as_slice()), OUTBOARD);
+    assert!(rt; root == ROOT);
+    assert!(rt; hash(&mode, text.as_slice()) == OUTBOARD);
     Ok(())
 }
 
@@ -60,8 +60,8 @@ fn slice_of<R: AllocGlobal + Abort>(rt: &R, bytes: &[u8]) -> Result<Vec<u8>, Mem
         Err(Memory) => slice(rt.alloc(), &mode, bytes, 1000, 100)?,
         Ok(made) => made,
     };
-    assert_eq!(rt; root, ROOT);
-    assert_eq!(rt; hash(&mode, text.as_slice()), SLICE);
+    assert!(rt; root == ROOT);
+    assert!(rt; hash(&mode, text.as_slice()) == SLICE);
     Ok(text)
 }
 
@@ -80,7 +80,7 @@ fn texts(rt: HostRuntime) -> Result<(), Fail> {
     let whole = whole_of(&rt, &bytes)?;
     let text = slice_of(&rt, &bytes)?;
     let cut = cut_of(rt.alloc(), whole.as_slice())?;
-    assert_eq!(rt; cut.as_slice(), text.as_slice());
+    assert!(rt; cut.as_slice() == text.as_slice());
     Ok(())
 }
 
@@ -93,7 +93,7 @@ fn a_text_for_a_vector(rt: HostRuntime) -> Result<(), Fail> {
     let mut out = Vec::new(rt.alloc());
     let root = match write_combined(rt.alloc(), &mode, &bytes, &mut out) {
         Err(WriteFault::Writer { written }) => {
-            assert_eq!(rt; written, out.len() as u128);
+            assert!(rt; written == out.len() as u128);
             out.clear();
             write_combined(rt.alloc(), &mode, &bytes, &mut out)?
         }
@@ -103,8 +103,8 @@ fn a_text_for_a_vector(rt: HostRuntime) -> Result<(), Fail> {
         }
         Ok(root) => root,
     };
-    assert_eq!(rt; root, ROOT);
-    assert_eq!(rt; hash(&mode, out.as_slice()), COMBINED);
+    assert!(rt; root == ROOT);
+    assert!(rt; hash(&mode, out.as_slice()) == COMBINED);
     Ok(())
 }
 
@@ -115,9 +115,9 @@ fn check_whole<R: AllocGlobal + Threads + Sync + Abort>(
 ) -> Result<(), CheckFault> {
     let mode = Mode::hash();
     let piece = check_combined(rt.alloc(), &mode, &ROOT, text)?;
-    assert_eq!(rt; piece.chunk(1), second);
+    assert!(rt; piece.chunk(1) == second);
     let piece = check_combined_join(rt, &mode, &ROOT, text, 1)?;
-    assert_eq!(rt; piece.chunk(1), second);
+    assert!(rt; piece.chunk(1) == second);
     Ok(())
 }
 
@@ -128,15 +128,15 @@ fn check_part<R: AllocGlobal + Threads + Sync + Abort>(
 ) -> Result<(), CheckFault> {
     let mode = Mode::hash();
     let piece = check_slice(rt.alloc(), &mode, &ROOT, 1000, 100, text)?;
-    assert_eq!(rt; piece.chunk(1), second);
+    assert!(rt; piece.chunk(1) == second);
     let piece = check_slice_join(rt, &mode, &ROOT, 1000, 100, text, 1)?;
-    assert_eq!(rt; piece.chunk(1), second);
+    assert!(rt; piece.chunk(1) == second);
     Ok(())
 }
 
 fn check_bare<R: AllocGlobal + Abort>(rt: &R, text: &[u8]) -> Result<(), CheckFault> {
     let outline = check_outboard(rt.alloc(), &Mode::hash(), &ROOT, text)?;
-    assert_eq!(rt; outline.claimed(), 2049);
+    assert!(rt; outline.claimed() == 2049);
     Ok(())
 }
 

@@ -27,7 +27,7 @@ fn is_right<R: Abort>(rt: &R, report: &Report) -> Result<(), Fail> {
     if report.memory > 1 {
         return Err(Fail::from("a growth was refused"));
     }
-    assert_eq!(rt; (report.committed, report.refused), (3, 0));
+    assert!(rt; (report.committed, report.refused) == (3, 0));
     assert!(rt; matches!((report.asked, report.memory), (2, 0) | (3, 1)));
     Ok(())
 }
@@ -74,7 +74,7 @@ fn a_run(rt: HostRuntime) -> Result<(), Fail> {
     let bytes = array::<3000>();
     let (root, whole) = combined(rt.alloc(), &Mode::hash(), &bytes)?;
     let gathered = by_a_run(&rt, root, whole.as_slice())?;
-    assert_eq!(rt; gathered.as_slice(), bytes.as_slice());
+    assert!(rt; gathered.as_slice() == bytes.as_slice());
     Ok(())
 }
 
@@ -92,7 +92,7 @@ fn sixteen_workers(rt: HostRuntime) -> Result<(), Fail> {
         }
         gathered => gathered?,
     };
-    assert_eq!(rt; gathered.as_slice(), bytes.as_slice());
+    assert!(rt; gathered.as_slice() == bytes.as_slice());
     Ok(())
 }
 
@@ -136,9 +136,9 @@ fn copies_give<R: AllocGlobal + Threads + Sync + Abort>(
     bytes: &[u8],
 ) -> Result<(), Fail> {
     let gathered = from_sources(rt, outline, bytes)?;
-    assert_eq!(rt; gathered.as_slice(), bytes);
+    assert!(rt; gathered.as_slice() == bytes);
     let gathered = from_copies(rt, outline, gathered)?;
-    assert_eq!(rt; gathered.as_slice(), bytes);
+    assert!(rt; gathered.as_slice() == bytes);
     Ok(())
 }
 

@@ -24,15 +24,15 @@ fn fails_after<R: AllocGlobal + Abort>(rt: &R, bytes: &[u8], text: &[u8], full: 
     let mut out = failing(rt.alloc(), full, ErrorKind::BrokenPipe);
     let result = write_combined(rt.alloc(), &Mode::hash(), bytes, &mut out);
     let written = full as u128;
-    assert_eq!(rt; result, Err(WriteFault::Writer { written }));
-    assert_eq!(rt; Some(out.held.as_slice()), text.get(..full));
+    assert!(rt; result == Err(WriteFault::Writer { written }));
+    assert!(rt; Some(out.held.as_slice()) == text.get(..full));
 }
 
 #[test]
 fn a_write_fails_after_each_number_of_bytes(rt: HostRuntime) -> Result<(), Fail> {
     let bytes = blob(rt.alloc(), 2049)?;
     let (_, text) = combined(rt.alloc(), &Mode::hash(), bytes.as_slice())?;
-    assert_eq!(rt; text.len(), 2185);
+    assert!(rt; text.len() == 2185);
     for full in 0..text.len() {
         fails_after(&rt, bytes.as_slice(), text.as_slice(), full);
     }
@@ -49,13 +49,10 @@ fn writes_a_large_blob_in_pieces(rt: HostRuntime) -> Result<(), Fail> {
         writes: 0,
     };
     let hash = write_combined(rt.alloc(), &Mode::hash(), bytes.as_slice(), &mut out)?;
-    assert_eq!(rt; hash.0, LARGE_HASH);
-    assert_eq!(rt; out.held.len(), 212_488);
-    assert_eq!(rt;
-        b3tree::hash(&Mode::hash(), out.held.as_slice()).0,
-        LARGE_ENCODING_HASH
-    );
-    assert_eq!(rt; out.writes, 4);
+    assert!(rt; hash.0 == LARGE_HASH);
+    assert!(rt; out.held.len() == 212_488);
+    assert!(rt; b3tree::hash(&Mode::hash(), out.held.as_slice()).0 == LARGE_ENCODING_HASH);
+    assert!(rt; out.writes == 4);
     assert!(rt; out.longest <= 73_728);
     Ok(())
 }
@@ -85,6 +82,6 @@ impl Write for Longest {
 #[test]
 fn want_of_memory_is_the_answer(rt: HostRuntime) -> Result<(), Fail> {
     let got = outboard_source(&rt, rt.alloc(), &Mode::hash(), &[7].as_slice(), u64::MAX, 2);
-    assert_eq!(rt; got.err(), Some(ReadFault::Memory));
+    assert!(rt; got.err() == Some(ReadFault::Memory));
     Ok(())
 }

@@ -64,7 +64,7 @@ fn digits_are_printed<R: AllocGlobal + Abort>(rt: &R, bytes: &[u8], most: usize)
     };
     let mut out = taking(rt.alloc());
     assert!(rt; printed(rt.alloc(), &mut reader, &mut out).is_ok());
-    assert_eq!(rt; out.held.as_slice(), LARGE.as_bytes(), "{most}");
+    assert!(rt; out.held.as_slice() == LARGE.as_bytes(), "{most}");
 }
 
 #[test]
@@ -92,7 +92,7 @@ fn nothing_is_printed<R: AllocGlobal + Abort>(
     let Err(FileFault::Read(path)) = printed(rt.alloc(), &mut reader, &mut out) else {
         return Err("a fault of reading".into());
     };
-    assert_eq!(rt; path, "file");
+    assert!(rt; path == "file");
     assert!(rt; out.held.is_empty());
     Ok(())
 }
@@ -114,7 +114,7 @@ fn all_is_hashed<R: AllocGlobal + Threads + Sync + Abort>(rt: &R, bytes: &[u8], 
     let mut out = taking(rt.alloc());
     let got = print_input(rt, &Mode::hash(), &mut input, len, "file", 0, 32, &mut out);
     assert!(rt; got.is_ok());
-    assert_eq!(rt; out.held.as_slice(), LARGE.as_bytes(), "{len:?}");
+    assert!(rt; out.held.as_slice() == LARGE.as_bytes(), "{len:?}");
 }
 
 // An input that hasn't the length that it was said to have is read on one thread.
@@ -166,8 +166,8 @@ fn reads_to_the_end_or_a_fault(rt: HostRuntime) -> Result<(), Fail> {
         before: 0,
         kind: None,
     };
-    assert_eq!(rt; read_whole(&mut reader, &mut bytes), Ok(()));
-    assert_eq!(rt; bytes.len(), 700_000);
+    assert!(rt; read_whole(&mut reader, &mut bytes) == Ok(()));
+    assert!(rt; bytes.len() == 700_000);
     for kind in [ErrorKind::Other, ErrorKind::Interrupted] {
         let mut bytes = Vec::new(rt.alloc());
         let mut reader = Dripping {
@@ -175,11 +175,8 @@ fn reads_to_the_end_or_a_fault(rt: HostRuntime) -> Result<(), Fail> {
             before: 3,
             kind: Some(kind),
         };
-        assert_eq!(rt;
-            read_whole(&mut reader, &mut bytes),
-            Err(InputFault::Reader)
-        );
-        assert_eq!(rt; bytes.len(), 3000);
+        assert!(rt; read_whole(&mut reader, &mut bytes) == Err(InputFault::Reader));
+        assert!(rt; bytes.len() == 3000);
     }
     assert_ne!(rt; InputFault::Memory, InputFault::Reader);
     Ok(())

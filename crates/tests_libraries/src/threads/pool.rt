@@ -15,9 +15,8 @@ fn joined_hash_is_the_hash(rt: HostRuntime) -> Result<(), Fail> {
         let bytes = blob(rt.alloc(), len)?;
         let whole = hash(&mode, bytes.as_slice());
         for grain in [1, 3, 64] {
-            assert_eq!(rt;
-                hash_join(&rt, &mode, bytes.as_slice(), grain),
-                whole,
+            assert!(rt;
+                hash_join(&rt, &mode, bytes.as_slice(), grain) == whole,
                 "{len} {grain}"
             );
         }
@@ -36,7 +35,7 @@ fn pooled_hash_is_the_joined_hash(rt: HostRuntime) -> Result<(), Fail> {
         let joined = hash_join(&rt, &mode, bytes.as_slice(), 512);
         for workers in [1, 2, 7, 64] {
             let pooled = hash_pool(&rt, rt.alloc(), &mode, bytes.as_slice(), workers, &Open)?;
-            assert_eq!(rt; pooled, joined, "{len} {workers}");
+            assert!(rt; pooled == joined, "{len} {workers}");
         }
     }
     Ok(())
@@ -84,7 +83,10 @@ fn workers_answer_for_all_jobs(rt: HostRuntime) -> Result<(), Fail> {
         for (workers, numbers) in [(1, 0b1), (2, 0b11), (7, 0b111_1111), (64, u64::MAX)] {
             let seen = seen_of(&rt, bytes.as_slice(), workers)?;
             let all = workers as u64;
-            assert_eq!(rt; seen, (whole, jobs, (all, numbers, all)), "{len} {workers}");
+            assert!(rt;
+                seen == (whole, jobs, (all, numbers, all)),
+                "{len} {workers}"
+            );
         }
     }
     Ok(())
@@ -98,8 +100,8 @@ fn two_workers_meet(rt: HostRuntime) -> Result<(), Fail> {
         let bytes = blob(rt.alloc(), len)?;
         let gate = Meeting::of(2);
         let pooled = hash_pool(&rt, rt.alloc(), &mode, bytes.as_slice(), 2, &gate)?;
-        assert_eq!(rt; pooled, hash(&mode, bytes.as_slice()), "{len}");
-        assert_eq!(rt; gate.seen(), (2, 0b11, 2), "{len}");
+        assert!(rt; pooled == hash(&mode, bytes.as_slice()), "{len}");
+        assert!(rt; gate.seen() == (2, 0b11, 2), "{len}");
     }
     Ok(())
 }
@@ -107,7 +109,7 @@ fn two_workers_meet(rt: HostRuntime) -> Result<(), Fail> {
 #[test]
 fn fault_text(rt: HostRuntime) -> Result<(), Fail> {
     let fault = ParFault::Memory;
-    assert_eq!(rt; fault.code(), 301);
-    assert_eq!(rt; format!(in rt.alloc(); "{fault}")?.as_str(), "301 memory");
+    assert!(rt; fault.code() == 301);
+    assert!(rt; format!(in rt.alloc(); "{fault}")?.as_str() == "301 memory");
     Ok(())
 }

@@ -335,8 +335,8 @@ fn two_readers_beside_two_writers(rt: HostRuntime) -> Result<(), Fail> {
         whole.as_slice(),
         bytes.as_slice(),
     )?;
-    assert_eq!(rt; before, (Some(150_528), Some(150_528)));
-    assert_eq!(rt; last, Some(49));
-    assert_eq!(rt; after, (Some(200_000), Some(200_000)));
+    assert!(rt; before == (Some(150_528), Some(150_528)));
+    assert!(rt; last == Some(49));
+    assert!(rt; after == (Some(200_000), Some(200_000)));
     Ok(())
 }
