@@ -21,6 +21,12 @@ const OF_KEY: &str = "Hashes under this key, 64 hexadecimal digits; others can r
 const OF_KEY_FILE: &str =
     "Hashes under the key in this file, 64 hexadecimal digits and at most one line end";
 
+// What help says of the hash under which something is checked.
+const OF_ROOT: &str = "The hash of the blob, 64 hexadecimal digits";
+
+// What help says of where a range begins.
+const OF_START: &str = "The first byte of the range";
+
 // What help says of the file that is written.
 const OF_OUT: &str = "The file to write; one that is there is written over";
 
@@ -116,23 +122,21 @@ fn with_mode<'a>(alloc: Global, command: Command<'a>) -> Result<Command<'a>, All
     requires { (out-Command command).has_globals ≡ false }
     ensures { IfOk result (IsApp (with_mode_rules (app_of command.entry))) }
 {
-    let key = option(alloc, "key", "HEX").help(OF_KEY);
-    let file = option(alloc, "key-file", "FILE").help(OF_KEY_FILE);
-    let context = option(alloc, "context", "TEXT").help("Derives keys for this context");
-    command.arg(key)?.arg(file)?.arg(context)
+    let command = command.arg(option(alloc, "key", "HEX").help(OF_KEY))?;
+    let command = command.arg(option(alloc, "key-file", "FILE").help(OF_KEY_FILE))?;
+    command.arg(option(alloc, "context", "TEXT").help("Derives keys for this context"))
 }
 
 fn hash_command<'a>(alloc: Global) -> Result<Command<'a>, AllocError>
     ensures { IfOk result (IsApp hash_app) }
 {
-    let file = place(alloc, "FILE", "The file to hash");
     let command = Command::new(alloc, "hash")
         .about(
             "Prints the BLAKE3 hash of a file, or other bytes of its extended output, as hexadecimal digits",
         )
-        .arg(at_option(alloc))?
-        .arg(length_option(alloc))?
-        .arg(file)?;
+        .arg(at_option(alloc))?;
+    let command = command.arg(length_option(alloc))?;
+    let command = command.arg(place(alloc, "FILE", "The file to hash"))?;
     with_mode(alloc, command)
 }
 
@@ -141,9 +145,8 @@ fn with_files<'a>(alloc: Global, command: Command<'a>) -> Result<Command<'a>, Al
     requires { (out-Command command).has_globals ≡ false }
     ensures { IfOk result (IsApp (with_file_rules (app_of command.entry))) }
 {
-    let file = place(alloc, "FILE", "The file to encode");
-    let out = place(alloc, "OUT", OF_OUT);
-    let command = command.arg(file)?.arg(out)?;
+    let command = command.arg(place(alloc, "FILE", "The file to encode"))?;
+    let command = command.arg(place(alloc, "OUT", OF_OUT))?;
     with_mode(alloc, command)
 }
 
@@ -164,13 +167,12 @@ fn outboard_command<'a>(alloc: Global) -> Result<Command<'a>, AllocError>
 fn slice_command<'a>(alloc: Global) -> Result<Command<'a>, AllocError>
     ensures { IfOk result (IsApp slice_app) }
 {
-    let start = number_place(alloc, "START", "The first byte of the range");
-    let len = number_place(alloc, "LEN", "How many bytes the range has; 0 counts as 1");
     let command = Command::new(alloc, "slice")
         .about("Writes the Bao slice of a range of a file, and prints the hash of the file")
         .after_help(OF_SLICE)
-        .arg(start)?
-        .arg(len)?;
+        .arg(number_place(alloc, "START", OF_START))?;
+    let help = "How many bytes the range has; 0 counts as 1";
+    let command = command.arg(number_place(alloc, "LEN", help))?;
     with_files(alloc, command)
 }
 
@@ -179,14 +181,10 @@ fn with_encoding<'a>(alloc: Global, command: Command<'a>) -> Result<Command<'a>,
     requires { (out-Command command).has_globals ≡ false }
     ensures { IfOk result (IsApp (with_encoding_rules (app_of command.entry))) }
 {
-    let root = place(alloc, "ROOT", "The hash of the blob, 64 hexadecimal digits");
-    let encoding = place(
-        alloc,
-        "ENC",
-        "The encoding to check, or with --outboard the plain copy",
-    );
-    let out = place(alloc, "OUT", OF_OUT);
-    let command = command.arg(root)?.arg(encoding)?.arg(out)?;
+    let command = command.arg(place(alloc, "ROOT", OF_ROOT))?;
+    let help = "The encoding to check, or with --outboard the plain copy";
+    let command = command.arg(place(alloc, "ENC", help))?;
+    let command = command.arg(place(alloc, "OUT", OF_OUT))?;
     with_mode(alloc, command)
 }
 
@@ -197,8 +195,8 @@ fn decode_command<'a>(alloc: Global) -> Result<Command<'a>, AllocError>
     let command = Command::new(alloc, "decode")
         .about("Checks a combined Bao encoding, or a plain copy, under a root, and writes the blob")
         .after_help(OF_DECODE)
-        .arg(outboard)?
-        .arg(verbose_flag(alloc, OF_VERBOSE))?;
+        .arg(outboard)?;
+    let command = command.arg(verbose_flag(alloc, OF_VERBOSE))?;
     with_encoding(alloc, command)
 }
 
@@ -207,10 +205,9 @@ fn with_range<'a>(alloc: Global, command: Command<'a>) -> Result<Command<'a>, Al
     requires { (out-Command command).has_globals ≡ false }
     ensures { IfOk result (IsApp (with_range_rules (app_of command.entry))) }
 {
-    let root = place(alloc, "ROOT", "The hash of the blob, 64 hexadecimal digits");
-    let start = number_place(alloc, "START", "The first byte of the range");
-    let len = number_place(alloc, "LEN", "How many bytes the range has");
-    command.arg(root)?.arg(start)?.arg(len)
+    let command = command.arg(place(alloc, "ROOT", OF_ROOT))?;
+    let command = command.arg(number_place(alloc, "START", OF_START))?;
+    command.arg(number_place(alloc, "LEN", "How many bytes the range has"))
 }
 
 // The command with the arguments SLICE and OUT, and those of the mode.
@@ -218,9 +215,8 @@ fn with_slice<'a>(alloc: Global, command: Command<'a>) -> Result<Command<'a>, Al
     requires { (out-Command command).has_globals ≡ false }
     ensures { IfOk result (IsApp (with_slice_rules (app_of command.entry))) }
 {
-    let slice = place(alloc, "SLICE", "The slice to check");
-    let out = place(alloc, "OUT", OF_OUT);
-    let command = command.arg(slice)?.arg(out)?;
+    let command = command.arg(place(alloc, "SLICE", "The slice to check"))?;
+    let command = command.arg(place(alloc, "OUT", OF_OUT))?;
     with_mode(alloc, command)
 }
 
@@ -241,13 +237,9 @@ fn with_cut<'a>(alloc: Global, command: Command<'a>) -> Result<Command<'a>, Allo
     requires { (out-Command command).has_globals ≡ false }
     ensures { IfOk result (IsApp (with_cut_rules (app_of command.entry))) }
 {
-    let encoding = place(
-        alloc,
-        "ENC",
-        "The encoding to cut from, or with --outboard the plain copy",
-    );
-    let out = place(alloc, "OUT", OF_OUT);
-    let command = command.arg(encoding)?.arg(out)?;
+    let help = "The encoding to cut from, or with --outboard the plain copy";
+    let command = command.arg(place(alloc, "ENC", help))?;
+    let command = command.arg(place(alloc, "OUT", OF_OUT))?;
     with_mode(alloc, command)
 }
 
@@ -261,8 +253,8 @@ fn cut_slice_command<'a>(alloc: Global) -> Result<Command<'a>, AllocError>
     let command = Command::new(alloc, "cut-slice")
         .about("Cuts the Bao slice of a range out of an encoding, and checks it under a root")
         .after_help(OF_CUT_SLICE)
-        .arg(outboard)?
-        .arg(verbose_flag(alloc, OF_VERBOSE))?;
+        .arg(outboard)?;
+    let command = command.arg(verbose_flag(alloc, OF_VERBOSE))?;
     let command = with_range(alloc, command)?;
     with_cut(alloc, command)
 }
@@ -339,13 +331,11 @@ fn with_holders<'a>(alloc: Global, command: Command<'a>) -> Result<Command<'a>, 
     requires { (out-Command command).has_globals ≡ false }
     ensures { IfOk result (IsApp (with_holders_rules (app_of command.entry))) }
 {
-    let root = place(alloc, "ROOT", "The hash of the blob, 64 hexadecimal digits");
-    let out = place(alloc, "OUT", OF_OUT);
-    let files = files_place(
-        alloc,
-        "The holders' combined Bao encodings, or with --outboard plain copies, 1 to 64 files",
-    );
-    let command = command.arg(root)?.arg(out)?.arg(files)?;
+    let command = command.arg(place(alloc, "ROOT", OF_ROOT))?;
+    let command = command.arg(place(alloc, "OUT", OF_OUT))?;
+    let help =
+        "The holders' combined Bao encodings, or with --outboard plain copies, 1 to 64 files";
+    let command = command.arg(files_place(alloc, help))?;
     with_mode(alloc, command)
 }
 
@@ -400,13 +390,10 @@ fn with_script<'a>(alloc: Global, command: Command<'a>) -> Result<Command<'a>, A
     requires { (out-Command command).has_globals ≡ false }
     ensures { IfOk result (IsApp (with_script_rules (app_of command.entry))) }
 {
-    let root = place(alloc, "ROOT", "The hash of the blob, 64 hexadecimal digits");
-    let script = place(alloc, "SCRIPT", "The schedule, a step a line");
-    let files = files_place(
-        alloc,
-        "The encodings that pieces are cut from, 1 to 64 files",
-    );
-    let command = command.arg(root)?.arg(script)?.arg(files)?;
+    let command = command.arg(place(alloc, "ROOT", OF_ROOT))?;
+    let command = command.arg(place(alloc, "SCRIPT", "The schedule, a step a line"))?;
+    let help = "The encodings that pieces are cut from, 1 to 64 files";
+    let command = command.arg(files_place(alloc, help))?;
     with_mode(alloc, command)
 }
 
