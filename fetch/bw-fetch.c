@@ -276,7 +276,7 @@ static void show(const fetch *f, double began, const char *end) {
     fprintf(stderr, "%u of %u mirrors, %u of them last \033[K%s", live, f->mirror_count, last, end);
 }
 
-/* Hashes the unit that comes next, as it stands in OUT.part or is passed on. Its status. */
+/* Hashes the unit that comes next, as it stands in OUT.part.fetch or is passed on. Its status. */
 static int drain(fetch *f, bw_hasher *hasher, uint8_t *bytes) {
     uint64_t from = f->drained * UNIT_LEN, end = f->total - from < UNIT_LEN ? f->total : from + UNIT_LEN;
     while (from < end) {

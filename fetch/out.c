@@ -8,9 +8,10 @@
 #include <stdlib.h>
 #include <string.h>
 #include <sys/file.h>
+#include <sys/stat.h>
 #include <unistd.h>
 
-enum { WINDOW_UNIT = 1 << 20, BLOCK_LEN = 65536, PARENTS_LEN = 8192 };
+enum { WINDOW_UNIT = 1 << 20, BLOCK_LEN = 65536, PARENTS_LEN = 8192, TRIES_MOST = 8 };
 
 static char *with_tail(const char *path, const char *tail) {
     size_t len = strlen(path) + strlen(tail) + 1;
@@ -22,7 +23,7 @@ static char *with_tail(const char *path, const char *tail) {
 bool out_new(out *it, const char *path) {
     *it = (out){.path = path, .fd = -1, .is_pipe = !strcmp(path, "-")};
     if (it->is_pipe) return true;
-    it->part = with_tail(path, ".part");
+    it->part = with_tail(path, ".part.fetch");
     it->part_bao = with_tail(path, ".part.bao");
     it->part_new = with_tail(path, ".part.bao.new");
     return it->part && it->part_bao && it->part_new;
@@ -40,6 +41,34 @@ static bool say(const char *path) {
     return false;
 }
 
+static void close_part(out *it) {
+    close(it->fd), it->fd = -1;
+}
+
+/* Whether OUT.part.fetch is the file that is open. */
+static bool is_named(const out *it) {
+    struct stat ours, named;
+    if (fstat(it->fd, &ours) || lstat(it->part, &named)) return false;
+    return ours.st_dev == named.st_dev && ours.st_ino == named.st_ino;
+}
+
+/* Opens OUT.part.fetch, which no other run writes. One that ended between opening and locking has made OUT of the file that
+ * was opened, or removed it: then it is made anew. */
+static bool lock_part(out *it) {
+    for (int i = 0; i < TRIES_MOST; i++) {
+        it->fd = open(it->part, O_RDWR | O_CREAT | O_CLOEXEC | O_NOFOLLOW, 0666);
+        if (it->fd < 0) return say(it->part);
+        if (flock(it->fd, LOCK_EX | LOCK_NB)) break;
+        if (is_named(it)) return true;
+        close_part(it);
+        errno = EWOULDBLOCK;
+    }
+    if (errno == EWOULDBLOCK) fprintf(stderr, "bw-fetch: %s: another bw-fetch writes it\n", it->part);
+    else say(it->part);
+    if (it->fd >= 0) close_part(it);
+    return false;
+}
+
 int out_open(out *it, uint64_t total) {
     it->total = total;
     if (it->is_pipe) {
@@ -48,13 +77,7 @@ int out_open(out *it, uint64_t total) {
         it->window = malloc((size_t)it->window_len);
         return it->window ? 0 : 4;
     }
-    it->fd = open(it->part, O_RDWR | O_CREAT | O_CLOEXEC | O_NOFOLLOW, 0666);
-    if (it->fd < 0) return say(it->part), 3;
-    if (flock(it->fd, LOCK_EX | LOCK_NB)) {
-        fprintf(stderr, "bw-fetch: %s: another bw-fetch writes it\n", it->part);
-        close(it->fd), it->fd = -1;
-        return 3;
-    }
+    if (!lock_part(it)) return 3;
     if (ftruncate(it->fd, 0) || ftruncate(it->fd, (off_t)total)) return say(it->part), 3;
     return 0;
 }
@@ -127,15 +150,15 @@ bool out_finish(out *it) {
     if (it->is_pipe) return true;
     if (ftruncate(it->fd, (off_t)it->total) || fsync(it->fd) || rename(it->part, it->path)) return say(it->path);
     flush_folder(it->path);
-    close(it->fd), it->fd = -1;
     unlink(it->part_bao);
+    close_part(it);
     return true;
 }
 
 void out_drop(out *it) {
     if (it->fd < 0) return;
     unlink(it->part);
-    close(it->fd), it->fd = -1;
+    close_part(it);
 }
 
 /* --- Parents: byte `at` of the outboard encoding is byte `at` after the blob */

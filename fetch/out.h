@@ -10,7 +10,7 @@ enum { WINDOW_UNITS = 16 };
 
 typedef struct out {
     const char *path;
-    char *part, *part_bao, *part_new;       /* OUT.part; OUT.part.bao, which a failure leaves; and that while it is written */
+    char *part, *part_bao, *part_new;       /* OUT.part.fetch; OUT.part.bao, which a failure leaves; and that while it is written */
     bool is_pipe;
     int fd;
     atomic_bool is_full;                    /* the disk is: there is no room for parents after the blob */
@@ -23,7 +23,7 @@ typedef struct out {
 bool out_new(out *it, const char *path);
 void out_free(out *it);
 
-/* Makes OUT.part, or the window, for a blob of so many bytes. 0, or a status. */
+/* Makes OUT.part.fetch, or the window, for a blob of so many bytes. 0, or a status. */
 int out_open(out *it, uint64_t total);
 
 /* Bytes of the blob, to their place and from it. A pipe's lie within the window. */
@@ -44,7 +44,7 @@ bool out_finish(out *it);
  * less. */
 bool out_learn(const out *it, path *above, uint64_t start, uint64_t len, const uint8_t *text);
 
-/* Takes OUT.part away. */
+/* Takes OUT.part.fetch away. */
 void out_drop(out *it);
 
 /* The chunks of a group that are there. */

@@ -18,7 +18,7 @@ ROOT = HERE.parent.parent
 OUT = ROOT / "out" / "fetch"
 ARCHIVE = ROOT / "out" / "libberylwool.a"
 WARNINGS = "-std=c11 -Wall -Wextra -Werror -pthread".split()
-WRAPPED = "-Wl,--wrap=malloc,--wrap=calloc,--wrap=realloc,--wrap=curl_global_init,--wrap=fsync"
+WRAPPED = "-Wl,--wrap=malloc,--wrap=calloc,--wrap=realloc,--wrap=curl_global_init,--wrap=fsync,--wrap=flock"
 SANITIZERS = {"asan": "-fsanitize=address,undefined", "tsan": "-fsanitize=thread"}
 
 # The large cases show nothing more under a sanitizer, where they take long.

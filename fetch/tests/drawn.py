@@ -250,6 +250,7 @@ def refuse(fetch, mkbao):
     with concurrent.futures.ThreadPoolExecutor(len(rows)) as pool:
         asked = sum(pool.map(lambda row: at_a_place(fetch, mkbao, row[0], refuse_each, row[1]), rows))
     at_a_place(fetch, mkbao, "bao plain", refuse_flush)
+    at_a_place(fetch, mkbao, "bao@at=5000", other_ends)
     print(f"{asked} refusals passed")
     return 0
 
@@ -261,6 +262,15 @@ def refuse_flush(place, fetch, urls):
     left = sorted(it.name for it in place.folder.glob("out*"))
     if ran.returncode != 3 or place.out.read_bytes() != b"before" or left != ["out"]:
         sys.exit(f"drawn.py: fsync refused: status {ran.returncode}, {left}")
+
+
+def other_ends(place, fetch, urls):
+    """Another run that puts its OUT in place just when OUT.part.fetch was opened: a run that fails leaves that OUT."""
+    place.put("out.part.fetch", b"whole")
+    settings = {"BW_REFUSE": "flock", "BW_FROM": str(place.folder / "out.part.fetch"), "BW_TO": str(place.out)}
+    ran = subprocess.run([fetch, place.root, place.out, *urls], capture_output=True, timeout=LONGEST, env={**os.environ, **settings})
+    if ran.returncode != 1 or place.out.read_bytes() != b"whole" or (place.folder / "out.part.fetch").exists():
+        sys.exit(f"drawn.py: another run ended: status {ran.returncode}\n{ran.stderr.decode(errors='replace')[-2000:]}")
 
 
 def refuse_each(place, fetch, urls, tail):

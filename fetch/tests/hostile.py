@@ -213,7 +213,7 @@ class Place:
             want(not left, f"{left} are left")
         elif out != "-":
             want(got is None, "there is an OUT")
-            want(not (self.folder / "out.part").exists(), "there is an OUT.part")
+            want(not (self.folder / "out.part.fetch").exists(), "there is an OUT.part.fetch")
 
 
 def run_case(place, mirrors, words, status):
@@ -276,7 +276,7 @@ def interrupted(place, number):
     ran.send_signal(number)
     _, said = ran.communicate(timeout=LONGEST)
     want(ran.returncode == 1 and b"interrupted" in said, f"status {ran.returncode}: {said}")
-    want(not place.out.exists() and not (place.folder / "out.part").exists(), "there is an OUT")
+    want(not place.out.exists() and not (place.folder / "out.part.fetch").exists(), "there is an OUT")
     place.run([], place.serve("bao@from=4400000"), 0)
 
 
@@ -582,7 +582,7 @@ def one_at_a_time(place):
     want(place.server.stdout.readline() == "blocked\n", "the mirror didn't begin to say nothing")
     ran = subprocess.run([place.fetch, place.root, place.out, urls[1]], capture_output=True, timeout=LONGEST)
     want(ran.returncode == 3, f"status {ran.returncode}")
-    want((place.folder / "out.part").exists(), "the other's OUT.part is gone")
+    want((place.folder / "out.part.fetch").exists(), "the other's OUT.part.fetch is gone")
     first.send_signal(signal.SIGINT)
     first.communicate(timeout=LONGEST)
     want(first.returncode == 1, f"status {first.returncode}")

@@ -4,6 +4,7 @@
  *     BW_REFUSE=N        the Nth request is refused
  *     BW_REFUSE=N+       it is, and all after it
  *     BW_REFUSE=fsync    none is, but each fsync fails
+ *     BW_REFUSE=flock    none is, but before a first lock the file BW_FROM is renamed to BW_TO, as by another run that ends then
  *
  * Where that many were made, the last line on standard error is 'refused'. */
 #include <curl/curl.h>
@@ -12,6 +13,7 @@
 #include <pthread.h>
 #include <stdbool.h>
 #include <stddef.h>
+#include <stdio.h>
 #include <stdlib.h>
 #include <string.h>
 #include <unistd.h>
@@ -25,10 +27,12 @@ void *__wrap_realloc(void *at, size_t len);
 CURLcode __wrap_curl_global_init(long flags);
 int __real_fsync(int fd);
 int __wrap_fsync(int fd);
+int __real_flock(int fd, int how);
+int __wrap_flock(int fd, int how);
 
 static pthread_mutex_t lock = PTHREAD_MUTEX_INITIALIZER;
 static long made = 0, number = -1;
-static bool all_after = false, refused = false, no_fsync = false;
+static bool all_after = false, refused = false, no_fsync = false, renames = false;
 
 static void say(void) {
     static const char text[] = "refused\n";
@@ -40,7 +44,7 @@ __attribute__((constructor)) static void begin(void) {
     if (!word) return;
     number = strtol(word, NULL, 10);
     all_after = strchr(word, '+') != NULL;
-    no_fsync = !strcmp(word, "fsync");
+    no_fsync = !strcmp(word, "fsync"), renames = !strcmp(word, "flock");
     atexit(say);
 }
 
@@ -80,4 +84,10 @@ int __wrap_fsync(int fd) {
     if (!no_fsync) return __real_fsync(fd);
     errno = EIO;
     return -1;
+}
+
+int __wrap_flock(int fd, int how) {
+    if (renames && rename(getenv("BW_FROM"), getenv("BW_TO"))) _exit(98);
+    renames = false;
+    return __real_flock(fd, how);
 }
