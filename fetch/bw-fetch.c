@@ -206,12 +206,14 @@ static int read_words(fetch *f, words *w, int argc, char **argv) {
 
 /* Opens what the words name. */
 static int take_words(fetch *f, const words *w, int count, char **urls) {
-    if (!out_new(&f->out, w->out)) return no_memory();
     int status = take_mode(f, w);
     for (unsigned i = 0; i < w->outboard_count && !status; i++) status = add_line(f, w->outboards[i], "");
     for (int i = 0; i < count && !status; i++) status = add_mirror(f, urls[i], !w->outboard_count);
     if (w->mirrors_file && !status) status = read_mirrors(f, w->mirrors_file, !w->outboard_count);
     if (!status && !f->mirror_count) return usage("there is no URL");
+    if (status) return status;
+    status = out_new(&f->out, w->out);
+    if (status == NO_MEMORY) return no_memory();
     return status ? status : add_part(f);
 }
 

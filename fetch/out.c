@@ -20,25 +20,52 @@ static char *with_tail(const char *path, const char *tail) {
     return it;
 }
 
-bool out_new(out *it, const char *path) {
+static bool say(const char *path) {
+    fprintf(stderr, "bw-fetch: %s: %s\n", path, strerror(errno));
+    return false;
+}
+
+/* What is to be replaced: behind a link what it leads to. 0, or a status. */
+static int find_target(out *it) {
+    struct stat of;
+    if (lstat(it->path, &of)) return errno == ENOENT ? 0 : (say(it->path), 3);
+    if (S_ISLNK(of.st_mode)) {
+        it->target = realpath(it->path, NULL);
+        if (!it->target && errno == ENOMEM) return 4;
+        if (!it->target || lstat(it->target, &of)) return say(it->path), 3;
+        it->path = it->target;
+    }
+    if (!S_ISREG(of.st_mode)) {
+        fprintf(stderr, "bw-fetch: %s: not a regular file; OUT may be -, for a pipe\n", it->path);
+        return 3;
+    }
+    if (access(it->path, W_OK)) return say(it->path), 3;
+    it->is_there = true, it->mode = of.st_mode & 0777;
+    return 0;
+}
+
+int out_new(out *it, const char *path) {
     *it = (out){.path = path, .fd = -1, .is_pipe = !strcmp(path, "-")};
-    if (it->is_pipe) return true;
-    it->part = with_tail(path, ".part.fetch");
-    it->part_bao = with_tail(path, ".part.bao");
-    it->part_new = with_tail(path, ".part.bao.new");
-    return it->part && it->part_bao && it->part_new;
+    if (it->is_pipe) return 0;
+    int status = find_target(it);
+    if (status) return status;
+    it->part = with_tail(it->path, ".part.fetch");
+    it->part_bao = with_tail(it->path, ".part.bao");
+    it->part_new = with_tail(it->path, ".part.bao.new");
+    return it->part && it->part_bao && it->part_new ? 0 : 4;
 }
 
 void out_free(out *it) {
+    free(it->target);
     free(it->part);
     free(it->part_bao);
     free(it->part_new);
     free(it->window);
 }
 
-static bool say(const char *path) {
-    fprintf(stderr, "bw-fetch: %s: %s\n", path, strerror(errno));
-    return false;
+/* A new file has the permissions of what it is to replace. */
+static bool keep_mode(const out *it, int fd) {
+    return !it->is_there || !fchmod(fd, it->mode);
 }
 
 static void close_part(out *it) {
@@ -78,7 +105,7 @@ int out_open(out *it, uint64_t total) {
         return it->window ? 0 : 4;
     }
     if (!lock_part(it)) return 3;
-    if (ftruncate(it->fd, 0) || ftruncate(it->fd, (off_t)total)) return say(it->part), 3;
+    if (ftruncate(it->fd, 0) || !keep_mode(it, it->fd) || ftruncate(it->fd, (off_t)total)) return say(it->part), 3;
     return 0;
 }
 
@@ -292,7 +319,7 @@ bool out_save(out *it, const void *with, held_chunks *held) {
     by.from = it, by.chunks.fd = by.parents.fd = it->fd;
     by.to.fd = open(it->part_new, O_WRONLY | O_CREAT | O_TRUNC | O_CLOEXEC | O_NOFOLLOW, 0666);
     if (by.to.fd < 0) return say(it->part_new);
-    bool ok = save_all(&by, with, held);
+    bool ok = keep_mode(it, by.to.fd) && save_all(&by, with, held);
     ok = !close(by.to.fd) && ok && !rename(it->part_new, it->part_bao);
     if (!ok) say(it->part_bao), unlink(it->part_new);
     return ok;

@@ -6,10 +6,15 @@
 
 #include "tree.h"
 
+#include <sys/types.h>
+
 enum { WINDOW_UNITS = 16 };
 
 typedef struct out {
-    const char *path;
+    const char *path;                       /* what is replaced, and which permissions it has where it is there */
+    char *target;                           /* the same, where OUT is a link to it */
+    bool is_there;
+    mode_t mode;
     char *part, *part_bao, *part_new;       /* OUT.part.fetch; OUT.part.bao, which a failure leaves; and that while it is written */
     bool is_pipe;
     int fd;
@@ -19,8 +24,8 @@ typedef struct out {
     uint64_t window_len;
 } out;
 
-/* Names the files. False: out of memory. */
-bool out_new(out *it, const char *path);
+/* Names the files. What is there has to be a regular file that may be written. 0, or a status: 3 was said. */
+int out_new(out *it, const char *path);
 void out_free(out *it);
 
 /* Makes OUT.part.fetch, or the window, for a blob of so many bytes. 0, or a status. */

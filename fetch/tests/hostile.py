@@ -567,6 +567,28 @@ def unwritable(place):
     want(ran.returncode == 3, f"status {ran.returncode}")
 
 
+def kinds_of_out(place):
+    """What isn't a regular file stays, and nobody is asked. Behind a link what it leads to is replaced, and keeps its permissions."""
+    urls = place.serve("bao")
+    os.mkfifo(place.folder / "pipe")
+    (place.folder / "folder").mkdir()
+    for name, target in (("nowhere", "none"), ("device", "/dev/null"), ("link", "old")):
+        (place.folder / name).symlink_to(target)
+    fetch = lambda name: subprocess.run([place.fetch, place.root, place.folder / name, *urls], capture_output=True, timeout=LONGEST)
+    names = sorted(os.listdir(place.folder))
+    for name in ("pipe", "folder", "nowhere", "device"):
+        ran = fetch(name)
+        want(ran.returncode == 3 and ran.stderr.startswith(b"bw-fetch: /"), f"status {ran.returncode} of {name}")
+    want(sorted(os.listdir(place.folder)) == names, "a file was made or replaced")
+    want((place.folder / "pipe").is_fifo() and pathlib.Path("/dev/null").is_char_device(), "it was replaced")
+    want(not place.requests(urls[0]), "the mirror was asked")
+    place.put("old", b"before")
+    (place.folder / "old").chmod(0o640)
+    want(fetch("link").returncode == 0, "behind a link")
+    want((place.folder / "link").is_symlink() and (place.folder / "old").read_bytes() == place.blob, "OUT isn't the blob")
+    want((place.folder / "old").stat().st_mode & 0o777 == 0o640 and not list(place.folder.glob("*.part*")), "other permissions, or files are left")
+
+
 def no_room(place):
     """OUT that may not become as long as the blob."""
     urls = place.serve("bao")
@@ -608,7 +630,7 @@ LONGER = [
     (resumes, 9_000_000, ""), (the_rest_alone, 9_000_000, ""), (resumes_alone, 3_000_000, ""), (part_is_not_trusted, 3_000_000, ""), (keeps_salvage, 3_000_000, ""),
     (keeps_old_out, 300_000, ""), (sigint, 9_000_000, ""), (sigterm, 9_000_000, ""), (keyed, 300_000, KEY), (under_a_context, 300_000, CONTEXT), (mirrors_in_a_file, 300_000, ""),
     (outboard_elsewhere, 3_000_000, ""), (two_outboards, 3_000_000, ""), (local_mirrors, 3_000_000, ""), (blame_is_exact, 20_000_000, ""),
-    (unwritable, 3_000_000, ""), (no_room, 3_000_000, ""), (one_at_a_time, 9_000_000, ""), (usage, 10, ""), (one_round_trip, 6_000_000, ""), (short_in_one_request, 10_000, ""), (no_unit_twice, 6_000_000, ""),
+    (unwritable, 3_000_000, ""), (kinds_of_out, 300_000, ""), (no_room, 3_000_000, ""), (one_at_a_time, 9_000_000, ""), (usage, 10, ""), (one_round_trip, 6_000_000, ""), (short_in_one_request, 10_000, ""), (no_unit_twice, 6_000_000, ""),
     (near_ranges, 6_000_000, ""),
     (left_alone, 3_000_000, ""), (progress, 20_000_000, ""), (lines_are_blamed, 3_000_000, ""), (false_below_its_spine, 3_000_000, ""),
     (a_hole_near_the_start, 9_000_000, ""), (keeps_all_but_a_chunk, 3_000_000, ""),
