@@ -201,6 +201,7 @@ static int read_words(fetch *f, words *w, int argc, char **argv) {
     if (argc - optind < 2) return usage("ROOT OUT URL ..");
     w->root = argv[optind], w->out = argv[optind + 1];
     if (strlen(w->root) != 64 || !read_hex(w->root, f->root)) return usage("ROOT has 64 hexadecimal digits");
+    if (!*w->out) return usage("OUT has no name");
     return DONE;
 }
 

@@ -612,7 +612,7 @@ def one_at_a_time(place):
 
 def usage(place):
     root, out, url = place.root, place.out, "http://127.0.0.1:1/blob.bao"
-    for words in ([], [root], [root, out], [root[1:], out, url], ["g" + root[1:], out, url], ["-c", "0", root, out, url], ["-c", "9", root, out, url],
+    for words in ([], [root], [root, out], [root, "", url], [root[1:], out, url], ["g" + root[1:], out, url], ["-c", "0", root, out, url], ["-c", "9", root, out, url],
                   ["--stall", "0", root, out, url], ["--stall", "x", root, out, url], ["--max", "-1", root, out, url], ["--none", root, out, url],
                   ["--key-file", place.folder / "blob", root, out, url], ["--context", b"\xff", root, out, url],
                   ["--key-file", place.folder / "none", "--context", "a", root, out, url], [root, out, *[url] * 65]):
