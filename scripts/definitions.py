@@ -1,7 +1,7 @@
 """BLAKE3 and Bao by their definitions, for figures that come from outside the proved code.
 
 Written from the BLAKE3 paper (O'Connor, Aumasson, Neves, Wilcox-O'Hearn, section 2) and the Bao specification alone, with
-nothing but Python's own integers and lists: plain recursions, no streaming. So it is slow, and meant to be.
+nothing but Python's own integers and lists: plain recursions, no lanes, no streaming. So it is slow, and meant to be.
 """
 import functools
 
@@ -9,33 +9,25 @@ IV = (0x6A09E667, 0xBB67AE85, 0x3C6EF372, 0xA54FF53A, 0x510E527F, 0x9B05688C, 0x
 PERMUTATION = (2, 6, 3, 10, 7, 0, 4, 13, 1, 11, 12, 5, 9, 14, 15, 8)
 CHUNK_START, CHUNK_END, PARENT, ROOT, KEYED_HASH, DERIVE_KEY_CONTEXT, DERIVE_KEY_MATERIAL = (1 << k for k in range(7))
 BLOCK_LEN, CHUNK_LEN = 64, 1024
-# Four words of 32 bits stand in one number, each below 32 zeros, which take what sums and shifts carry out of it.
-FOUR = sum(0xFFFFFFFF << 64 * k for k in range(4))
-
-
-def four(p, q, r, s):
-    return p | q << 64 | r << 128 | s << 192
+# The places that a round mixes: first the columns, then the diagonals.
+ROUND = ((0, 4, 8, 12), (1, 5, 9, 13), (2, 6, 10, 14), (3, 7, 11, 15), (0, 5, 10, 15), (1, 6, 11, 12), (2, 7, 8, 13), (3, 4, 9, 14))
 
 
 def compress(h, m, t, b, d):
-    """The 16 words of output (paper, 2.2). A row of the state is one number, so that its four columns are mixed at once. Between the two
-    halves of a round the rows are turned, so that the diagonals stand as columns, and after it they are turned back."""
-    first, second = four(*h[:4]), four(*h[4:])
-    a, b, c, d = first, second, four(*IV[:4]), four(t & 0xFFFFFFFF, t >> 32, b, d)
+    """The 16 words of output (paper, 2.2)."""
+    v = [*h, *IV[:4], t & 0xFFFFFFFF, t >> 32, b, d]
+    m = list(m)
     for _ in range(7):
-        for half, k in ((m[:8], 1), (m[8:], 3)):
-            for x, r, s in ((half[::2], 16, 12), (half[1::2], 8, 7)):
-                a = a + b + four(*x) & FOUR
-                d ^= a
-                d = (d >> r | d << 32 - r) & FOUR
-                c = c + d & FOUR
-                b ^= c
-                b = (b >> s | b << 32 - s) & FOUR
-            b = (b >> 64 * k | b << 256 - 64 * k) & FOUR
-            c = (c >> 128 | c << 128) & FOUR
-            d = (d << 64 * k | d >> 256 - 64 * k) & FOUR
+        for k, (i, j, p, q) in enumerate(ROUND):
+            for x, r, s in ((m[2 * k], 16, 12), (m[2 * k + 1], 8, 7)):
+                v[i] = (v[i] + v[j] + x) & 0xFFFFFFFF
+                w = v[q] ^ v[i]
+                v[q] = (w >> r | w << 32 - r) & 0xFFFFFFFF
+                v[p] = (v[p] + v[q]) & 0xFFFFFFFF
+                w = v[j] ^ v[p]
+                v[j] = (w >> s | w << 32 - s) & 0xFFFFFFFF
         m = [m[k] for k in PERMUTATION]
-    return [it >> 64 * k & 0xFFFFFFFF for it in (a ^ c, b ^ d, c ^ first, d ^ second) for k in range(4)]
+    return [v[i] ^ v[i + 8] for i in range(8)] + [v[i + 8] ^ h[i] for i in range(8)]
 
 
 def words(data):
@@ -173,15 +165,15 @@ def outboard_nodes(length):
 
 def text_of(mode, blob, given):
     """The length, and these nodes of the blob, a parent as the chaining values of its two parts."""
-    text = len(blob).to_bytes(8, "little")
+    text = [len(blob).to_bytes(8, "little")]
     for it in given:
         at = it.number * CHUNK_LEN
         part = blob[at : at + it.length]
         if it.is_parent:
             left = left_len(it.length)
             part = mode.value(it.number, part[:left]) + mode.value(it.number + left // CHUNK_LEN, part[left:])
-        text += part
-    return text
+        text.append(part)
+    return b"".join(text)
 
 
 def combined(mode, blob):
@@ -196,26 +188,28 @@ def slice_text(mode, blob, start, count):
     return text_of(mode, blob, slice_nodes(len(blob), start, count))
 
 
-def cut(text, start, count):
-    """The bytes of the wanted nodes of a combined encoding's bytes, up to the first that isn't wholly there."""
-    if len(text) < 8:
-        return text
-    length = int.from_bytes(text[:8], "little")
-    s, e = range_of(length, start, count)
-    made = text[:8]
-    for it in nodes(length, lambda first, after: True):
-        end, first = it.offset + it.size, it.number * CHUNK_LEN
-        if length == 0 or first < e and s < first + it.length:
-            made += text[it.offset : end]
-            if end > len(text):
-                break
-        elif it.offset >= len(text):
+def cut_by(part_of, claim, start, count):
+    """The bytes of the wanted nodes behind what claims the length, up to the first that isn't wholly there."""
+    made, length = [claim], int.from_bytes(claim, "little")
+    for it in slice_nodes(length, start, count) if len(claim) == 8 else ():
+        made.append(part_of(length, it))
+        if len(made[-1]) < it.size:
             break
-    return made
+    return b"".join(made)
+
+
+def cut(text, start, count):
+    """Those of a combined encoding's bytes."""
+
+    def part_of(length, it):
+        at = 8 + it.number * CHUNK_LEN + 64 * parents_before(length, it.number, it.length)
+        return text[at : at + it.size]
+
+    return cut_by(part_of, text[:8], start, count)
 
 
 def parents_before(length, number, count):
-    """How many parents an outboard encoding has before the one over so many bytes from this chunk on."""
+    """How many parents an encoding has before the node over so many bytes from this chunk on."""
     first, size, before = 0, length, 0
     while (first, size) != (number * CHUNK_LEN, count):
         left, before = left_len(size), before + 1
@@ -228,20 +222,12 @@ def parents_before(length, number, count):
 
 def cut_beside(outboard, copy, start, count):
     """The same of the parents of an outboard encoding and the chunks of a plain copy."""
-    if len(outboard) < 8:
-        return outboard
-    length = int.from_bytes(outboard[:8], "little")
-    made = outboard[:8]
-    for it in slice_nodes(length, start, count):
-        if it.is_parent:
-            at = 8 + 64 * parents_before(length, it.number, it.length)
-            part = outboard[at : at + 64]
-        else:
-            part = copy[it.number * CHUNK_LEN :][: it.size]
-        made += part
-        if len(part) < it.size:
-            break
-    return made
+
+    def part_of(length, it):
+        of, at = (outboard, 8 + 64 * parents_before(length, it.number, it.length)) if it.is_parent else (copy, it.number * CHUNK_LEN)
+        return of[at : at + it.size]
+
+    return cut_by(part_of, outboard[:8], start, count)
 
 
 class Fault(Exception):

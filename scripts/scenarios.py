@@ -54,14 +54,15 @@ def runs(replies):
     return [f"{first} to {last}: {reply}" for first, last, reply in found]
 
 
-def half_of(text, parents, number):
-    """The half of one of an outboard encoding's parents that stands for the chunk."""
+def halves_of(text, parents):
+    """The halves of an outboard encoding's parents that stand for chunks, by these chunks' numbers."""
+    found = {}
     for it in parents:
         left = bao.left_len(it.length)
-        for half, first, count in ((0, it.number, left), (32, it.number + left // bao.CHUNK_LEN, it.length - left)):
-            if first == number and count <= bao.CHUNK_LEN:
-                return text[it.offset + half :][:32].hex()
-    return "none"
+        for at, first, count in ((it.offset, it.number, left), (it.offset + 32, it.number + left // bao.CHUNK_LEN, it.length - left)):
+            if count <= bao.CHUNK_LEN:
+                found[first] = text[at : at + 32]
+    return found
 
 
 def boundary(node):
@@ -75,6 +76,7 @@ class Outline:
     def __init__(self, mode, root, text):
         self.mode, self.root, self.text = mode, root, text
         self.length, self.found, _ = bao.checked(mode, root, text, bao.outboard_nodes)
+        self.halves = halves_of(text, self.found)
 
     def beside(self, chunks, first, count):
         """Chunks whose values are in the outline: each by itself. Then their slice is made with the outline's parents, and has to be
@@ -85,7 +87,7 @@ class Outline:
             parts[number] = chunks[at : at + size]
             if len(parts[number]) < size:
                 raise bao.Fault(501, "short", at)
-            asked = self.root if not self.found else bytes.fromhex(half_of(self.text, self.found, number))
+            asked = self.root if not self.found else self.halves[number]
             if bao.node_value(self.mode.key, self.mode.flags, False, number, not self.found, parts[number]) != asked:
                 raise bao.Fault(502, "mismatch", at)
             at += size
@@ -267,7 +269,8 @@ class Texts:
             case "nodes":
                 return self.listed(bao.slice_nodes(*numbers) if numbers else self.checked(text)[2])
             case "leaf":
-                return [half_of(text, bao.checked(self.mode, self.root, text, bao.outboard_nodes)[1], numbers[0])]
+                found = halves_of(text, bao.checked(self.mode, self.root, text, bao.outboard_nodes)[1])
+                return [found[numbers[0]].hex() if numbers[0] in found else "none"]
             case "cuts":
                 return runs(self.verdict(text[:k]) for k in range(len(text)))
             case "fails":
