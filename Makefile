@@ -4,7 +4,7 @@ SHELL := bash
 .SHELLFLAGS := -eu -o pipefail -c
 .DEFAULT_GOAL := help
 .DELETE_ON_ERROR:
-.PHONY: help build run try install dist sum test proofs refusals trials c-trials wrong-bodies scenarios program-scenarios docs c-library c-levels c-install c-test c-bench fetch fetch-install fetch-test fetch-bench bench refuse replaced memory stress statement cites fmt FORCE
+.PHONY: help build run try install dist sum doc test proofs refusals trials c-trials wrong-bodies scenarios program-scenarios docs c-library c-levels c-install c-test c-bench fetch fetch-install fetch-test fetch-bench bench refuse replaced memory stress statement cites fmt FORCE
 
 PREFIX ?= /usr/local
 # Where the C library and its header go.
@@ -19,7 +19,7 @@ CPU := $(if $(filter-out $(sort $(shell cat /proc/cpuinfo 2>/dev/null)),$(V3_NEE
 endif
 
 # Crates of which nothing goes into the program.
-ASIDE := bao_bind bao_feed bench berylwool text_scenarios store_scenarios crew_scenarios examples $(notdir $(wildcard crates/tests_* crates/determined_*))
+ASIDE := bao_bind bao_feed bao_join bao_plan bench berylwool text_scenarios store_scenarios crew_scenarios examples $(notdir $(wildcard crates/tests_* crates/determined_*))
 
 # The files and folders whose change asks for a new proof. With the folders, a file that was taken
 # away is seen too.
@@ -30,15 +30,17 @@ help:
 	@echo 'make run ARGS="WORD .."   builds where something changed, and runs bao_gather on the words'
 	@echo 'make try ARGS="WORD .."   runs bao_gather within minutes, unproved, in the folder crates/bao_gather'
 	@echo 'make sum                  prints the checksum of the built bao_gather'
+	@echo 'make doc                  makes out/doc out of the sources, within seconds and without rt: what each call promises, the definitions in'
+	@echo '                          words, the crates, statuses, the C reference, what was measured, manual pages and completions'
 	@echo 'make install PREFIX=DIR   copies bao_gather to DIR/bin, its manual page and completions to DIR/share'
 	@echo '                          (PREFIX is /usr/local if left out; DESTDIR goes before it)'
 	@echo 'make dist                 makes the folder of a release, out/dist, of a commit: programs and the C library for both'
 	@echo '                          processor levels, manual pages, completions, checksums (needs cc and binutils)'
-	@echo 'make test                 the gate: a look at laws, wrong bodies and documents, what make scenarios does, rt ci (every'
+	@echo 'make test                 the gate: a look at laws, wrong bodies and links, make doc, what make scenarios does, rt ci (every'
 	@echo '                          proof from nothing, the must-fail edits, the tests and the programs), and beside it what make'
 	@echo '                          docs, make refuse, make replaced, make memory, make c-test and make fetch-test do'
 	@echo 'make wrong-bodies         tries the wrong bodies, those that the gate leaves out too, of all crates or of CRATES="NAME .."'
-	@echo 'make docs                 runs the shell examples of the documents, and holds the documents to the sources'
+	@echo 'make docs                 runs the shell examples of the documents, and looks at their links'
 	@echo 'make statement CALL="b3tree::hash" prints a contract, of a call, a type or a crate, with every definition'
 	@echo '                          behind it, in reading order'
 	@echo 'make cites NAME=IsPiece   prints what cites a definition'
@@ -83,16 +85,18 @@ try:
 sum: out/bao_gather
 	@sha256sum out/bao_gather
 
-install: out/bao_gather
-	@python3 scripts/manual.py out/manual
+doc:
+	@python3 scripts/doc
+
+# What of out/doc/share goes with the program.
+SHARED := man/man1/bao_gather.1 bash-completion/completions/bao_gather zsh/site-functions/_bao_gather fish/vendor_completions.d/bao_gather.fish
+
+install: out/bao_gather doc
 	install -D -m 755 out/bao_gather '$(DESTDIR)$(PREFIX)/bin/bao_gather'
-	install -D -m 644 out/manual/bao_gather.1 '$(DESTDIR)$(PREFIX)/share/man/man1/bao_gather.1'
-	install -D -m 644 out/manual/bao_gather.bash '$(DESTDIR)$(PREFIX)/share/bash-completion/completions/bao_gather'
-	install -D -m 644 out/manual/_bao_gather '$(DESTDIR)$(PREFIX)/share/zsh/site-functions/_bao_gather'
-	install -D -m 644 out/manual/bao_gather.fish '$(DESTDIR)$(PREFIX)/share/fish/vendor_completions.d/bao_gather.fish'
+	@for it in $(SHARED); do install -D -m 644 out/doc/share/$$it '$(DESTDIR)$(PREFIX)/share/'$$it; done
 
 # The levels one after another: x86-64-v3 wants a machine that has it, and each proves and builds anew. The static library is of x86-64.
-dist:
+dist: doc
 	@for cpu in x86-64-v3 x86-64; do \
 	    $(MAKE) --no-print-directory CPU=$$cpu out/bao_gather && install -D -m 755 out/bao_gather out/levels/$$cpu/bao_gather || exit 1; \
 	done
@@ -105,13 +109,8 @@ test:
 	@python3 scripts/laws.py
 	@python3 scripts/wrong_bodies.py --read --strict
 	@python3 scripts/uncited.py
-	@python3 scripts/prose.py
-	@python3 scripts/rooms.py
-	@python3 scripts/readmes.py --read
-	@python3 scripts/statement.py --read
-	@python3 scripts/promises.py
-	@python3 scripts/bench.py --read
-	@python3 scripts/manual.py out/manual
+	@python3 scripts/docs.py
+	@python3 scripts/doc
 	@$(MAKE) --no-print-directory -j 3 proofs scenarios refusals
 	@python3 scripts/program_scenarios.py crates/bao_gather/out/bao_gather{,.by-rattle}
 
@@ -149,12 +148,6 @@ program-scenarios: out/bao_gather
 
 docs: out/bao_gather
 	@python3 scripts/docs.py out/bao_gather
-	@python3 scripts/prose.py
-	@python3 scripts/rooms.py
-	@python3 scripts/readmes.py --read
-	@python3 scripts/statement.py --read
-	@python3 scripts/promises.py
-	@python3 scripts/bench.py --read
 
 # BLAKE3's own C sources, as Debian's librust-blake3-dev has them.
 BLAKE3_C := $(lastword $(sort $(wildcard /usr/share/cargo/registry/blake3-*/c)))
@@ -210,8 +203,8 @@ out/bao_gather: out/cpu $(SOURCES)
 out/bench: out/cpu $(SOURCES) $(wildcard crates/bench/src/* crates/bao_bind/src/* crates/bao_join/src/*)
 	$(call built,bench,src/main.rt)
 
-# The C library stands on these, of which bao_bind and bao_feed aren't in SOURCES.
-C_SOURCES := $(SOURCES) $(shell shopt -s globstar nullglob; echo crates/{bao_bind,bao_feed,berylwool}/{src,specs,proofs}/**)
+# The C library stands on these, of which bao_bind, bao_feed and bao_plan aren't in SOURCES.
+C_SOURCES := $(SOURCES) $(shell shopt -s globstar nullglob; echo crates/{bao_bind,bao_feed,bao_plan,berylwool}/{src,specs,proofs}/**)
 
 # Where the kit's three functions over malloc lie.
 KIT_C = $(dir $(shell rt doc))c/liblibc_c.a
@@ -247,16 +240,15 @@ c-levels:
 	done
 
 # Of the two, ld.so takes that below glibc-hwcaps on a processor which has its level. The static library is of x86-64.
-c-install: c-levels
+c-install: c-levels doc
 	install -D -m 644 c/berylwool.h '$(DESTDIR)$(includedir)/berylwool.h'
 	install -D -m 644 out/libberylwool.a '$(DESTDIR)$(libdir)/libberylwool.a'
 	install -D -m 755 out/levels/x86-64/libberylwool.so '$(DESTDIR)$(libdir)/libberylwool.so.0'
 	install -D -m 755 out/levels/x86-64-v3/libberylwool.so '$(DESTDIR)$(libdir)/glibc-hwcaps/x86-64-v3/libberylwool.so.0'
 	ln -sf libberylwool.so.0 '$(DESTDIR)$(libdir)/libberylwool.so'
 	install -d '$(DESTDIR)$(libdir)/pkgconfig'
-	@python3 scripts/c_manual.py out/c/manual
 	install -d '$(DESTDIR)$(PREFIX)/share/man/man3'
-	install -m 644 out/c/manual/*.3 '$(DESTDIR)$(PREFIX)/share/man/man3/'
+	install -m 644 out/doc/share/man/man3/*.3 '$(DESTDIR)$(PREFIX)/share/man/man3/'
 	sed 's|@PREFIX@|$(PREFIX)|; s|@LIBDIR@|$(libdir)|; s|@INCLUDEDIR@|$(includedir)|' c/berylwool.pc.in > '$(DESTDIR)$(libdir)/pkgconfig/berylwool.pc'
 
 c-test: c-library
@@ -275,20 +267,20 @@ c-bench: c-library
 	@cc -std=c11 -O2 -Wall -Wextra -Ic c/bench.c out/libberylwool.a -o out/c/bench && out/c/bench
 
 # bw-fetch is C on the C library and libcurl, and isn't proved. Whether libcurl is there is asked before the C library is proved.
-HAS_CURL := pkg-config --exists libcurl 2>/dev/null
-NEEDS_CURL = @$(HAS_CURL) || { echo 'bw-fetch needs pkg-config and libcurl with its headers (of Debian: pkg-config libcurl4-openssl-dev).' >&2; exit 1; }
-FETCH_FLAGS := -std=c11 -O2 -Wall -Wextra -pthread -Ic
+HAS_CURL := pkg-config --atleast-version=7.68.0 libcurl 2>/dev/null
+NEEDS_CURL = @$(HAS_CURL) || { echo 'bw-fetch needs pkg-config and libcurl 7.68 or later with its headers (of Debian: pkg-config libcurl4-openssl-dev).' >&2; exit 1; }
+FETCH_FLAGS := -std=c11 -O2 -Wall -Wextra -pthread -D_FILE_OFFSET_BITS=64 -Ic
 
 out/bw-fetch: $(wildcard fetch/*.c fetch/*.h) c/berylwool.h out/libberylwool.a
-	@cc $(FETCH_FLAGS) $$(pkg-config --cflags libcurl) $(filter %.c %.a,$^) $$(pkg-config --libs libcurl) -o $@
+	@cc $(FETCH_FLAGS) $(CPPFLAGS) $(CFLAGS) $$(pkg-config --cflags libcurl) $(filter %.c %.a,$^) $(LDFLAGS) $$(pkg-config --libs libcurl) -o $@
 
 fetch:
 	$(NEEDS_CURL)
 	@$(MAKE) --no-print-directory out/bw-fetch
 
-fetch-install: fetch
+fetch-install: fetch doc
 	install -D -m 755 out/bw-fetch '$(DESTDIR)$(PREFIX)/bin/bw-fetch'
-	install -D -m 644 fetch/bw-fetch.1 '$(DESTDIR)$(PREFIX)/share/man/man1/bw-fetch.1'
+	install -D -m 644 out/doc/share/man/man1/bw-fetch.1 '$(DESTDIR)$(PREFIX)/share/man/man1/bw-fetch.1'
 
 fetch-test:
 	$(NEEDS_CURL)

@@ -1,19 +1,32 @@
-/* Verified content-addressed storage (BLAKE3, Bao) as a C library. Each function here is declared as crates/berylwool/src has it, and
- * `make c-test` holds the two together. Link with libberylwool.a or libberylwool.so.
+/* Verified content-addressed storage (BLAKE3, Bao) as a C library: the reference.
  *
- * Rules for every function, which nothing checks:
- *   - No pointer is null, but one beside a length of 0, where any address will do, and that of a call that frees. So what is told goes to memory
- *     of the caller also where nobody looks at it.
- *   - What is passed as a pointer to non-const goes to one parameter of one call at a time. What is passed as const may be shared.
- *   - Buffers are at most SIZE_MAX / 2 bytes long.
- *   - The two seats of bw_seat_join and bw_seat_meet come from one bw_store_new or bw_store_part, or their stores differ in root, mode, capacity or
- *     first chunk.
- *   - malloc, realloc and free are of one allocator and align to 16.
- *   - No function is called from a signal handler, or in the forked child of a process with threads.
- * A function has no hidden state: calls on different memory may run at once, in any threads. No function starts a thread, waits, takes a
- * lock, opens a file or prints. Memory is malloc's, and each refusal of it is a status. A thread that calls has 64 KiB of stack or more.
+ * docs/C-API.md is the guide: five tasks with code, threads, memory and errors. Link with
+ * libberylwool.a or libberylwool.so.
  *
- * A status is BW_OK, which is 0, or the number of a fault. Where it isn't 0, only what is named beside the fault is written. */
+ * Every caller keeps these rules, which no call checks:
+ *   - No pointer is NULL, except one with a length of 0 beside it, where any address will do, and
+ *     the argument of a call that frees. Results need memory of the caller even if nobody reads
+ *     them.
+ *   - A pointer to non-const is passed to one parameter of one call at a time. What is passed as
+ *     const may be shared.
+ *   - A buffer has at most SIZE_MAX / 2 bytes.
+ *   - The two seats of bw_seat_join and bw_seat_meet come from the same bw_store_new or
+ *     bw_store_part, or their stores differ in root, mode, capacity or first chunk.
+ *   - malloc, realloc and free belong to one allocator and align to 16.
+ *   - No call is made from a signal handler, or in the forked child of a process with threads.
+ *   - The calling thread has a stack of at least 64 KiB.
+ *
+ * There is no hidden state: calls on different memory may run at the same time, in any threads. No
+ * call starts a thread, waits, takes a lock, opens a file or prints. Memory comes from malloc, and
+ * each refusal of it is a status.
+ *
+ * A bw_status is BW_OK, which is 0, or the number of a fault. After a fault a call has written only
+ * what its comment names for that fault.
+ *
+ * "A check fault" is BW_SHORT, BW_MISMATCH or BW_TRAILING: the first fault of the encoding that was
+ * checked, with its offset in *at. "The slice (start, len)" of a blob has the chunks with its bytes
+ * from `start` up to `start + len`, and the parents above them: a `len` of 0 counts as 1, and a
+ * `start` at or past the end selects the last chunk. (0, 2^64 - 1) is the combined encoding. */
 #ifndef BERYLWOOL_H
 #define BERYLWOOL_H
 
@@ -27,8 +40,8 @@ extern "C" {
 #define BW_AT_LEAST(n) static n
 #endif
 
-/* A status that nobody looks at is a fault that nobody sees, and a null pointer where none may be is nobody's memory: compilers that can say so
- * do. Of an array of so many bytes or more C says it by itself. */
+/* Ignoring a status, or passing NULL where it isn't allowed, is a bug. GCC and Clang warn about
+ * both: the macros below mark the functions, and C marks arrays of at least so many bytes. */
 #if defined(__GNUC__)
 #define BW_USE __attribute__((warn_unused_result))
 #define BW_NONNULL(...) __attribute__((nonnull(__VA_ARGS__)))
@@ -37,7 +50,7 @@ extern "C" {
 #define BW_NONNULL(...)
 #endif
 
-/* The version that this header is of: 10,000 times its first number, 100 times its second, and its third. */
+/* The version of this header: 10,000 * major + 100 * minor + patch. */
 #define BW_VERSION 100
 
 #define BW_HASH_LEN 32
@@ -45,20 +58,22 @@ extern "C" {
 #define BW_GROUP_CHUNKS 64
 #define BW_RANGES_MAX 55
 
-/* An encoding begins with BW_LENGTH_LEN bytes that are the blob's length, and each parent in it has BW_PARENT_LEN. */
+/* An encoding begins with the blob's length, in BW_LENGTH_LEN bytes, little-endian. A parent in it
+ * has BW_PARENT_LEN bytes. */
 #define BW_LENGTH_LEN 8
 #define BW_PARENT_LEN 64
 
-/* At most BW_DEPTH_MAX parents are above a chunk, and a slice of so many chunks has at most BW_NODES_MAX(chunks) nodes. */
+/* A chunk has at most BW_DEPTH_MAX parents above it, and a slice of `chunks` chunks at most
+ * BW_NODES_MAX(chunks) nodes. */
 #define BW_DEPTH_MAX 54
 #define BW_NODES_MAX(chunks) (2 * (chunks) + 105)
 
-/* What a mode is of. */
+/* The kinds of modes. */
 #define BW_MODE_HASH 0
 #define BW_MODE_KEYED_HASH 1
 #define BW_MODE_DERIVE_KEY 2
 
-/* What a node is: the length is that with which an encoding begins. */
+/* The kinds of nodes; the length is the one that an encoding begins with. */
 #define BW_NODE_PARENT 0
 #define BW_NODE_CHUNK 1
 #define BW_NODE_LENGTH 2
@@ -77,44 +92,51 @@ enum {
     BW_OTHER_BLOB = 601,     /* the blob's hash isn't the root */
     BW_COLLISION = 602,      /* a collision: two different inputs with one chaining value */
     BW_STORE_MEMORY = 801,   /* out of memory for a store */
-    BW_CAPACITY = 802,       /* the capacity isn't 1 to 65,536 chunks, or the first chunk is above 2^54 */
-    BW_NO_GROUP = 803,       /* the store has no such group */
+    BW_CAPACITY = 802,       /* not 1 to 65,536 chunks, or the first chunk is above 2^54 */
+    BW_NO_GROUP = 803,       /* there is no such group */
     BW_OTHER_ROOT = 804,     /* the outline is of another root or mode than the store */
-    BW_TOO_LARGE = 805,      /* the length is above what the store has room for, or the store isn't from chunk 0 on */
+    BW_TOO_LARGE = 805,      /* the length is above the capacity, or the first chunk isn't 0 */
     BW_SPLIT_MEMORY = 806,   /* out of memory for a seat */
-    BW_OTHER_LENGTH = 807,   /* the recorded length isn't the one that the encoding claims, or there is none */
+    BW_OTHER_LENGTH = 807,   /* the encoding's length isn't the recorded one, or none is recorded */
     BW_NO_LENGTH = 808,      /* no length is recorded */
     BW_LACKING = 809,        /* the node in *lacking isn't held */
     BW_SERVE_MEMORY = 810,   /* out of memory for a slice */
     BW_UNFINISHED = 901,     /* no length is recorded, or a byte isn't held */
     BW_NOT_THE_ROOT = 902,   /* the hash of the bytes isn't the root */
-    BW_ROOM = 1201,          /* the caller's buffer has no room */
+    BW_ROOM = 1201,          /* the caller's buffer is too small */
     BW_NO_HANDLE = 1202,     /* the handle is empty, or of another kind */
     BW_MEMORY = 1203,        /* out of memory for what a handle owns */
     BW_MISSING = 1204,       /* the byte at *missing isn't held */
-    BW_NO_TAIL = 1205,       /* the encoding hasn't the last chunk of its length */
+    BW_NO_TAIL = 1205,       /* the encoding doesn't have the last chunk of its length */
     BW_DIFFERS = 1206,       /* another length is recorded */
     BW_NOT_UTF8 = 1207,      /* the context isn't UTF-8 */
     BW_PAST_OUTPUT = 1208,   /* the output asked for ends above 2^64 - 1 */
     BW_NO_OUTBOARD = 1209,   /* the outboard encoding isn't accepted */
-    BW_NO_CHUNKS = 1210,     /* the blob hasn't so many chunks there */
-    BW_OTHER_STORE = 1211,   /* the two seats' stores differ in root, mode, capacity or first chunk */
-    BW_OTHER_SIZE = 1212,    /* the bytes aren't as many as a check in pieces takes */
-    BW_NO_MODE = 1213        /* the mode's kind isn't known */
+    BW_NO_CHUNKS = 1210,     /* the blob doesn't have so many chunks there */
+    BW_OTHER_STORE = 1211,   /* the seats' stores differ in root, mode, capacity or first chunk */
+    BW_OTHER_SIZE = 1212,    /* the number of bytes isn't what a check in pieces takes */
+    BW_NO_MODE = 1213,       /* the mode's kind is unknown */
+    BW_NO_HOLDER = 1214,     /* the plan has no such holder */
+    BW_NO_REQUEST = 1215     /* no such request is under way */
 };
 
-/* A status in words: that of the library which is linked, so that a newer one knows its own. The text lasts as long as the program. */
+/* Returns a status in words.
+ *
+ * The text is that of the library which is linked, so it covers a newer library's statuses. It
+ * lasts as long as the program. */
 const char *bw_strerror(bw_status status);
 
-/* A mode: kind 0 (BW_MODE_HASH) is plain hashing, 1 (BW_MODE_KEYED_HASH) is keyed hashing under `key`, and 2 (BW_MODE_DERIVE_KEY) is derivation of
- * keys, which bw_mode_derive makes. A call with another kind answers BW_NO_MODE before all else, and leaves an empty handle where it was to fill
- * one; bw_hash, which answers nothing, takes it for plain hashing. So {0} is plain hashing. */
+/* A mode: plain hashing (BW_MODE_HASH), keyed hashing under `key` (BW_MODE_KEYED_HASH), or key
+ * derivation (BW_MODE_DERIVE_KEY), which bw_mode_derive makes. {0} is plain hashing.
+ *
+ * A call with a mode of another kind returns BW_NO_MODE before all else; a handle that it would
+ * have filled is empty then. bw_hash, which returns no status, takes it for plain hashing. */
 typedef struct bw_mode {
     uint32_t kind;
     uint8_t key[32];
 } bw_mode;
 
-/* What one compression takes in (BLAKE3 paper, 2.2). */
+/* The inputs of one compression (BLAKE3 paper, 2.2). */
 typedef struct bw_input {
     uint32_t h[8];
     uint32_t m[16];
@@ -123,16 +145,19 @@ typedef struct bw_input {
     uint32_t d;
 } bw_input;
 
-/* A node of a blob's tree: kind 0 (BW_NODE_PARENT) is the parent whose right part begins at chunk `number`, and 1 (BW_NODE_CHUNK) is chunk
- * `number`. */
+/* A node of a blob's tree: the parent whose right child begins at chunk `number` (BW_NODE_PARENT),
+ * or chunk `number` (BW_NODE_CHUNK). */
 typedef struct bw_node {
     uint32_t kind;
     uint64_t number;
 } bw_node;
 
-/* A node of a slice: `kind` and `number` as bw_node has them, and how many bytes it has in an encoding, `size`. It is over `len` bytes of the blob,
- * from byte `start` on. It begins at byte `combined_at` of the combined encoding, and at byte `outboard_at` of the outboard encoding, which has no
- * chunk: there it is 0. */
+/* A node of a slice, and where it is: `kind` and `number` as in bw_node, and its `size` in bytes in
+ * an encoding.
+ *
+ * It covers `len` bytes of the blob from byte `start` on. It begins at byte `combined_at` of the
+ * combined encoding and at byte `outboard_at` of the outboard encoding, which has no chunks: for a
+ * chunk `outboard_at` is 0. */
 typedef struct bw_placed {
     uint32_t kind;
     uint32_t size;
@@ -143,15 +168,17 @@ typedef struct bw_placed {
     uint64_t outboard_at;
 } bw_placed;
 
-/* `len` bytes from byte `at` on. */
+/* The `len` bytes from byte `at` on. */
 typedef struct bw_range {
     uint64_t at;
     uint64_t len;
 } bw_range;
 
-/* What bw_gather did: chunks that it committed, parents that it stored, slices that it asked for, encodings that a check refused, fetches whose
- * device failed (there is none here), refusals of memory, and 1 where a certified length was above what the store has room for. A count
- * stays at 2^64 - 1 once there. */
+/* What bw_gather and bw_seat_salvage did. A count stays at 2^64 - 1 once there.
+ *
+ * The fields are the chunks committed, the parents stored, the slices asked for, the encodings that
+ * a check refused, the fetches whose device failed (always 0 here), the refusals of memory, and 1
+ * if a certified length was above the store's capacity. */
 typedef struct bw_report {
     uint64_t committed;
     uint64_t parents;
@@ -162,10 +189,13 @@ typedef struct bw_report {
     uint32_t too_large;
 } bw_report;
 
-/* A handle owns a hasher, a check in pieces, an outline or a seat, or is empty. Each kind has a type, so that a compiler refuses one in place of
- * another. Only this library reads or writes `at` and what lies behind it. A handle may be moved as bytes, and has one owner: a copy that is used
- * beside it breaks everything. It may go from one thread to another by what orders memory: a thread's start or join, a lock, a sequentially
- * consistent atomic. Set one to BW_EMPTY before its first use, and end with the bw_.._free of its kind. */
+/* A handle owns a hasher, a check in pieces, an outline, a seat or a plan, or is empty.
+ *
+ * Set it to BW_EMPTY before its first use, and end with the bw_.._free of its kind. It has one
+ * owner: it may be moved as bytes, but using a copy beside it is undefined behaviour. Only this
+ * library reads or writes `at` and what it points to. A handle may go from one thread to another by
+ * anything that orders memory: a thread's start or join, a lock, a sequentially consistent atomic.
+ * Each kind has its own type, so that a compiler refuses one in place of another. */
 typedef struct bw_hasher {
     void *at;
 } bw_hasher;
@@ -184,314 +214,635 @@ typedef struct bw_seat {
 
 #define BW_EMPTY {NULL}
 
-/* Frees what a handle of any kind owns, if it owns something. It is empty then, and may be freed again. NULL is no handle, and nothing is done.
- * It is for other languages, and for code that goes by no kind: a compiler doesn't see here that the pointer is to a handle. */
+/* Frees what a handle of any kind owns, if anything, and leaves it empty.
+ *
+ * An empty handle may be freed again, and NULL does nothing. This is for other languages and for
+ * code that handles every kind alike: the compiler can't check that the pointer is to a handle. */
 void bw_free(void *handle);
 
-/* The same for each kind. */
+/* Frees what a handle of one kind owns, as bw_free does. */
 static inline void bw_hasher_free(bw_hasher *hasher) { bw_free(hasher); }
 static inline void bw_feed_free(bw_feed *feed) { bw_free(feed); }
 static inline void bw_outline_free(bw_outline *outline) { bw_free(outline); }
 static inline void bw_seat_free(bw_seat *seat) { bw_free(seat); }
 
-/* The version of the library that is linked, as BW_VERSION has it. */
+/* Returns the version of the library that is linked, in the form of BW_VERSION. */
 uint32_t bw_version(void);
 
-/* 1 where the status says that memory was refused: BW_TEXT_MEMORY, BW_STORE_MEMORY, BW_SPLIT_MEMORY, BW_SERVE_MEMORY or BW_MEMORY. Else 0. */
+/* Returns 1 if the status means that memory was refused, else 0.
+ *
+ * It is 1 for BW_TEXT_MEMORY, BW_STORE_MEMORY, BW_SPLIT_MEMORY, BW_SERVE_MEMORY and BW_MEMORY. */
 uint32_t bw_is_memory(bw_status status);
 
 /* --- Hashes */
 
-/* The mode that derives keys for the use that `context`, a UTF-8 text, names: kind 2, where `key` is the hash of the context, 32 bytes that are no
- * secret. bw_hash and bw_xof in it give the keys that bw_derive_key gives, and encodings and stores have it as any other mode. BW_NOT_UTF8: *mode
- * is as it was. */
-BW_USE bw_status bw_mode_derive(const uint8_t *context, size_t context_len, bw_mode *mode) BW_NONNULL(3);
+/* Makes the mode that derives keys for the purpose that `context` names.
+ *
+ * `context` is UTF-8. The mode's `key` is the hash of the context, which isn't secret. In this mode
+ * bw_hash and bw_xof return the keys that bw_derive_key does, and encodings and stores take it as
+ * they take any mode. BW_NOT_UTF8: *mode is unchanged. */
+BW_USE bw_status bw_mode_derive(const uint8_t *context, size_t context_len,
+                                bw_mode *mode) BW_NONNULL(3);
 
-/* The hash of `bytes`. */
-void bw_hash(const bw_mode *mode, const uint8_t *bytes, size_t len, uint8_t out[BW_AT_LEAST(BW_HASH_LEN)]) BW_NONNULL(1);
+/* Computes the hash of `bytes`. */
+void bw_hash(const bw_mode *mode, const uint8_t *bytes, size_t len,
+             uint8_t out[BW_AT_LEAST(BW_HASH_LEN)]) BW_NONNULL(1);
 
-/* Extended output, from its byte `at` on. BW_PAST_OUTPUT. */
-BW_USE bw_status bw_xof(const bw_mode *mode, const uint8_t *bytes, size_t len, uint64_t at, uint8_t *out, size_t out_len) BW_NONNULL(1);
+/* Computes `out_len` bytes of extended output of `bytes`, from byte `at` of the output on.
+ *
+ * BW_PAST_OUTPUT. */
+BW_USE bw_status bw_xof(const bw_mode *mode, const uint8_t *bytes, size_t len, uint64_t at,
+                        uint8_t *out, size_t out_len) BW_NONNULL(1);
 
-/* The key derived from `material` for the use that `context`, a UTF-8 text, names. BW_NOT_UTF8. */
-BW_USE bw_status bw_derive_key(const uint8_t *context, size_t context_len, const uint8_t *material, size_t material_len, uint8_t *out,
-                               size_t out_len);
+/* Derives a key of `out_len` bytes from `material`, for the purpose that `context` names.
+ *
+ * `context` is UTF-8. BW_NOT_UTF8. */
+BW_USE bw_status bw_derive_key(const uint8_t *context, size_t context_len, const uint8_t *material,
+                               size_t material_len, uint8_t *out, size_t out_len);
 
-/* A hasher that has taken in nothing; what the handle owned is freed. BW_MEMORY, with an empty handle. */
+/* Makes a hasher that has no input yet.
+ *
+ * What the handle owned is freed. BW_MEMORY: the handle is empty. */
 BW_USE bw_status bw_hasher_new(const bw_mode *mode, bw_hasher *hasher) BW_NONNULL(1, 2);
 
-/* Takes in `bytes` after those before. BW_TOO_LONG, BW_NO_HANDLE: the hasher is as it was. */
-BW_USE bw_status bw_hasher_update(bw_hasher *hasher, const uint8_t *bytes, size_t len) BW_NONNULL(1);
+/* Appends `bytes` to a hasher's input.
+ *
+ * BW_TOO_LONG, BW_NO_HANDLE: the hasher is unchanged. */
+BW_USE bw_status bw_hasher_update(bw_hasher *hasher, const uint8_t *bytes,
+                                  size_t len) BW_NONNULL(1);
 
-/* The hash, or extended output, of what was taken in. The hasher can go on. BW_NO_HANDLE, BW_PAST_OUTPUT. */
-BW_USE bw_status bw_hasher_finish(bw_hasher *hasher, uint8_t out[BW_AT_LEAST(BW_HASH_LEN)]) BW_NONNULL(1);
-BW_USE bw_status bw_hasher_xof(bw_hasher *hasher, uint64_t at, uint8_t *out, size_t out_len) BW_NONNULL(1);
+/* Computes the hash of a hasher's input so far. More input may follow.
+ *
+ * BW_NO_HANDLE. */
+BW_USE bw_status bw_hasher_finish(bw_hasher *hasher,
+                                  uint8_t out[BW_AT_LEAST(BW_HASH_LEN)]) BW_NONNULL(1);
 
-/* --- Encodings written, to the start of the caller's buffer: *used says how long they are. BW_TEXT_MEMORY. BW_ROOM: the buffer is as it was, and
- * *used says how long they would be. bw_encode and bw_outboard ask for room before they take memory or hash. */
+/* Computes extended output of a hasher's input so far, as bw_xof does. More input may follow.
+ *
+ * BW_NO_HANDLE, BW_PAST_OUTPUT. */
+BW_USE bw_status bw_hasher_xof(bw_hasher *hasher, uint64_t at, uint8_t *out,
+                               size_t out_len) BW_NONNULL(1);
 
-/* How long the combined and the outboard encoding are of a blob of `len` bytes, and the slice of `slice_len` bytes from byte `start` on. 0 where
- * that is above 2^64 - 1. A slice is at most as long as the combined encoding. */
+/* --- Encodings written, to the front of `out`, with their length in *used. BW_TEXT_MEMORY.
+ * BW_ROOM: `out` is unchanged, and *used is the length needed. */
+
+/* Returns the length of the combined encoding of a blob of `len` bytes, or 0 if it is above 2^64 -
+ * 1. */
 uint64_t bw_encoded_len(uint64_t len);
+
+/* Returns the length of the outboard encoding of a blob of `len` bytes, or 0 if it is above 2^64 -
+ * 1. */
 uint64_t bw_outboard_len(uint64_t len);
+
+/* Returns the length of the slice (start, slice_len) of a blob of `len` bytes, or 0 if it is above
+ * 2^64 - 1. It is at most that of the combined encoding. */
 uint64_t bw_slice_len(uint64_t len, uint64_t start, uint64_t slice_len);
 
-/* The combined and the outboard encoding of a blob and the slice of `slice_len` bytes from byte `start` on, with the blob's hash. */
-BW_USE bw_status bw_encode(const bw_mode *mode, const uint8_t *bytes, size_t len, uint8_t *out, size_t out_len, size_t *used,
+/* Writes the combined encoding of a blob, and its hash to `root`.
+ *
+ * BW_ROOM comes before any memory is taken or any byte hashed. */
+BW_USE bw_status bw_encode(const bw_mode *mode, const uint8_t *bytes, size_t len, uint8_t *out,
+                           size_t out_len, size_t *used,
                            uint8_t root[BW_AT_LEAST(BW_HASH_LEN)]) BW_NONNULL(1, 6);
-BW_USE bw_status bw_outboard(const bw_mode *mode, const uint8_t *bytes, size_t len, uint8_t *out, size_t out_len, size_t *used,
+
+/* Writes the outboard encoding of a blob, and its hash to `root`.
+ *
+ * BW_ROOM comes before any memory is taken or any byte hashed. */
+BW_USE bw_status bw_outboard(const bw_mode *mode, const uint8_t *bytes, size_t len, uint8_t *out,
+                             size_t out_len, size_t *used,
                              uint8_t root[BW_AT_LEAST(BW_HASH_LEN)]) BW_NONNULL(1, 6);
-BW_USE bw_status bw_slice(const bw_mode *mode, const uint8_t *bytes, size_t len, uint64_t start, uint64_t slice_len, uint8_t *out, size_t out_len,
-                          size_t *used, uint8_t root[BW_AT_LEAST(BW_HASH_LEN)]) BW_NONNULL(1, 8);
 
-/* A slice cut out of a combined encoding, of which nothing is checked: what isn't there is left out. */
-BW_USE bw_status bw_cut_slice(const uint8_t *text, size_t text_len, uint64_t start, uint64_t len, uint8_t *out, size_t out_len,
-                              size_t *used) BW_NONNULL(7);
+/* Writes the slice (start, slice_len) of a blob, and the hash of the whole blob to `root`. */
+BW_USE bw_status bw_slice(const bw_mode *mode, const uint8_t *bytes, size_t len, uint64_t start,
+                          uint64_t slice_len, uint8_t *out, size_t out_len, size_t *used,
+                          uint8_t root[BW_AT_LEAST(BW_HASH_LEN)]) BW_NONNULL(1, 8);
 
-/* Which bytes of the combined encoding of a blob of `total` bytes are the slice (start, len): a server's file is asked for these ranges, and what
- * comes, one range after another, is the encoding of the slice. *count says how many there are in `out`, whose length `room` is a number of ranges;
- * BW_RANGES_MAX are always room enough. They are in order, and none begins where another ends. BW_TOO_LONG: the combined encoding has 2^64 bytes
- * or more. BW_ROOM: some of `out` may have been written to. */
-BW_USE bw_status bw_slice_ranges(uint64_t total, uint64_t start, uint64_t len, bw_range *out, size_t room, size_t *count) BW_NONNULL(6);
+/* Copies a slice out of a combined encoding, and verifies nothing. What isn't there is left out. */
+BW_USE bw_status bw_cut_slice(const uint8_t *text, size_t text_len, uint64_t start, uint64_t len,
+                              uint8_t *out, size_t out_len, size_t *used) BW_NONNULL(7);
 
-/* Which bytes of the outboard encoding of a blob of `total` bytes are its length and the parents of the slice (start, len), in the same way: what
- * comes, with the slice's chunks, is what bw_outline_slice makes of them. BW_ROOM: some of `out` may have been written to. */
-BW_USE bw_status bw_outboard_ranges(uint64_t total, uint64_t start, uint64_t len, bw_range *out, size_t room, size_t *count) BW_NONNULL(6);
+/* Lists the ranges of the combined encoding of a blob of `total` bytes that are the slice (start,
+ * len).
+ *
+ * A server's file is asked for these ranges; what it returns, one range after another, is the
+ * encoding of the slice. `room` is the length of `out` in ranges, of which BW_RANGES_MAX are always
+ * enough, and *count is how many were written. They are in order, and none begins where another
+ * ends.
+ *
+ * BW_TOO_LONG: the combined encoding has 2^64 bytes or more. BW_ROOM: some of `out` may have been
+ * written. */
+BW_USE bw_status bw_slice_ranges(uint64_t total, uint64_t start, uint64_t len, bw_range *out,
+                                 size_t room, size_t *count) BW_NONNULL(6);
 
-/* The nodes of the slice (start, len) of a blob of `total` bytes, in the order that they have in its encoding after the length, each with its
- * places: so a slice is put together out of what servers have of either encoding and of the plain blob. *count says how many there are in `out`,
- * whose length `room` is a number of nodes; BW_NODES_MAX of the slice's chunks are always room enough. BW_TOO_LONG: the combined encoding has 2^64
- * bytes or more. BW_ROOM, exactly where there are more nodes: some of `out` may have been written to. */
-BW_USE bw_status bw_slice_nodes(uint64_t total, uint64_t start, uint64_t len, bw_placed *out, size_t room, size_t *count) BW_NONNULL(6);
+/* Lists the ranges of the outboard encoding of a blob of `total` bytes that are its length and the
+ * parents of the slice (start, len), as bw_slice_ranges does.
+ *
+ * Together with the slice's chunks, these bytes make what bw_outline_slice makes of them. BW_ROOM:
+ * some of `out` may have been written. */
+BW_USE bw_status bw_outboard_ranges(uint64_t total, uint64_t start, uint64_t len, bw_range *out,
+                                    size_t room, size_t *count) BW_NONNULL(6);
 
-/* Whose byte `at` of the encoding of the slice (start, len) of a blob of `total` bytes is: the node as bw_slice_nodes tells it. So a place that a
- * check of that encoding tells in *at, or one in a node, is told as a node and as bytes of the blob; `total` is what its first 8 bytes claim.
- * Below 8 it is the length: kind 2 (BW_NODE_LENGTH), size 8, and all else 0. From the encoding's end on it is no node: kind 3 (BW_NODE_NONE), and
- * all else 0. The chunk of a blob of no bytes is at 8, where the encoding ends. BW_TOO_LONG as bw_slice_nodes: *node is as it was. */
-BW_USE bw_status bw_node_at(uint64_t total, uint64_t start, uint64_t len, uint64_t at, bw_placed *node) BW_NONNULL(5);
+/* Lists the nodes of the slice (start, len) of a blob of `total` bytes, in the order of its
+ * encoding after the length, each with its places in the encodings and in the blob.
+ *
+ * `room` is the length of `out` in nodes, of which BW_NODES_MAX of the slice's chunks are always
+ * enough, and *count is how many were written.
+ *
+ * BW_TOO_LONG: the combined encoding has 2^64 bytes or more. BW_ROOM, exactly if there are more
+ * nodes: some of `out` may have been written. */
+BW_USE bw_status bw_slice_nodes(uint64_t total, uint64_t start, uint64_t len, bw_placed *out,
+                                size_t room, size_t *count) BW_NONNULL(6);
 
-/* --- Encodings checked: BW_OK exactly where they are accepted, or else the first fault, BW_SHORT, BW_MISMATCH or BW_TRAILING, and its
- * place in *at. No memory is taken. */
+/* Finds the node that byte `at` of the encoding of the slice (start, len) belongs to, as
+ * bw_slice_nodes lists it, for a blob of `total` bytes.
+ *
+ * It translates the *at of a check fault, or an offset within a node; `total` is then the length
+ * that the encoding's first 8 bytes claim. Below 8, *node is the length: BW_NODE_LENGTH, size 8,
+ * and all else 0. From the end of the encoding on it is BW_NODE_NONE, and all else 0. The chunk of
+ * an empty blob is at 8, where the encoding ends.
+ *
+ * BW_TOO_LONG, as bw_slice_nodes: *node is unchanged. */
+BW_USE bw_status bw_node_at(uint64_t total, uint64_t start, uint64_t len, uint64_t at,
+                            bw_placed *node) BW_NONNULL(5);
 
-BW_USE bw_status bw_check_slice(const bw_mode *mode, const uint8_t root[BW_AT_LEAST(BW_HASH_LEN)], uint64_t start, uint64_t len, const uint8_t *text,
-                                size_t text_len, uint64_t *at) BW_NONNULL(1, 7);
-BW_USE bw_status bw_check_combined(const bw_mode *mode, const uint8_t root[BW_AT_LEAST(BW_HASH_LEN)], const uint8_t *text, size_t text_len,
+/* --- Encodings checked: BW_OK exactly if the encoding is accepted under `root`, else a check
+ * fault. No memory is taken. */
+
+/* Checks `text` as the slice (start, len). */
+BW_USE bw_status bw_check_slice(const bw_mode *mode, const uint8_t root[BW_AT_LEAST(BW_HASH_LEN)],
+                                uint64_t start, uint64_t len, const uint8_t *text, size_t text_len,
+                                uint64_t *at) BW_NONNULL(1, 7);
+
+/* Checks `text` as the combined encoding. */
+BW_USE bw_status bw_check_combined(const bw_mode *mode,
+                                   const uint8_t root[BW_AT_LEAST(BW_HASH_LEN)],
+                                   const uint8_t *text, size_t text_len,
                                    uint64_t *at) BW_NONNULL(1, 5);
-BW_USE bw_status bw_check_outboard(const bw_mode *mode, const uint8_t root[BW_AT_LEAST(BW_HASH_LEN)], const uint8_t *text, size_t text_len,
+
+/* Checks `text` as the outboard encoding. */
+BW_USE bw_status bw_check_outboard(const bw_mode *mode,
+                                   const uint8_t root[BW_AT_LEAST(BW_HASH_LEN)],
+                                   const uint8_t *text, size_t text_len,
                                    uint64_t *at) BW_NONNULL(1, 5);
 
-/* Checks chunks `first` to `first + count - 1` of a plain copy, which begin at its byte 1,024 * first, by the blob's outboard encoding, which
- * is checked with them. BW_NO_OUTBOARD: bw_check_outboard tells its fault. BW_NO_CHUNKS. Else the place in *at is one of `chunks`. */
-BW_USE bw_status bw_check_bare(const bw_mode *mode, const uint8_t root[BW_AT_LEAST(BW_HASH_LEN)], const uint8_t *outboard, size_t outboard_len,
-                               uint64_t first, uint64_t count, const uint8_t *chunks, size_t chunks_len, uint64_t *at) BW_NONNULL(1, 9);
+/* Checks a range of a plain copy against the blob's outboard encoding, which is checked as well.
+ *
+ * `chunks` has chunks `first` to `first + count - 1` of the blob, and begins with byte 1,024 *
+ * first of the copy. BW_NO_OUTBOARD: bw_check_outboard returns the fault. BW_NO_CHUNKS. For a check
+ * fault *at is an offset in `chunks`. */
+BW_USE bw_status bw_check_bare(const bw_mode *mode, const uint8_t root[BW_AT_LEAST(BW_HASH_LEN)],
+                               const uint8_t *outboard, size_t outboard_len, uint64_t first,
+                               uint64_t count, const uint8_t *chunks, size_t chunks_len,
+                               uint64_t *at) BW_NONNULL(1, 9);
 
-/* Checks an encoding as the slice (start, len), and puts the blob's bytes of that range to the start of `out`: `len` bytes from byte `start` on, or
- * those before the blob's end. (0, 2^64 - 1) is the combined encoding. *used says how many they are, and *total is the blob's length where the
- * encoding certifies it, since it has the last chunk, and else 2^64 - 1. No byte is written before all are verified. BW_ROOM, before all
- * else: `out` is as it was, and *used says how many bytes there would be. */
-BW_USE bw_status bw_decode(const bw_mode *mode, const uint8_t root[BW_AT_LEAST(BW_HASH_LEN)], uint64_t start, uint64_t len, const uint8_t *text,
-                           size_t text_len, uint8_t *out, size_t out_len, size_t *used, uint64_t *total, uint64_t *at) BW_NONNULL(1, 9, 10, 11);
+/* Checks `text` as the slice (start, len), and copies the blob's bytes of that range to the front
+ * of `out`.
+ *
+ * These are `len` bytes from byte `start` on, or those before the blob's end; *used is their
+ * number. *total is the blob's length if the encoding certifies it by having the last chunk, else
+ * 2^64 - 1. Nothing is written to `out` before all is verified. A check fault. BW_ROOM, before all
+ * else: `out` is unchanged, and *used is how many bytes there would be. */
+BW_USE bw_status bw_decode(const bw_mode *mode, const uint8_t root[BW_AT_LEAST(BW_HASH_LEN)],
+                           uint64_t start, uint64_t len, const uint8_t *text, size_t text_len,
+                           uint8_t *out, size_t out_len, size_t *used, uint64_t *total,
+                           uint64_t *at) BW_NONNULL(1, 9, 10, 11);
 
-/* Checks a slice, and compares it with a blob. BW_OK: it is accepted, each chunk of it is the blob's, and the length that it certifies, if it
- * does, is the blob's. BW_OTHER_BLOB: the blob's hash isn't the root. BW_COLLISION: *ours is an input that hashing the blob compresses, and
- * *theirs one that checking the encoding compresses; they differ and have one chaining value. */
-BW_USE bw_status bw_audit(const bw_mode *mode, const uint8_t root[BW_AT_LEAST(BW_HASH_LEN)], uint64_t start, uint64_t len, const uint8_t *text,
-                          size_t text_len, const uint8_t *blob, size_t blob_len, uint64_t *at, bw_input *ours,
+/* Checks `text` as the slice (start, len), and compares it with a blob.
+ *
+ * BW_OK: it is accepted, each of its chunks is the blob's, and if it certifies a length, that is
+ * the blob's. A check fault. BW_OTHER_BLOB: the blob's hash isn't the root. BW_COLLISION: hashing
+ * the blob compresses *ours, checking the encoding compresses *theirs, and the two differ and have
+ * the same chaining value. */
+BW_USE bw_status bw_audit(const bw_mode *mode, const uint8_t root[BW_AT_LEAST(BW_HASH_LEN)],
+                          uint64_t start, uint64_t len, const uint8_t *text, size_t text_len,
+                          const uint8_t *blob, size_t blob_len, uint64_t *at, bw_input *ours,
                           bw_input *theirs) BW_NONNULL(1, 9, 10, 11);
 
-/* --- Outlines: an outboard encoding that is checked once, and kept. Beside it bytes of plain copies of the blob are checked, made slices of and
- * stored, whoever gave them, at the cost of these bytes alone. `chunks` are the bytes of chunks `first` to `first + count - 1` of the blob, from byte
- * 1,024 * first on to where the last of them ends. Each call but bw_outline_new can answer BW_NO_HANDLE. */
+/* --- Outlines: an outline is an outboard encoding that was checked once and is kept. Beside it,
+ * bytes of plain copies are checked, made into slices and stored, whoever supplied them, at the
+ * cost of these bytes alone. `chunks` has the bytes of chunks `first` to `first + count - 1` of the
+ * blob, from byte 1,024 * first on to where the last of them ends. Each call but bw_outline_new may
+ * return BW_NO_HANDLE. */
 
-/* Checks an outboard encoding, as bw_check_outboard does, and keeps a copy of it; what the handle owned is freed. BW_SHORT, BW_MISMATCH, BW_TRAILING,
- * BW_MEMORY: the handle is empty then. One that isn't there as a whole goes by bw_feed_outboard. */
-BW_USE bw_status bw_outline_new(const bw_mode *mode, const uint8_t root[BW_AT_LEAST(BW_HASH_LEN)], const uint8_t *outboard, size_t outboard_len,
-                                bw_outline *outline, uint64_t *at) BW_NONNULL(1, 5, 6);
+/* Checks an outboard encoding as bw_check_outboard does, and makes an outline of a copy of it.
+ *
+ * What the handle owned is freed. A check fault, BW_MEMORY: the handle is empty. For an encoding
+ * that arrives in parts see bw_feed_outboard. */
+BW_USE bw_status bw_outline_new(const bw_mode *mode, const uint8_t root[BW_AT_LEAST(BW_HASH_LEN)],
+                                const uint8_t *outboard, size_t outboard_len, bw_outline *outline,
+                                uint64_t *at) BW_NONNULL(1, 5, 6);
 
-/* Gives `other` a part in the outline, for another thread, say: no encoding is copied, and it is freed with its last handle. What `other` owned is
- * freed. BW_MEMORY: `other` is empty then. */
+/* Makes `other` a second handle of the same outline, for another thread, say.
+ *
+ * No encoding is copied; the outline is freed with its last handle. What `other` owned is freed.
+ * BW_MEMORY: `other` is empty. */
 BW_USE bw_status bw_outline_share(bw_outline *outline, bw_outline *other) BW_NONNULL(1, 2);
 
-/* The length that the outline claims for the blob. It isn't certified before the last chunk was checked beside it. */
+/* Returns in *len the blob's length that the outline claims.
+ *
+ * It isn't certified before the last chunk was checked beside the outline. */
 BW_USE bw_status bw_outline_length(bw_outline *outline, uint64_t *len) BW_NONNULL(1, 2);
 
-/* Checks chunks of a plain copy: BW_OK exactly where they are the root's. BW_SHORT, BW_MISMATCH or BW_TRAILING, with the place in `chunks` in *at.
- * BW_NO_CHUNKS: `count` is 0, or there are none such. No memory is taken. */
-BW_USE bw_status bw_outline_check(bw_outline *outline, uint64_t first, uint64_t count, const uint8_t *chunks, size_t chunks_len,
+/* Checks chunks of a plain copy: BW_OK exactly if they are the root's.
+ *
+ * A check fault, with an offset in `chunks`. BW_NO_CHUNKS: `count` is 0, or the blob has no such
+ * chunks. No memory is taken. */
+BW_USE bw_status bw_outline_check(bw_outline *outline, uint64_t first, uint64_t count,
+                                  const uint8_t *chunks, size_t chunks_len,
                                   uint64_t *at) BW_NONNULL(1, 6);
 
-/* Checks chunks as bw_outline_check, and puts the slice (1,024 * first, 1,024 * count) of them to the start of `out`: what a server of a plain file
- * answers. That of the last chunk is what bw_seat_settle asks for. The faults of bw_outline_check come first. BW_ROOM: *used says how long the
- * encoding is, as bw_slice_len of the outline's length does. BW_TEXT_MEMORY. `out` is as it was then. */
-BW_USE bw_status bw_outline_slice(bw_outline *outline, uint64_t first, uint64_t count, const uint8_t *chunks, size_t chunks_len, uint8_t *out,
+/* Checks chunks as bw_outline_check does, and writes their slice (1,024 * first, 1,024 * count) to
+ * the front of `out`, with its length in *used.
+ *
+ * This is what a server of a plain file sends. The slice of the last chunk is what bw_seat_settle
+ * needs. The faults of bw_outline_check come first. BW_ROOM: *used is the length needed, which is
+ * bw_slice_len of the outline's length. BW_TEXT_MEMORY. After either `out` is unchanged. */
+BW_USE bw_status bw_outline_slice(bw_outline *outline, uint64_t first, uint64_t count,
+                                  const uint8_t *chunks, size_t chunks_len, uint8_t *out,
                                   size_t out_len, size_t *used, uint64_t *at) BW_NONNULL(1, 8, 9);
 
-/* Checks chunks as bw_outline_check, and stores all that the slice of them has, as bw_seat_commit_all does: the chunks and the parents above them.
- * BW_OTHER_ROOT, before all else. BW_SHORT, BW_MISMATCH, BW_TRAILING, BW_NO_CHUNKS. BW_OTHER_LENGTH: nothing is stored. No memory is taken. */
-BW_USE bw_status bw_outline_commit(bw_outline *outline, bw_seat *seat, uint64_t first, uint64_t count, const uint8_t *chunks, size_t chunks_len,
-                                   uint64_t *committed, uint64_t *parents, uint64_t *at) BW_NONNULL(1, 2, 7, 8, 9);
+/* Checks chunks as bw_outline_check does, and stores them and the parents above them, as
+ * bw_seat_commit_all does.
+ *
+ * BW_OTHER_ROOT, before all else. A check fault. BW_NO_CHUNKS. BW_OTHER_LENGTH: nothing is stored.
+ * No memory is taken. */
+BW_USE bw_status bw_outline_commit(bw_outline *outline, bw_seat *seat, uint64_t first,
+                                   uint64_t count, const uint8_t *chunks, size_t chunks_len,
+                                   uint64_t *committed, uint64_t *parents,
+                                   uint64_t *at) BW_NONNULL(1, 2, 7, 8, 9);
 
-/* --- Encodings checked in pieces: an encoding is given a node at a time, in its order, while it comes, and none of its bytes are kept. What is
- * accepted, and else the first fault and its place, are those of bw_check_slice and bw_check_combined. A program hands bw_feed_take_many what
- * came, again and again, and is handed the blob's bytes; then it hands bw_feed_finish what is left of the encoding, where it ends. Or it asks
- * bw_feed_wants for the size of the next node and hands bw_feed_take so many bytes. Each call but the first two can answer BW_NO_HANDLE. Memory is
- * taken by the first two alone. */
+/* --- Encodings checked in pieces: the nodes of an encoding are verified while they arrive, and
+ * none of their bytes are kept. What is accepted, and else the first fault and its offset, are
+ * those of bw_check_slice and bw_check_combined. Pass whatever arrives to bw_feed_take_many, which
+ * returns the blob's bytes, and at the end of the encoding pass what is left to bw_feed_finish. Or
+ * ask bw_feed_wants for the size of the next node, and pass exactly that to bw_feed_take. Only the
+ * first two calls take memory; each of the others may return BW_NO_HANDLE. */
 
-/* A check that has taken nothing, of an encoding as the slice of `len` bytes from byte `start` on, or as the combined encoding; what the handle
- * owned is freed. BW_MEMORY, with an empty handle. */
-BW_USE bw_status bw_feed_slice(const bw_mode *mode, const uint8_t root[BW_AT_LEAST(BW_HASH_LEN)], uint64_t start, uint64_t len,
-                               bw_feed *feed) BW_NONNULL(1, 5);
-BW_USE bw_status bw_feed_combined(const bw_mode *mode, const uint8_t root[BW_AT_LEAST(BW_HASH_LEN)], bw_feed *feed) BW_NONNULL(1, 3);
+/* Makes a check of the slice (start, len) that has no bytes yet.
+ *
+ * What the handle owned is freed. BW_MEMORY: the handle is empty. */
+BW_USE bw_status bw_feed_slice(const bw_mode *mode, const uint8_t root[BW_AT_LEAST(BW_HASH_LEN)],
+                               uint64_t start, uint64_t len, bw_feed *feed) BW_NONNULL(1, 5);
 
-/* What comes next, and how many bytes it has: *node is 2 (BW_NODE_LENGTH) for the length, of 8 bytes, 0 (BW_NODE_PARENT) for a parent, of 64, and 1
- * (BW_NODE_CHUNK) for a chunk, of 1 to 1,024. It is 3 (BW_NODE_NONE), with 0 in *size, exactly where what was taken is an accepted encoding. */
+/* Makes a check of the combined encoding that has no bytes yet.
+ *
+ * What the handle owned is freed. BW_MEMORY: the handle is empty. */
+BW_USE bw_status bw_feed_combined(const bw_mode *mode, const uint8_t root[BW_AT_LEAST(BW_HASH_LEN)],
+                                  bw_feed *feed) BW_NONNULL(1, 3);
+
+/* Returns the kind of the next node in *node, and its size in bytes in *size.
+ *
+ * BW_NODE_LENGTH has 8 bytes, BW_NODE_PARENT 64, and BW_NODE_CHUNK 1 to 1,024. *node is
+ * BW_NODE_NONE, with a size of 0, exactly if the bytes accepted so far are an accepted encoding. */
 BW_USE bw_status bw_feed_wants(bw_feed *feed, uint32_t *node, size_t *size) BW_NONNULL(1, 2, 3);
 
-/* Takes the node that comes next, and verifies it: where it is a chunk, its bytes are the blob's next ones. BW_MISMATCH: that is the first fault of
- * every encoding that begins with what was taken and this node, at *at. BW_TOO_MUCH, with 0 in *at. BW_OTHER_SIZE: `node` has another length than
- * is wanted, or nothing is. The check is as it was then, and can take other bytes in their place. */
-BW_USE bw_status bw_feed_take(bw_feed *feed, const uint8_t *node, size_t node_len, uint64_t *at) BW_NONNULL(1, 4);
+/* Verifies the next node. If it is a chunk, its bytes are the blob's next ones.
+ *
+ * BW_MISMATCH: every encoding that begins with the bytes accepted and this node has its first fault
+ * at *at. BW_TOO_MUCH, with 0 in *at. BW_OTHER_SIZE: `node` doesn't have the size wanted, or
+ * nothing is wanted. After a fault the check is unchanged, and other bytes can be tried. */
+BW_USE bw_status bw_feed_take(bw_feed *feed, const uint8_t *node, size_t node_len,
+                              uint64_t *at) BW_NONNULL(1, 4);
 
-/* Takes as many whole nodes as `bytes` begins with, of any number, verifies them eight chunks at a time, and puts the bytes of the chunks among
- * them to the start of `out`: bytes of the blob, in order. *taken says how many bytes were taken, and *filled how many of `out` are filled. What
- * isn't taken is less than the next node, or follows the last: hand it in again with what comes after it, or to bw_feed_finish. `out` has
- * room for as many bytes as are given, or else BW_ROOM, and nothing is changed; from *filled to there it is 0. BW_MISMATCH: the first fault of
- * every encoding that begins with what was taken and these bytes is at *at. BW_TOO_MUCH, with 0 in *at. After either, nodes before the fault may
- * have been taken and `out` is 0: begin a new check from the bytes on that earlier calls handed out. Pieces of 256 KiB take some
- * 1.2 times as long as their hash, and of 64 KiB 1.4 times: what a piece has of a subtree at its ends seldom fills eight lanes. */
-BW_USE bw_status bw_feed_take_many(bw_feed *feed, const uint8_t *bytes, size_t bytes_len, uint8_t *out, size_t out_len, size_t *taken, size_t *filled,
+/* Verifies as many whole nodes as `bytes` begins with, and copies the bytes of their chunks, which
+ * are the blob's next ones, to the front of `out`.
+ *
+ * `bytes` has any length, and `out` at least the same. *taken is how many bytes were accepted, and
+ * *filled how many of `out` are the blob's; the rest of the first `bytes_len` bytes of `out` is 0.
+ * What isn't accepted is less than the next node, or follows the last: pass it again with what
+ * arrives after it, or to bw_feed_finish.
+ *
+ * BW_ROOM: `out` is too small; nothing is changed. BW_MISMATCH: every encoding that begins with the
+ * bytes accepted and these has its first fault at *at. BW_TOO_MUCH, with 0 in *at. After either of
+ * these two, nodes before the fault may have been accepted, and `out` is 0: begin a new check after
+ * the bytes that earlier calls returned. */
+BW_USE bw_status bw_feed_take_many(bw_feed *feed, const uint8_t *bytes, size_t bytes_len,
+                                   uint8_t *out, size_t out_len, size_t *taken, size_t *filled,
                                    uint64_t *at) BW_NONNULL(1, 6, 7, 8);
 
-/* What is said of the whole encoding, which is what was taken and then `rest`: BW_OK exactly where it is accepted, BW_SHORT where a node comes
- * next, BW_TRAILING where none does and `rest` has bytes. BW_OTHER_SIZE: `rest` has all bytes of a node, which is to be taken first. The check
- * is as it was, and can go on. */
-BW_USE bw_status bw_feed_finish(bw_feed *feed, const uint8_t *rest, size_t rest_len, uint64_t *at) BW_NONNULL(1, 4);
+/* Returns the verdict on the encoding that consists of the bytes accepted so far and then `rest`.
+ *
+ * BW_OK exactly if it is accepted. BW_SHORT: a node is missing. BW_TRAILING: `rest` follows the
+ * last node. BW_OTHER_SIZE: `rest` has all bytes of the next node, which must be passed first. The
+ * check is unchanged, and can go on. */
+BW_USE bw_status bw_feed_finish(bw_feed *feed, const uint8_t *rest, size_t rest_len,
+                                uint64_t *at) BW_NONNULL(1, 4);
 
-/* --- Outboard encodings checked in pieces, of any size, while they come, and kept: at its end one is an outline. What is accepted, and else the
- * first fault and its place, are those of bw_check_outboard. A program hands bw_feed_push what came, again and again, and then asks for the outline.
- * Each call but bw_feed_outboard can answer BW_NO_HANDLE, as it does for a check in pieces that bw_feed_slice or bw_feed_combined made; so do
- * theirs for one that bw_feed_outboard made. */
+/* --- Outboard encodings checked in pieces, of any size, while they arrive, and kept: a complete
+ * one becomes an outline. What is accepted, and else the first fault and its offset, are those of
+ * bw_check_outboard. Pass whatever arrives to bw_feed_push, and then call bw_feed_outline. Each
+ * call but bw_feed_outboard may return BW_NO_HANDLE, as it does for a handle that bw_feed_slice or
+ * bw_feed_combined filled; their calls do so for one that bw_feed_outboard filled. */
 
-/* A check of an outboard encoding of which no byte has come; what the handle owned is freed. BW_MEMORY, with an empty handle. */
-BW_USE bw_status bw_feed_outboard(const bw_mode *mode, const uint8_t root[BW_AT_LEAST(BW_HASH_LEN)], bw_feed *feed) BW_NONNULL(1, 3);
+/* Makes a check of an outboard encoding that has no bytes yet.
+ *
+ * What the handle owned is freed. BW_MEMORY: the handle is empty. */
+BW_USE bw_status bw_feed_outboard(const bw_mode *mode, const uint8_t root[BW_AT_LEAST(BW_HASH_LEN)],
+                                  bw_feed *feed) BW_NONNULL(1, 3);
 
-/* Takes the bytes that come next, and verifies each parent as soon as it is wholly there. BW_MISMATCH at a parent that is false, and BW_TRAILING
- * where something follows the last: that is the first fault of every outboard encoding that begins with what was taken and these bytes, at *at.
- * BW_MEMORY. None of the bytes are taken then, and others can come in their place. */
-BW_USE bw_status bw_feed_push(bw_feed *feed, const uint8_t *bytes, size_t bytes_len, uint64_t *at) BW_NONNULL(1, 4);
+/* Appends `bytes`, and verifies each parent as soon as it is complete.
+ *
+ * BW_MISMATCH: a parent is false. BW_TRAILING: something follows the last. Every outboard encoding
+ * that begins with the bytes kept and these has its first fault at *at. BW_MEMORY. After a fault
+ * none of `bytes` are kept, and others can be passed in their place. */
+BW_USE bw_status bw_feed_push(bw_feed *feed, const uint8_t *bytes, size_t bytes_len,
+                              uint64_t *at) BW_NONNULL(1, 4);
 
-/* Makes an outline of the encoding that came, as bw_outline_new makes one, but no parent is hashed once more and no byte is copied. `feed` is empty
- * then; what `outline` owned is freed. BW_SHORT: the encoding goes on, with the node that comes next at *at, and more of it can be handed in.
- * BW_MEMORY: `feed` is empty then. `outline` is empty after either. The length isn't certified, as bw_outline_length says. */
-BW_USE bw_status bw_feed_outline(bw_feed *feed, bw_outline *outline, uint64_t *at) BW_NONNULL(1, 2, 3);
+/* Makes an outline of the encoding that arrived, as bw_outline_new does, without hashing or copying
+ * it again.
+ *
+ * `feed` is empty afterwards, and what `outline` owned is freed. The length isn't certified, as
+ * bw_outline_length says. BW_SHORT: the encoding isn't complete; the next node is at *at, and more
+ * can be passed. BW_MEMORY: `feed` is empty. After either `outline` is empty. */
+BW_USE bw_status bw_feed_outline(bw_feed *feed, bw_outline *outline,
+                                 uint64_t *at) BW_NONNULL(1, 2, 3);
 
-/* --- The store that threads share: each thread has a seat of its own, and the store lives until its last seat is freed. Nothing is taken on
- * anybody's word: what is stored comes from encodings accepted under the store's root. Chunks are in groups of 64, and a mask is of a group:
- * bit j stands for chunk 64 * group + j. Chunks, groups and the positions of a read are counted from the store's first chunk, and what a slice
- * is asked by from the blob's: in a store of bw_store_new these are the same chunk. Each call can answer BW_NO_HANDLE. */
+/* --- The store that threads share: each thread has a seat of its own, and the store lives until
+ * its last seat is freed. All that it holds comes from encodings accepted under its root. Chunks
+ * are in groups of 64, and a mask is of one group: bit j stands for chunk 64 * group + j. Chunks,
+ * groups and the offsets of a read are counted from the store's first chunk, and the range of a
+ * slice from the blob's; in a store of bw_store_new the two are the same. Each call may return
+ * BW_NO_HANDLE. */
 
-/* A store of at most `capacity` chunks, 1 to 65,536, and its first seat; what the handle owned is freed. It takes the memory for all of them now,
- * some 1,096 bytes a chunk, so 72 MB at most: where the length is known, give it the blob's number of chunks. A blob of more than 64 MiB goes
- * part by part, by bw_store_part, or without a store, by bw_check_slice or a check in pieces. BW_CAPACITY, BW_STORE_MEMORY, BW_MEMORY: the handle
- * is empty then. */
-BW_USE bw_status bw_store_new(const bw_mode *mode, const uint8_t root[BW_AT_LEAST(BW_HASH_LEN)], uint32_t capacity, bw_seat *seat) BW_NONNULL(1, 4);
+/* Makes a store of at most `capacity` chunks, 1 to 65,536, and its first seat.
+ *
+ * All memory is taken now: some 1,096 bytes a chunk, so at most 72 MB. What the handle owned is
+ * freed. BW_CAPACITY, BW_STORE_MEMORY, BW_MEMORY: the handle is empty. */
+BW_USE bw_status bw_store_new(const bw_mode *mode, const uint8_t root[BW_AT_LEAST(BW_HASH_LEN)],
+                              uint32_t capacity, bw_seat *seat) BW_NONNULL(1, 4);
 
-/* A store of a part of a blob, in the same way: of `capacity` chunks from chunk `first_chunk` of the blob on, which is the store's chunk 0. So a
- * blob of any length is put together in the memory of one part, as examples/windows.c does it: its workers call bw_seat_take, bw_seat_commit_chunks
- * or bw_seat_commit, and bw_seat_give, and the part is read from position 0 on by bw_seat_read. What was read in order is the blob where a hasher
- * that took it all in has the root.
- * A length is recorded in a store from chunk 0 on alone, and there only where all of the blob has room. In a part from a later chunk on
- * bw_seat_settle answers BW_TOO_LARGE for each length that is certified, bw_seat_length and bw_seat_finish BW_UNFINISHED, bw_seat_commit_all,
- * bw_seat_commit_parents and bw_outline_commit BW_OTHER_LENGTH, and bw_seat_serve_slice BW_NO_LENGTH; bw_gather and bw_seat_salvage commit nothing
- * there. BW_CAPACITY also where `first_chunk` is above 2^54. */
-BW_USE bw_status bw_store_part(const bw_mode *mode, const uint8_t root[BW_AT_LEAST(BW_HASH_LEN)], uint64_t first_chunk, uint32_t capacity,
+/* Makes a store of a part of a blob: of `capacity` chunks from chunk `first_chunk` of the blob on,
+ * which is the store's chunk 0; else as bw_store_new.
+ *
+ * BW_CAPACITY also if `first_chunk` is above 2^54. Only a store from chunk 0 on records a length,
+ * and only if all of the blob fits. In a store from a later chunk on bw_seat_settle returns
+ * BW_TOO_LARGE for each certified length, bw_seat_length and bw_seat_finish BW_UNFINISHED,
+ * bw_seat_commit_all, bw_seat_commit_parents and bw_outline_commit BW_OTHER_LENGTH, and
+ * bw_seat_serve_slice BW_NO_LENGTH; bw_gather and bw_seat_salvage commit nothing. */
+BW_USE bw_status bw_store_part(const bw_mode *mode, const uint8_t root[BW_AT_LEAST(BW_HASH_LEN)],
+                               uint64_t first_chunk, uint32_t capacity,
                                bw_seat *seat) BW_NONNULL(1, 5);
 
-/* Another seat of the store, which has seen the same and claims nothing; what `other` owned is freed. BW_SPLIT_MEMORY, BW_MEMORY: `other` is
- * empty then. */
+/* Makes `other` another seat of the store, which has seen the same and claims nothing.
+ *
+ * What `other` owned is freed. BW_SPLIT_MEMORY, BW_MEMORY: `other` is empty. */
 BW_USE bw_status bw_seat_split(bw_seat *seat, bw_seat *other) BW_NONNULL(1, 2);
 
-/* Joins two seats of one store: `seat` has the claims of both, and `other` is empty. The thread that calls has both handles: the other's thread
- * has ended and was joined, say, or has handed it over. A seat that is freed while it has claims keeps their chunks from all others, so
- * give them back first, or join it. BW_OTHER_STORE where their stores differ in root, mode, capacity or first chunk, and so can be told apart; that
- * stores which are alike in these aren't mixed up is a rule of above. Both handles are as they were then. No memory is taken. */
+/* Joins two seats of one store: `seat` has the claims of both, and `other` is empty.
+ *
+ * The calling thread must have both handles: the other's thread has ended and was joined, or has
+ * handed its seat over. Join a seat, or give its claims back, before you free it: the chunks that a
+ * freed seat claims stay claimed. BW_OTHER_STORE: the stores differ in root, mode, capacity or
+ * first chunk; both handles are unchanged. Stores that are alike in these can't be told apart: not
+ * mixing them up is one of the rules above. No memory is taken. */
 BW_USE bw_status bw_seat_join(bw_seat *seat, bw_seat *other) BW_NONNULL(1, 2);
 
-/* Lets two seats of one store meet: what either has seen both have seen then. Their claims stay as they are, and no reply of a later call is
- * another one by it: it is for those who reason about what their seats have seen. BW_OTHER_STORE and the thread as bw_seat_join. */
+/* Lets two seats of one store see what either has seen.
+ *
+ * Claims and the results of later calls are unaffected; it exists for proofs. BW_OTHER_STORE, and
+ * the calling thread, as for bw_seat_join. */
 BW_USE bw_status bw_seat_meet(bw_seat *seat, bw_seat *other) BW_NONNULL(1, 2);
 
-/* Claims the wanted chunks that are neither held nor claimed. BW_NO_GROUP. */
-BW_USE bw_status bw_seat_take(bw_seat *seat, uint32_t group, uint64_t want, uint64_t *granted) BW_NONNULL(1, 4);
+/* Claims those chunks of `want` that are neither held nor claimed; *granted is their mask.
+ *
+ * BW_NO_GROUP. */
+BW_USE bw_status bw_seat_take(bw_seat *seat, uint32_t group, uint64_t want,
+                              uint64_t *granted) BW_NONNULL(1, 4);
 
-/* Ends the seat's claims among the mask. */
-BW_USE bw_status bw_seat_give(bw_seat *seat, uint32_t group, uint64_t mask, uint64_t *given) BW_NONNULL(1, 4);
+/* Ends the seat's claims to chunks of `mask`; *given is the mask of those that it had. */
+BW_USE bw_status bw_seat_give(bw_seat *seat, uint32_t group, uint64_t mask,
+                              uint64_t *given) BW_NONNULL(1, 4);
 
-/* Checks an encoding as the slice (start, len), once, and stores all that it has, so that the store can serve it: each chunk of it that nobody
- * holds and no other seat claims, whatever its group, and each parent of it; one that another seat is storing just then is held once that one is
- * done. *committed and *parents say how many of each. Nothing has to be taken before: bw_seat_take is for seats that share out who fetches what,
- * and of the slice's chunks the seat claims none afterwards. BW_SHORT, BW_MISMATCH, BW_TRAILING as bw_check_slice. BW_OTHER_LENGTH: nothing is
- * stored, since the length that the encoding claims isn't the recorded one, or none is recorded yet: bw_seat_settle comes first. */
-BW_USE bw_status bw_seat_commit_all(bw_seat *seat, uint64_t start, uint64_t len, const uint8_t *text, size_t text_len, uint64_t *committed,
+/* Checks `text` as the slice (start, len), and stores all that it has, so that the store can serve
+ * it.
+ *
+ * That is each chunk, of any group, that nobody holds and no other seat claims, and each parent; a
+ * parent that another seat is storing at that moment is held once that seat is done. *committed and
+ * *parents are how many of each were stored. Nothing needs to be claimed first, and afterwards the
+ * seat claims none of the slice's chunks. A check fault. BW_OTHER_LENGTH: nothing is stored,
+ * because the encoding claims another length than the recorded one, or none is recorded: call
+ * bw_seat_settle first. */
+BW_USE bw_status bw_seat_commit_all(bw_seat *seat, uint64_t start, uint64_t len,
+                                    const uint8_t *text, size_t text_len, uint64_t *committed,
                                     uint64_t *parents, uint64_t *at) BW_NONNULL(1, 6, 7, 8);
 
-/* Checks an encoding as the slice (start, len), once, and stores the chunks that it has, as bw_seat_commit_all does, but no parents: no length has
- * to be recorded, so that it is for a part of a blob too. Chunks that the store has no room for are left out. *committed says how many were stored.
- * BW_SHORT, BW_MISMATCH, BW_TRAILING as bw_check_slice. */
-BW_USE bw_status bw_seat_commit_chunks(bw_seat *seat, uint64_t start, uint64_t len, const uint8_t *text, size_t text_len, uint64_t *committed,
+/* Checks `text` as the slice (start, len), and stores its chunks as bw_seat_commit_all does, but no
+ * parents.
+ *
+ * No length needs to be recorded, so this works for a part of a blob too. Chunks that the store has
+ * no room for are left out. *committed is how many were stored. A check fault. */
+BW_USE bw_status bw_seat_commit_chunks(bw_seat *seat, uint64_t start, uint64_t len,
+                                       const uint8_t *text, size_t text_len, uint64_t *committed,
                                        uint64_t *at) BW_NONNULL(1, 6, 7);
 
-/* Which chunks of the group are held, without claiming any: bit j of *mask stands for chunk 64 * group + j, which was asked for its first byte, one
- * after another. Others may store meanwhile. The chunk of a blob of no bytes has none, and isn't told. BW_NO_GROUP. */
+/* Returns in *mask which chunks of the group are held, and claims none.
+ *
+ * The chunks are looked up one after another, by their first byte, while others may store. The
+ * chunk of an empty blob has no byte, and is never reported. BW_NO_GROUP. */
 BW_USE bw_status bw_seat_held(bw_seat *seat, uint32_t group, uint64_t *mask) BW_NONNULL(1, 3);
 
-/* Checks an encoding as the slice (start, len), stores exactly the chunks of the group that the seat claims and the encoding has, and ends these
- * claims; no parents, without which no slice is served. BW_SHORT, BW_MISMATCH, BW_TRAILING as bw_check_slice. */
-BW_USE bw_status bw_seat_commit(bw_seat *seat, uint32_t group, uint64_t start, uint64_t len, const uint8_t *text, size_t text_len,
-                                uint64_t *committed, uint64_t *at) BW_NONNULL(1, 7, 8);
+/* Checks `text` as the slice (start, len), stores exactly those chunks of the group that the seat
+ * claims and the encoding has, and ends these claims; *committed is their mask.
+ *
+ * No parents are stored, and without them no slice is served. A check fault. */
+BW_USE bw_status bw_seat_commit(bw_seat *seat, uint32_t group, uint64_t start, uint64_t len,
+                                const uint8_t *text, size_t text_len, uint64_t *committed,
+                                uint64_t *at) BW_NONNULL(1, 7, 8);
 
-/* Checks an encoding as the slice (2^64 - 1, 1), which has the last chunk, and records its length, if none is recorded. BW_SHORT, BW_MISMATCH,
- * BW_TRAILING, BW_NO_TAIL, BW_TOO_LARGE, BW_DIFFERS. Without a store bw_decode of this slice tells the certified length. */
-BW_USE bw_status bw_seat_settle(bw_seat *seat, const uint8_t *text, size_t text_len, uint64_t *at) BW_NONNULL(1, 4);
+/* Checks `text` as the slice (2^64 - 1, 1), which has the last chunk, and records the length that
+ * it certifies, if none is recorded.
+ *
+ * A check fault, BW_NO_TAIL, BW_TOO_LARGE, BW_DIFFERS. Without a store, bw_decode of this slice
+ * returns the certified length. */
+BW_USE bw_status bw_seat_settle(bw_seat *seat, const uint8_t *text, size_t text_len,
+                                uint64_t *at) BW_NONNULL(1, 4);
 
-/* Checks an encoding as the slice (start, len), and stores its parents at boundaries of the group: bit j of *stored stands for the parent whose
- * right part begins at chunk 64 * group + j. A slice's parents belong to several groups: the root of 64 MiB to group 512. So one call for
- * the group of the chunks doesn't make the slice one that the store can serve; bw_seat_commit_all does. BW_SHORT, BW_MISMATCH, BW_TRAILING,
- * BW_OTHER_LENGTH. */
-BW_USE bw_status bw_seat_commit_parents(bw_seat *seat, uint32_t group, uint64_t start, uint64_t len, const uint8_t *text, size_t text_len,
-                                        uint64_t *stored, uint64_t *at) BW_NONNULL(1, 7, 8);
+/* Checks `text` as the slice (start, len), and stores its parents at boundaries of the group: bit j
+ * of *stored stands for the parent whose right child begins at chunk 64 * group + j.
+ *
+ * A slice's parents are in several groups, the top one of 64 MiB in group 512, so storing those of
+ * the chunks' own group doesn't make the slice one that the store can serve; bw_seat_commit_all
+ * does. A check fault, BW_OTHER_LENGTH. */
+BW_USE bw_status bw_seat_commit_parents(bw_seat *seat, uint32_t group, uint64_t start, uint64_t len,
+                                        const uint8_t *text, size_t text_len, uint64_t *stored,
+                                        uint64_t *at) BW_NONNULL(1, 7, 8);
 
-/* One worker's round over one encoding, which may be the blob's combined encoding, or any bytes: N threads with a seat each are N workers, with
- * the numbers 0 to N - 1. Where no length is recorded, it cuts out the slice of the last byte and settles the length that this certifies;
- * it ends where there is none, or where it is too large. Then it goes once round all groups, from its own part of them on, takes each group's
- * chunks, cuts out their slice, commits from it and stores its parents, and gives back what is left. What it did is added to *report, which
- * begins as all 0. The answer is BW_OK also where nothing was committed; another encoding is another call. Its seat claims nothing more.
- * Where several seats gather at once, a last round is owed: a worker passes by a group that another one claims at that time, and the other
- * may have to give it back. So when all have ended, join their seats to one, and let it do bw_gather(&seat, 0, 1, ..) once more
- * with each encoding that there is. A group that is lacking then is damaged in each of them: bw_seat_salvage. */
-BW_USE bw_status bw_gather(bw_seat *seat, uint32_t number, uint32_t workers, const uint8_t *text, size_t text_len,
-                           bw_report *report) BW_NONNULL(1, 6);
+/* Gathers from one encoding: the round of worker `number` of `workers`, which are numbered from 0.
+ *
+ * `text` is the blob's combined encoding, or any bytes. If no length is recorded, the call settles
+ * the one that the slice of the last byte certifies; it ends if there is none, or if it is too
+ * large. Then it goes once round all groups, beginning with the worker's own part of them: it
+ * claims a group's chunks, cuts out and checks their slice, stores its chunks and parents, and
+ * gives back what is left. Last, for each group of which a parent isn't held, it stores the parents
+ * of the group's slice alone: the chunks may have come from an encoding that claims another length.
+ * The seat claims nothing afterwards.
+ *
+ * What was done is added to *report, which begins as all 0. BW_OK also if nothing was committed. If
+ * several seats gathered at once, join them when all have ended, and let the one seat call
+ * bw_gather(&seat, 0, 1, ..) once more with each encoding. A group that is still missing then is
+ * damaged in every encoding: see bw_seat_salvage. */
+BW_USE bw_status bw_gather(bw_seat *seat, uint32_t number, uint32_t workers, const uint8_t *text,
+                           size_t text_len, bw_report *report) BW_NONNULL(1, 6);
 
-/* As bw_gather by one worker, but each chunk is taken, cut out and committed by itself, so that one that is damaged costs no other: for what is left
- * where each encoding that there is is damaged in the same group. It asks for each chunk that isn't held, which costs the way to it each time. */
-BW_USE bw_status bw_seat_salvage(bw_seat *seat, const uint8_t *text, size_t text_len, bw_report *report) BW_NONNULL(1, 4);
+/* Gathers from one encoding as one worker's bw_gather does, but chunk by chunk, so that a damaged
+ * chunk costs no other.
+ *
+ * It is for groups that are damaged in every encoding. It asks for each chunk that isn't held, and
+ * each costs the parents above it. */
+BW_USE bw_status bw_seat_salvage(bw_seat *seat, const uint8_t *text, size_t text_len,
+                                 bw_report *report) BW_NONNULL(1, 4);
 
-/* The recorded length of the blob. BW_UNFINISHED: none is. */
+/* Returns the recorded length of the blob in *len.
+ *
+ * BW_UNFINISHED: none is recorded. */
 BW_USE bw_status bw_seat_length(bw_seat *seat, uint64_t *len) BW_NONNULL(1, 2);
 
-/* Fills `out` with the bytes from position `from` of the store on, which in a store from chunk 0 on is byte `from` of the blob. BW_MISSING: the first
- * that isn't held is at *missing, and those before it are filled in. */
-BW_USE bw_status bw_seat_read(bw_seat *seat, uint64_t from, uint8_t *out, size_t out_len, uint64_t *missing) BW_NONNULL(1, 5);
+/* Fills `out` with the bytes from offset `from` of the store on; in a store from chunk 0 on that is
+ * byte `from` of the blob.
+ *
+ * BW_MISSING: the first byte that isn't held is at *missing, and those before it are filled in. */
+BW_USE bw_status bw_seat_read(bw_seat *seat, uint64_t from, uint8_t *out, size_t out_len,
+                              uint64_t *missing) BW_NONNULL(1, 5);
 
-/* Puts the encoding of the slice (start, len) to the start of `out`, also of an unfinished store. BW_NO_LENGTH, BW_LACKING, BW_SERVE_MEMORY.
- * BW_ROOM: *used says how long it is, as bw_slice_len of the recorded length does. */
-BW_USE bw_status bw_seat_serve_slice(bw_seat *seat, uint64_t start, uint64_t len, uint8_t *out, size_t out_len, size_t *used,
+/* Writes the encoding of the slice (start, len) to the front of `out`, with its length in *used.
+ * The store may be unfinished.
+ *
+ * BW_NO_LENGTH, BW_LACKING, BW_SERVE_MEMORY. BW_ROOM: *used is the length needed, which is
+ * bw_slice_len of the recorded length. */
+BW_USE bw_status bw_seat_serve_slice(bw_seat *seat, uint64_t start, uint64_t len, uint8_t *out,
+                                     size_t out_len, size_t *used,
                                      bw_node *lacking) BW_NONNULL(1, 6, 7);
 
-/* Puts the whole blob to the start of `out`, once the hash of its bytes is the root. BW_UNFINISHED: no length is recorded, or a byte isn't held.
- * BW_ROOM, before any byte is read: *used is the recorded length. BW_NOT_THE_ROOT: all bytes are held, and their hash is another. Nothing is
- * claimed. After BW_UNFINISHED and BW_NOT_THE_ROOT `out` may have been written to. */
-BW_USE bw_status bw_seat_finish(bw_seat *seat, uint8_t *out, size_t out_len, size_t *used) BW_NONNULL(1, 4);
+/* Writes the whole blob to the front of `out`, and its length to *used, if the hash of its bytes is
+ * the root.
+ *
+ * It claims nothing. BW_ROOM, before any byte is read: *used is the recorded length. BW_UNFINISHED:
+ * no length is recorded, or a byte isn't held. BW_NOT_THE_ROOT: all bytes are held, and their hash
+ * is another. After either of these two `out` may have been written. */
+BW_USE bw_status bw_seat_finish(bw_seat *seat, uint8_t *out, size_t out_len,
+                                size_t *used) BW_NONNULL(1, 4);
+
+/* --- Plans: which holder is asked for which chunks of a blob, and when.
+ *
+ * A plan does no IO, reads no clock and starts no thread: the caller asks it what to do and reports
+ * what happened. Chunks are in groups of 64. In a mask of a group, bit j stands for chunk
+ * 64 * group + j. Moments are milliseconds of any clock that doesn't go back; those from 2^63 on
+ * count as 2^63 - 1.
+ *
+ * A request is a range of chunks that a holder was asked for. It is under way until bw_plan_ended,
+ * which is called once for each. Only bw_plan_new and bw_plan_add_holder take memory: 16 bytes for
+ * each group, and 24 for each group and holder. Every call but bw_plan_new may return BW_NO_HANDLE,
+ * then BW_NO_HOLDER if it names a holder, then BW_NO_GROUP if it names a group. After a fault the
+ * plan and all results are unchanged. */
+
+/* What to do next with a holder. */
+#define BW_NEXT_NOTHING 0
+#define BW_NEXT_FETCH 1
+#define BW_NEXT_WAIT 2
+
+/* How a request ended. */
+#define BW_ENDED_OVER 0
+#define BW_ENDED_LATER 1
+#define BW_ENDED_CUT 2
+
+/* The numbers that a plan goes by. */
+typedef struct bw_plan_policy {
+    uint32_t faults;           /* failures in a row after which a holder is left out */
+    uint32_t pause_ms;         /* how long it is left alone after the first, doubled by each more */
+    uint32_t longest_pause_ms; /* at most this long */
+    uint32_t patience_ms;      /* after so long another holder is asked for the same chunks too */
+} bw_plan_policy;
+
+/* The answer of bw_plan_ask. */
+typedef struct bw_plan_next {
+    uint32_t kind;     /* BW_NEXT_NOTHING, BW_NEXT_FETCH or BW_NEXT_WAIT */
+    uint64_t first;    /* BW_NEXT_FETCH: the request's first chunk .. */
+    uint64_t count;    /* .. and how many it has, 1 to 1,024 */
+    uint64_t until_ms; /* BW_NEXT_WAIT: the moment, after now_ms */
+} bw_plan_next;
+
+typedef struct bw_plan {
+    void *at;
+} bw_plan;
+
+/* Frees a plan, and leaves the handle empty. */
+static inline void bw_plan_free(bw_plan *plan) { bw_free(plan); }
+
+/* Makes a plan of a blob of `total` bytes that lacks every chunk and has no holder.
+ *
+ * What the handle owned is freed. A blob of no bytes has one chunk. BW_MEMORY: the handle is
+ * empty. */
+BW_USE bw_status bw_plan_new(uint64_t total, const bw_plan_policy *policy,
+                             bw_plan *plan) BW_NONNULL(2, 3);
+
+/* Adds a holder that may have every chunk.
+ *
+ * *holder is its number: 0, 1, 2 and so on. BW_MEMORY. */
+BW_USE bw_status bw_plan_add_holder(bw_plan *plan, size_t *holder) BW_NONNULL(1, 2);
+
+/* Decides what to do next with a holder.
+ *
+ * BW_NEXT_FETCH: ask it for these chunks, which are under way at it from now on. Each is lacking
+ * and below the limit; the holder neither gave it falsely nor said that it lacks it; and no other
+ * holder is asked for it, unless one has had its time. Call again for another request beside this
+ * one. BW_NEXT_WAIT: nothing until that moment, or until something else is reported.
+ * BW_NEXT_NOTHING: the holder is left out, or has nothing that is lacking and not under way at it.
+ * When every holder has nothing, and nothing is under way, the plan is at its end. */
+BW_USE bw_status bw_plan_ask(bw_plan *plan, size_t holder, uint64_t now_ms,
+                             bw_plan_next *next) BW_NONNULL(1, 4);
+
+/* Reports chunks that a holder gave truly.
+ *
+ * *taken has those that were lacking; they no longer are, so each chunk is taken once. One that is
+ * taken ends the holder's failures in a row. The chunks needn't have been requested. */
+BW_USE bw_status bw_plan_kept(bw_plan *plan, size_t holder, uint64_t group, uint64_t mask,
+                              uint64_t *taken) BW_NONNULL(1, 5);
+
+/* Reports chunks that a holder gave falsely. It isn't asked for them again. */
+BW_USE bw_status bw_plan_refused(bw_plan *plan, size_t holder, uint64_t group,
+                                 uint64_t mask) BW_NONNULL(1);
+
+/* Reports chunks that a holder says it lacks. It isn't asked for them until it has them. */
+BW_USE bw_status bw_plan_lacks(bw_plan *plan, size_t holder, uint64_t group,
+                               uint64_t mask) BW_NONNULL(1);
+
+/* Reports chunks that a holder says it has, after it said that it lacks them. */
+BW_USE bw_status bw_plan_has(bw_plan *plan, size_t holder, uint64_t group,
+                             uint64_t mask) BW_NONNULL(1);
+
+/* Reports the end of the request of `count` chunks from `first` on, after what came of it was
+ * reported.
+ *
+ * `outcome` is BW_ENDED_LATER if the holder wants to be asked again after later_ms, BW_ENDED_CUT if
+ * the caller gave the request up through no fault of the holder, and else BW_ENDED_OVER, as is any
+ * other number. *failed is 1 if it counts as a failure: it wasn't cut, and none of its chunks was
+ * decided, which is to say taken from any holder, or given falsely or lacked by this one. The
+ * holder is then left alone for a pause. BW_NO_REQUEST: no such request is under way. */
+BW_USE bw_status bw_plan_ended(bw_plan *plan, size_t holder, uint64_t first, uint64_t count,
+                               uint32_t outcome, uint64_t later_ms, uint64_t now_ms,
+                               uint32_t *failed) BW_NONNULL(1, 8);
+
+/* Ranks a holder: it is asked only for chunks that no holder of a lower rank may have that may be
+ * asked at that time. Each begins with rank 0. */
+BW_USE bw_status bw_plan_rank(bw_plan *plan, size_t holder, uint32_t rank) BW_NONNULL(1);
+
+/* Forgets a holder's failures in a row.
+ *
+ * If it was left out, it is asked again, but not for what it gave falsely. A pause that it is in
+ * stays. */
+BW_USE bw_status bw_plan_forgive(bw_plan *plan, size_t holder) BW_NONNULL(1);
+
+/* Returns whether a holder is left out, as 1 or 0 in *is. */
+BW_USE bw_status bw_plan_is_left_out(bw_plan *plan, size_t holder, uint32_t *is) BW_NONNULL(1, 3);
+
+/* Limits requests to chunks below `end`, the end of a window. */
+BW_USE bw_status bw_plan_limit(bw_plan *plan, uint64_t end) BW_NONNULL(1);
+
+/* Returns whether no chunk is lacking, as 1 or 0 in *is. */
+BW_USE bw_status bw_plan_is_done(bw_plan *plan, uint32_t *is) BW_NONNULL(1, 2);
+
+/* Returns the chunks of a group that are lacking, in *mask. */
+BW_USE bw_status bw_plan_lacking(bw_plan *plan, uint64_t group, uint64_t *mask) BW_NONNULL(1, 3);
 
 #ifdef __cplusplus
 }

@@ -77,6 +77,35 @@ static int gathers(const uint8_t *root, const uint8_t *blob, size_t blob_len, co
     return refused;
 }
 
+/* A plan and its holder; no other call of a plan takes memory. */
+static void plans(void) {
+    const bw_plan_policy policy = {1, 1, 1, 1};
+    for (int refused = 1, n = 0; refused != 0; n++) {
+        bw_plan plan = BW_EMPTY;
+        bw_plan_next next = {0, 0, 0, 0};
+        size_t holder = 7;
+        uint64_t taken = 0;
+        uint32_t flag = 0;
+        left = n;
+        bw_status made = bw_plan_new(70000, &policy, &plan), added = bw_plan_add_holder(&plan, &holder);
+        refused = made != BW_OK || added != BW_OK;
+        WANT(made == BW_OK || (made == BW_MEMORY && plan.at == NULL));
+        WANT(added == BW_OK ? holder == 0 : holder == 7 && added == (made == BW_OK ? BW_MEMORY : BW_NO_HANDLE));
+        left = -1;
+        if (made == BW_OK && added != BW_OK) WANT(bw_plan_add_holder(&plan, &holder) == BW_OK && holder == 0);
+        left = 0;
+        if (made == BW_OK) {
+            WANT(bw_plan_ask(&plan, 0, 0, &next) == BW_OK && next.kind == BW_NEXT_FETCH && next.count == 69);
+            WANT(bw_plan_kept(&plan, 0, 0, 1, &taken) == BW_OK && taken == 1 && bw_plan_refused(&plan, 0, 0, 2) == BW_OK);
+            WANT(bw_plan_lacks(&plan, 0, 1, 1) == BW_OK && bw_plan_has(&plan, 0, 1, 1) == BW_OK);
+            WANT(bw_plan_ended(&plan, 0, 0, 69, BW_ENDED_OVER, 0, 0, &flag) == BW_OK && flag == 0);
+        }
+        left = -1;
+        bw_plan_free(&plan);
+        WANT(n < 100);
+    }
+}
+
 int main(void) {
     static uint8_t blob[70000], text[80000], slice[80000], spare[80000];
     uint8_t root[BW_HASH_LEN], out[BW_HASH_LEN];
@@ -181,6 +210,7 @@ int main(void) {
         bw_hasher_free(&hasher), bw_seat_free(&seat), bw_seat_free(&other), bw_feed_free(&feed), bw_feed_free(&whole), bw_feed_free(&coming), bw_outline_free(&outline), bw_outline_free(&again), bw_outline_free(&came), bw_seat_free(&part);
         WANT(n < 1000);
     }
+    plans();
     for (int alone = 0; alone < 2; alone++)
         for (long n = 0; gathers(root, blob, sizeof blob, text, used, n, alone); n++) WANT(n < 1000);
     return 0;

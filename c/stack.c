@@ -133,6 +133,29 @@ static void gather(void) {
     bw_seat_free(&seat);
 }
 
+static void plan(void) {
+    const bw_plan_policy policy = {20, 1, 1000, 0};
+    bw_plan it = BW_EMPTY;
+    bw_plan_next next = {0, 0, 0, 0};
+    size_t holder = 0;
+    uint32_t flag = 0;
+    sink = bw_plan_new(UINT64_C(1) << 30, &policy, &it);
+    sink = bw_plan_add_holder(&it, &holder);
+    sink = bw_plan_ask(&it, 0, 0, &next);
+    sink = bw_plan_kept(&it, 0, 0, 1, &count);
+    sink = bw_plan_refused(&it, 0, 0, 2);
+    sink = bw_plan_lacks(&it, 0, 1, 1);
+    sink = bw_plan_has(&it, 0, 1, 1);
+    for (int k = 0; k < 20; k++) sink = bw_plan_ended(&it, 0, 64, 64, BW_ENDED_OVER, 0, 0, &flag), sink = bw_plan_ask(&it, 0, UINT64_MAX, &next);
+    sink = bw_plan_rank(&it, 0, 1);
+    sink = bw_plan_forgive(&it, 0);
+    sink = bw_plan_is_left_out(&it, 0, &flag);
+    sink = bw_plan_limit(&it, 1);
+    sink = bw_plan_is_done(&it, &flag);
+    sink = bw_plan_lacking(&it, 0, &count);
+    bw_plan_free(&it);
+}
+
 static void *run(void *what) {
     (*(void (**)(void))what)();
     return NULL;
@@ -158,7 +181,7 @@ static void nothing(void) {
 
 int main(void) {
     static const struct { const char *name; void (*what)(void); } calls[] = {
-        {"hash", hash}, {"write", write_texts}, {"ranges", range}, {"check", check}, {"outline", check_beside}, {"feed", pour}, {"store", store}, {"gather", gather},
+        {"hash", hash}, {"write", write_texts}, {"ranges", range}, {"check", check}, {"outline", check_beside}, {"feed", pour}, {"store", store}, {"gather", gather}, {"plan", plan},
     };
     size_t used, most = 0, none = taken_by(nothing);
     blob = malloc(BLOB_LEN), text = malloc(ROOM), outboard = malloc(ROOM), out = malloc(ROOM);

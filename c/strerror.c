@@ -14,7 +14,7 @@ const char *bw_strerror(bw_status status) {
     case BW_COLLISION: return "two inputs with one chaining value";
     case BW_STORE_MEMORY: return "no memory for a store";
     case BW_CAPACITY: return "the capacity isn't 1 to 65,536 chunks";
-    case BW_NO_GROUP: return "the store has no such group";
+    case BW_NO_GROUP: return "there is no such group";
     case BW_OTHER_ROOT: return "the outline is of another root or mode";
     case BW_TOO_LARGE: return "the length is above the store's room";
     case BW_SPLIT_MEMORY: return "no memory for a seat";
@@ -37,6 +37,8 @@ const char *bw_strerror(bw_status status) {
     case BW_OTHER_STORE: return "the seats' stores differ";
     case BW_OTHER_SIZE: return "not as many bytes as a check in pieces takes";
     case BW_NO_MODE: return "the mode's kind isn't known";
+    case BW_NO_HOLDER: return "the plan has no such holder";
+    case BW_NO_REQUEST: return "no such request is under way";
     default: return "no status of this library";
     }
 }

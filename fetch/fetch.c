@@ -1,163 +1,79 @@
-#define _GNU_SOURCE
 #include "fetch.h"
 
-#include <stdlib.h>
-#include <string.h>
-#include <time.h>
+enum { PAUSE_MS = 100, OVERTAKE_MS = 1000, ROUND_MS = 1000, ROUND_MOST_MS = 10000, LOOK_MS = 1000 };
 
-enum { BAD_ENOUGH = 4, LOST_ENOUGH = 3, STALLS_ALONE = 12, LATE_COST = 1000 };
+/* --- Made and freed */
 
-/* How long a unit is left to one mirror, in seconds, before an idle one is asked for it as well; and then a third one. */
-static const double patience = 1;
-
-void fetch_lock(fetch *f) {
-    pthread_mutex_lock(&f->lock);
+bool read_hash(const char *digits, uint8_t hash[BW_HASH_LEN]) {
+    if (strlen(digits) != 64 || strspn(digits, "0123456789abcdefABCDEF") != 64) return false;
+    for (int i = 0; i < BW_HASH_LEN; i++) {
+        char pair[3] = {digits[2 * i], digits[2 * i + 1], 0};
+        hash[i] = (uint8_t)strtoul(pair, NULL, 16);
+    }
+    return true;
 }
 
-void fetch_unlock(fetch *f) {
-    pthread_mutex_unlock(&f->lock);
+int fetch_new(fetch **it, hub *on, const options *set, const char *root, const char *name) {
+    uint8_t bytes[BW_HASH_LEN];
+    if (!read_hash(root, bytes) || !*name) return say(USAGE, "usage: ROOT has 64 hexadecimal digits, and OUT a name (bw-fetch --help tells more)");
+    fetch *f = *it = calloc(1, sizeof *f);
+    if (!f) return no_memory();
+    f->hub = on, f->set = set, f->status = GOES_ON, f->changes = 1, f->began = f->moved_at = now_ms();
+    f->out.fd = -1, f->name = strdup(name), f->drain_bytes = malloc(DRAIN_LEN);
+    memcpy(f->root, bytes, BW_HASH_LEN);
+    if (!f->name || !f->drain_bytes || bw_hasher_new(&set->mode, &f->hasher)) return no_memory();
+    int status = out_new(&f->out, f->name, f->root);
+    return status == NO_MEMORY ? no_memory() : status;
 }
 
-void fetch_wait(fetch *f, pthread_cond_t *until, double seconds) {
-    struct timespec t;
-    clock_gettime(CLOCK_REALTIME, &t);
-    t.tv_nsec += (long)(seconds * 1e9);
-    t.tv_sec += t.tv_nsec / 1000000000, t.tv_nsec %= 1000000000;
-    pthread_cond_timedwait(until, &f->lock, &t);
+/* Local mirrors come before those of the network, and these before outboard encodings. */
+static int place_of(const peer *it) {
+    return it->at.kind == OUTBOARD ? 2 : !it->at.is_local;
 }
 
-void fetch_tell(fetch *f) {
-    pthread_cond_broadcast(&f->changed);
-    pthread_cond_broadcast(&f->whole);
+peer *fetch_add(fetch *f, const char *url, kind as) {
+    peer *it = calloc(1, sizeof *it), **at = &f->peers;
+    if (!it || !source_new(&it->at, url, as, as == OUTBOARD ? IN_MOST : (unsigned)f->set->connections)) return free(it), NULL;
+    while (*at && place_of(*at) <= place_of(it)) at = &(*at)->next;
+    it->next = *at, *at = it;
+    if (as != OUTBOARD) f->mirror_count++;
+    else if (!f->lines) f->lines = it;
+    return it;
 }
 
-void fetch_fail(fetch *f, int status) {
-    if (!f->failed) f->failed = status;
-    fetch_tell(f);
+bool fetch_is_quiet(fetch *f) {
+    exchange_sweep(f);
+    return !f->exchanges && !f->is_draining;
 }
 
-void fetch_leave_out(fetch *f, mirror *m, const char *why) {
-    if (m->gone) return;
-    m->gone = true, m->why = why;
-    if (f->first == m) f->first = NULL;
-    fetch_tell(f);
+void fetch_free(fetch *f) {
+    if (!f) return;
+    for (peer *it = f->peers, *next; it; it = next) next = it->next, source_free(&it->at), free(it->spine), free(it);
+    for (opener *it = f->openers, *next; it; it = next) next = it->next, free(it);
+    bw_plan_free(&f->length), bw_plan_free(&f->chunks), bw_plan_free(&f->parents), bw_hasher_free(&f->hasher);
+    free(f->own.at.shown), free(f->drain_bytes);
+    out_free(&f->out);
+    free(f->name), free(f);
 }
 
-bool fetch_leave_alone(fetch *f, place *it, double seconds) {
-    double now = seconds_now(), most = STALLS_ALONE * f->stall, until = now + (seconds < most ? seconds : most);
-    bool is_new = it->later <= now;
-    if (until > it->later) it->later = until;
-    return is_new;
-}
-
-bool place_waits(const place *it) {
-    return it->later > seconds_now();
-}
-
-/* --- The table of what is lacking */
+/* --- What is known */
 
 uint64_t units_of(uint64_t total) {
-    return total ? (total - 1) / UNIT_LEN + 1 : 1;
+    return (chunks_of(total) - 1) / UNIT_CHUNKS + 1;
 }
 
-unit *unit_at(const fetch *f, uint64_t number) {
-    return &f->units[number % f->room];
+uint64_t groups_of(uint64_t total) {
+    return (chunks_of(total) - 1) / BW_GROUP_CHUNKS + 1;
 }
-
-bool unit_is_whole(const unit *it) {
-    for (unsigned g = 0; g < UNIT_GROUPS; g++) {
-        if (it->open[g]) return false;
-    }
-    return true;
-}
-
-/* The end of the units that are in the table. */
-static uint64_t units_end(const fetch *f) {
-    return f->unit_count - f->first_unit < f->room ? f->unit_count : f->first_unit + f->room;
-}
-
-uint64_t chunks_in(uint64_t total, uint64_t group) {
-    uint64_t first = group * BW_GROUP_CHUNKS, count = chunks_of(total);
-    if (first >= count) return 0;
-    return count - first < BW_GROUP_CHUNKS ? ((uint64_t)1 << (count - first)) - 1 : UINT64_MAX;
-}
-
-/* The last chunk, where it is in the group and came with the length. */
-static uint64_t kept_last(const fetch *f, uint64_t group) {
-    uint64_t last = chunks_of(f->total) - 1;
-    return f->has_last && last / BW_GROUP_CHUNKS == group ? (uint64_t)1 << last % BW_GROUP_CHUNKS : 0;
-}
-
-uint64_t chunks_held(const fetch *f, uint64_t group) {
-    uint64_t number = group / UNIT_GROUPS, all = chunks_in(f->total, group);
-    if (number < f->first_unit) return all;
-    return number < units_end(f) ? all & ~unit_at(f, number)->open[group % UNIT_GROUPS] : kept_last(f, group);
-}
-
-/* Puts a unit of which nothing is there into its place of the table. */
-static void put_unit(fetch *f, uint64_t number) {
-    unit *it = unit_at(f, number);
-    *it = (unit){.under_way = 0};
-    for (unsigned g = 0; g < UNIT_GROUPS; g++) {
-        uint64_t group = number * UNIT_GROUPS + g;
-        it->open[g] = chunks_in(f->total, group) & ~kept_last(f, group);
-    }
-    for (unsigned i = 0; i < f->mirror_count; i++) f->mirrors[i].refused[number % f->room] = 0;
-    for (unsigned i = 0; i < f->line_count; i++) f->lines[i].refused[number % f->room] = 0;
-}
-
-void fetch_slide(fetch *f) {
-    while (f->first_unit < f->drained && !unit_at(f, f->first_unit)->under_way) {
-        f->first_unit++;
-        if (f->unit_count - f->first_unit < f->room) continue;
-        put_unit(f, f->first_unit + f->room - 1);
-        pthread_cond_broadcast(&f->changed);
-    }
-}
-
-void fetch_drained(fetch *f) {
-    f->drained++;
-    fetch_slide(f);
-}
-
-bool fetch_can_drain(const fetch *f) {
-    return f->settled && f->drained < units_end(f) && unit_is_whole(unit_at(f, f->drained));
-}
-
-bool fetch_sees_all(const fetch *f) {
-    return units_end(f) == f->unit_count;
-}
-
-bool fetch_is_all_there(const fetch *f) {
-    return f->settled && f->drained == f->unit_count;
-}
-
-static uint16_t *make_refused(const fetch *f) {
-    return calloc((size_t)f->room, sizeof(uint16_t));
-}
-
-static bool make_table(fetch *f, uint64_t total) {
-    uint64_t most = f->out.is_pipe ? WINDOW_UNITS : UNITS_MOST;
-    f->unit_count = units_of(total), f->room = f->unit_count < most ? f->unit_count : most;
-    f->units = calloc((size_t)f->room, sizeof *f->units);
-    bool ok = f->units;
-    for (unsigned i = 0; i < f->mirror_count; i++) ok = (f->mirrors[i].refused = make_refused(f)) && ok;
-    for (unsigned i = 0; i < f->line_count; i++) ok = (f->lines[i].refused = make_refused(f)) && ok;
-    if (!ok) return false;
-    f->total = total, f->chunks_open = chunks_of(total);
-    for (uint64_t u = 0; u < f->room; u++) put_unit(f, u);
-    return true;
-}
-
-/* --- The parents that are known: one may take the place of another one, which is asked for again then */
 
 static size_t place_of_known(uint64_t outboard_at) {
     return (size_t)(outboard_at / BW_PARENT_LEN * 0x9E3779B97F4A7C15 >> (64 - KNOWN_BITS));
 }
 
-void fetch_recall(const fetch *f, path *it) {
+/* One parent may take the place of another, which is asked for again then. */
+void fetch_recall(const fetch *f, trail *it) {
     for (size_t i = 0; i < it->count; i++) {
-        above *to = &it->list[i];
+        ancestor *to = &it->list[i];
         const known *from = &f->known[place_of_known(to->outboard_at)];
         if (to->is_known || from->outboard_at != to->outboard_at) continue;
         memcpy(to->text, from->text, BW_PARENT_LEN);
@@ -165,9 +81,9 @@ void fetch_recall(const fetch *f, path *it) {
     }
 }
 
-void fetch_remember(fetch *f, const path *it) {
+void fetch_remember(fetch *f, const trail *it) {
     for (size_t i = 0; i < it->count; i++) {
-        const above *from = &it->list[i];
+        const ancestor *from = &it->list[i];
         known *to = &f->known[place_of_known(from->outboard_at)];
         if (!from->is_known) continue;
         to->outboard_at = from->outboard_at;
@@ -175,136 +91,260 @@ void fetch_remember(fetch *f, const path *it) {
     }
 }
 
-/* The last chunk came with the length, and with it the parents above it. */
-static bool keep_last_chunk(fetch *f, const uint8_t *text, const uint8_t *chunk, size_t chunk_len) {
-    uint64_t last = chunks_of(f->total) - 1, number = f->unit_count - 1;
-    path above;
-    path_to(&above, f->total, number * UNIT_LEN, UNIT_LEN);
-    out_learn(&f->out, &above, last * BW_CHUNK_LEN, BW_CHUNK_LEN, text);
-    fetch_remember(f, &above);
-    if (f->out.is_pipe) return true;
-    if (!out_put(&f->out, last * BW_CHUNK_LEN, chunk, chunk_len)) return false;
-    f->has_last = true, f->chunks_open--;
-    if (number < units_end(f)) put_unit(f, number);
+void fetch_say(const fetch *f, const peer *of, const char *what) {
+    if (f->set->verbose) fprintf(stderr, "bw-fetch: %s: %s\n", of->at.shown, what ? what : of->at.why);
+}
+
+void fetch_wait(fetch *f, uint64_t until) {
+    f->waits = true;
+    if (until < f->wake) f->wake = until;
+}
+
+void fetch_must(fetch *f, bw_status of) {
+    if (of) fetch_stop(f, OTHER_ROOT);
+}
+
+void fetch_ended(fetch *f, bw_plan *plan, source *of, size_t holder, uint64_t first, uint64_t count, uint32_t how, uint64_t later_ms) {
+    uint32_t failed = 0;
+    fetch_must(f, bw_plan_ended(plan, holder, first, count, how, later_ms, now_ms(), &failed));
+    of->faults += failed;
+}
+
+void fetch_stop(fetch *f, int status) {
+    if (f->status != GOES_ON) return;
+    f->status = status;
+    atomic_store(&f->out.is_over, status != DONE);
+    for (exchange *e = f->exchanges; e; e = e->next) {
+        if (!e->is_over) e->is_over = true, f->live--, e->from->busy--, leg_cut(&e->leg);
+    }
+}
+
+/* The whole unit's bytes of a pipe go to its window; a file's were written already. */
+void fetch_keep(fetch *f, size_t holder, uint64_t group, uint64_t mask, const uint8_t *bytes) {
+    uint64_t taken = 0, start = group * GROUP_LEN;
+    if (bw_plan_kept(&f->chunks, holder, group, mask, &taken)) return fetch_stop(f, OTHER_ROOT);
+    f->chunks_open -= (uint64_t)__builtin_popcountll(taken);
+    if (taken) f->moved_at = now_ms(), f->rounds = 0;
+    for (unsigned j = 0; j < BW_GROUP_CHUNKS && f->out.is_pipe; j++) {
+        uint64_t at = start + (uint64_t)j * BW_CHUNK_LEN, len = f->total - at < BW_CHUNK_LEN ? f->total - at : BW_CHUNK_LEN;
+        if (taken >> j & 1 && at < f->total) out_put(&f->out, at, bytes + (size_t)j * BW_CHUNK_LEN, (size_t)len);
+    }
+}
+
+/* --- Who is in: at most so many at a time, that no list of mirrors costs more memory or descriptors */
+
+static bw_plan *plan_of(fetch *f, const peer *it) {
+    return it->at.kind == OUTBOARD ? &f->parents : &f->chunks;
+}
+
+bool fetch_has_left_out(fetch *f, const peer *it) {
+    uint32_t out = 0;
+    return it->is_in && plan_of(f, it)->at && !bw_plan_is_left_out(plan_of(f, it), it->holder, &out) && out;
+}
+
+static void let_in(fetch *f, peer *it) {
+    bw_plan *plan = plan_of(f, it);
+    it->is_in = true, it->rank = !it->at.is_local;
+    if (!f->is_settled) return;
+    it->is_in = !bw_plan_add_holder(plan, &it->holder) && !bw_plan_rank(plan, it->holder, it->rank);
+    f->no_memory |= !it->is_in;
+    for (uint64_t g = 0; g < groups_of(f->total) && it->is_in && it->at.kind == OUTBOARD; g++) fetch_must(f, bw_plan_lacks(plan, it->holder, g, UINT64_MAX));
+}
+
+bool fetch_admit(fetch *f) {
+    peer *m = f->next_in;
+    if (m == f->lines) return false;
+    f->next_in = m->next;
+    peer *line = f->has_own_lines ? m->line : f->lines;
+    for (int i = 0; i < (f->has_own_lines ? 1 : IN_MOST) && line; i++, line = line->next) {
+        if (!line->is_in) let_in(f, line);
+    }
+    let_in(f, m);
     return true;
 }
 
-void fetch_settle(fetch *f, uint64_t total, const uint8_t *text, const uint8_t *chunk, size_t chunk_len) {
-    if (f->settled || f->failed) return;
-    if (!make_table(f, total)) {
-        fetch_fail(f, 4);
-        return;
-    }
-    int status = out_open(&f->out, total);
-    if (status) {
-        fetch_fail(f, status);
-        return;
-    }
-    f->settled = true;
-    /* A mirror that certified no length may have other parts of the blob truly: it begins anew. */
-    for (unsigned i = 0; i < f->mirror_count; i++) f->mirrors[i].in_row = 0;
-    if (!keep_last_chunk(f, text, chunk, chunk_len)) fetch_fail(f, 3);
-    for (unsigned i = 0; i < f->conn_count; i++) {
-        conn *c = &f->conns[i];
-        if (c->opens && c->claimed == total && !unit_is_whole(unit_at(f, c->unit_number))) conn_adopt(c);
-    }
-    fetch_tell(f);
-}
-
-/* --- Who is asked for what */
-
-/* Whether the unit has an open group that the mirror hasn't given falsely, nor the outboard encoding its parents. */
-static bool may_give(const fetch *f, const mirror *m, const line *by, const unit *it) {
-    size_t at = (size_t)(it - f->units);
-    uint16_t refused = m->refused[at] | (by ? by->refused[at] : 0);
-    for (unsigned g = 0; g < UNIT_GROUPS; g++) {
-        if (it->open[g] && !(refused >> g & 1)) return true;
+/* Whether some mirror is in. */
+static bool admit_all(fetch *f) {
+    size_t in = 0;
+    for (peer *m = f->peers; m != f->next_in; m = m->next) in += m->is_in && !fetch_has_left_out(f, m);
+    for (; in < IN_MOST && f->next_in != f->lines; in++) fetch_admit(f);
+    for (peer *m = f->peers; m != f->next_in; m = m->next) {
+        if (m->is_in) return true;
     }
     return false;
 }
 
-/* The same, beside any outboard encoding where it needs one. */
-static bool may_have(const fetch *f, const mirror *m, const unit *it) {
-    if (m->is_bao) return may_give(f, m, NULL, it);
-    for (unsigned i = 0; i < f->line_count; i++) {
-        if (!f->lines[i].gone && may_give(f, m, &f->lines[i], it)) return true;
+/* --- The length is there */
+
+static bool make_plans(fetch *f) {
+    const options *o = f->set;
+    double longest = SETTLING * o->set.stall * 1000;
+    bw_plan_policy policy = {(uint32_t)o->retries, PAUSE_MS, (uint32_t)(longest < 1e9 ? longest : 1e9), OVERTAKE_MS};
+    bool ok = !bw_plan_new(f->total, &policy, &f->chunks);
+    policy.patience_ms = 0;
+    return ok && !bw_plan_new(f->total, &policy, &f->parents);
+}
+
+void fetch_settle(fetch *f, uint64_t total) {
+    f->is_settled = true, f->total = total, f->unit_count = units_of(total), f->chunks_open = chunks_of(total);
+    bw_plan_free(&f->length);
+    if (!make_plans(f)) return fetch_stop(f, NO_MEMORY);
+    int status = f->out.fd < 0 ? out_open(&f->out, total) : 0;
+    if (status) return fetch_stop(f, status);
+    for (peer *it = f->peers; it; it = it->next) {
+        if (it->is_in) let_in(f, it);
     }
-    return false;
+    if (!admit_all(f)) return fetch_stop(f, NO_MEMORY);     /* what is resumed needs a holder, too */
+    if (f->out.is_pipe) fetch_must(f, bw_plan_limit(&f->chunks, (uint64_t)WINDOW_UNITS * UNIT_CHUNKS));
 }
 
-/* Whether some other mirror, that isn't asked last or left alone, may have what is open in a unit. */
-static bool better_one_has(const fetch *f, const unit *it) {
-    for (unsigned i = 0; i < f->mirror_count; i++) {
-        const mirror *m = &f->mirrors[i];
-        if (!m->gone && !m->last && !place_waits(&m->place) && may_have(f, m, it)) return true;
+/* --- Hashed in order, as it stands in OUT.part.fetch or is passed on: this decides about status 0 */
+
+static bool is_unit_whole(fetch *f, uint64_t unit) {
+    uint64_t lacking = 0;
+    for (uint64_t g = unit * UNIT_GROUPS; g < (unit + 1) * UNIT_GROUPS && g < groups_of(f->total) && !lacking; g++) {
+        fetch_must(f, bw_plan_lacking(&f->chunks, g, &lacking));
     }
-    return false;
+    return !lacking;
 }
 
-static bool asks(const fetch *f, const mirror *m, const unit *it) {
-    for (unsigned i = 0; i < f->conn_count; i++) {
-        if (f->conns[i].unit == it && f->conns[i].mirror == m) return true;
+static void run_drain(job *of) {
+    fetch *f = of->with;
+    uint64_t from = f->drained * UNIT_LEN, end = f->total - from < UNIT_LEN ? f->total : from + UNIT_LEN;
+    f->drain_status = DONE;
+    out_write_back(&f->out, from, end - from);
+    while (from < end && !f->drain_status) {
+        size_t len = end - from < DRAIN_LEN ? (size_t)(end - from) : DRAIN_LEN;
+        if (!out_get(&f->out, from, f->drain_bytes, len) || !out_pass(&f->out, f->drain_bytes, len)) f->drain_status = FILE_FAULT;
+        else if (bw_hasher_update(&f->hasher, f->drain_bytes, len)) f->drain_status = OTHER_ROOT;
+        from += len;
     }
-    return false;
 }
 
-/* Whether the mirror may be asked for a unit at all. */
-static bool may_ask(fetch *f, const mirror *m, const unit *it) {
-    if (m->is_bao ? !may_give(f, m, NULL, it) : !fetch_line(f, m, it)) return false;
-    return !(m->last && m != f->first && better_one_has(f, it));
+static void was_drained(job *of) {
+    fetch *f = of->with;
+    f->is_draining = false;
+    if (f->drain_status) return fetch_stop(f, f->drain_status);
+    f->drained++, f->changes++, f->moved_at = now_ms();
+    if (f->out.is_pipe) fetch_must(f, bw_plan_limit(&f->chunks, (f->drained + WINDOW_UNITS) * UNIT_CHUNKS));
 }
 
-unit *fetch_next(fetch *f, const mirror *m, uint64_t *number) {
-    unit *late = NULL;
-    double now = seconds_now();
-    for (uint64_t u = f->drained; u < units_end(f); u++) {
-        unit *it = unit_at(f, u);
-        bool is_late = it->under_way && now - it->since > patience * it->under_way && (!late || it->since < late->since);
-        if ((it->under_way && !is_late) || !may_ask(f, m, it)) continue;
-        if (it->under_way && asks(f, m, it)) continue;
-        *number = u, late = it;
-        if (!it->under_way) return it;
+/* The last word: a proved hasher over the bytes that went to OUT. */
+static void run_finish(job *of) {
+    fetch *f = of->with;
+    uint8_t found[BW_HASH_LEN];
+    bool same = !bw_hasher_finish(&f->hasher, found) && !memcmp(found, f->root, BW_HASH_LEN);
+    f->drain_status = !same ? OTHER_ROOT : out_finish(&f->out) ? DONE : FILE_FAULT;
+}
+
+static void was_finished(job *of) {
+    fetch *f = of->with;
+    f->is_draining = false;
+    fetch_stop(f, f->drain_status == OTHER_ROOT ? say(OTHER_ROOT, "what was written hasn't the root") : f->drain_status);
+}
+
+static void drain_turn(fetch *f) {
+    bool finishes = f->drained == f->unit_count;
+    if (f->is_draining || (!finishes && !is_unit_whole(f, f->drained))) return;
+    for (exchange *e = f->exchanges; e && finishes; e = e->next) {
+        if (!e->is_over) exchange_end(e, BW_ENDED_CUT, 0);
+        if (e->is_busy) return;             /* it may still write behind the blob */
     }
-    return late;
+    f->is_draining = true;
+    f->drain = (job){.run = finishes ? run_finish : run_drain, .done = finishes ? was_finished : was_drained, .with = f};
+    pool_post(&f->hub->pool, f->out.is_pipe ? TO_READ : TO_COMPUTE, &f->drain);
 }
 
-/* One that doesn't take long just then, with the fewest faults, and rather the mirror's own one. */
-line *fetch_line(fetch *f, const mirror *m, const unit *of) {
-    line *best = NULL;
-    unsigned least = 0;
-    double now = seconds_now();
-    for (unsigned i = 0; i < f->line_count; i++) {
-        line *it = &f->lines[(m->own_line + i) % f->line_count];
-        if (it->gone || it->place.later > now || !may_give(f, m, it, of)) continue;
-        bool is_late = it->under_way && now - it->since > patience, is_false = it->claimed && it->claimed != f->total;
-        unsigned cost = it->faults + it->lost + it->bad + is_false + (is_late ? LATE_COST : 0);
-        if (!best || cost < least) best = it, least = cost;
-    }
-    return best;
+/* --- What an earlier run left is verified in place, before anybody is asked */
+
+static void start_resuming(fetch *f) {
+    char *name = strdup(f->out.part);
+    if (!name) return fetch_stop(f, NO_MEMORY);
+    f->own.at = (source){.shown = name, .kind = PLAIN, .fd = f->out.fd, .is_local = true};
+    f->own_line.at = (source){.shown = name, .kind = OUTBOARD, .fd = f->out.fd, .is_local = true, .base = f->out.total};
+    f->is_resuming = true;
+    fetch_settle(f, f->out.total);
 }
 
-bool fetch_can_go_on(const fetch *f) {
-    if (f->settled && f->drained == units_end(f)) return true;
-    for (unsigned i = 0; i < f->mirror_count; i++) {
-        const mirror *m = &f->mirrors[i];
-        if (m->gone || (!f->settled && m->is_mute)) continue;
-        if (!f->settled) return true;
-        for (uint64_t u = f->drained; u < units_end(f); u++) {
-            if (may_have(f, m, unit_at(f, u))) return true;
+static void resume_turn(fetch *f) {
+    while (f->status == GOES_ON && f->live < IN_MOST && f->resumed < f->unit_count) {
+        uint64_t unit = f->resumed++, at = out_data(&f->out, unit * UNIT_LEN), first = unit * UNIT_CHUNKS;
+        if (at >= (unit + 1) * UNIT_LEN) {
+            f->resumed = at / UNIT_LEN < f->unit_count ? at / UNIT_LEN : f->unit_count;
+            continue;
         }
+        exchange *e = exchange_new(f, &f->own);
+        if (!e) return f->live ? (void)f->resumed-- : fetch_stop(f, NO_MEMORY);
+        e->by = &f->own_line, e->get_first = first;
+        e->get_count = chunks_of(f->total) - first < UNIT_CHUNKS ? chunks_of(f->total) - first : UNIT_CHUNKS;
+        exchange_unit(e);
     }
-    return false;
+    f->is_resuming = f->live || f->resumed < f->unit_count;
 }
 
-void fetch_cut(fetch *f, const unit *of, const conn *but) {
-    for (unsigned i = 0; i < f->conn_count; i++) {
-        conn *c = &f->conns[i];
-        if (c->http && c != but && (!of || c->unit == of)) http_cut(c->http);
+/* --- The end */
+
+/* Those whose faults were the network's are asked again, after a while. False: there are none, or nothing came for too long. */
+static bool forgive(fetch *f, uint64_t now, bool some) {
+    if (!some || (double)(now - f->moved_at) >= f->set->patience * 1000) return false;
+    uint64_t pause = (uint64_t)ROUND_MS << (f->rounds < 4 ? f->rounds : 4);
+    f->rounds++, f->changes++;
+    for (peer *it = f->peers; it; it = it->next) {
+        it->later = now + (pause < ROUND_MOST_MS ? pause : ROUND_MOST_MS);
+        if (it->at.kind != OUTBOARD && !it->at.no_ranges) it->at.most = (unsigned)f->set->connections;
+        if (!it->is_in || !f->is_settled) continue;
+        if (it->at.is_far) fetch_must(f, bw_plan_forgive(plan_of(f, it), it->holder));
+        /* parents that no outboard encoding had may be had of one that is asked again */
+        for (uint64_t g = 0; g < groups_of(f->total) && it->at.kind == PLAIN; g++) fetch_must(f, bw_plan_has(&f->chunks, it->holder, g, UINT64_MAX));
     }
+    for (opener *it = f->openers; it && !f->is_settled; it = it->next) {
+        if (it->from->at.is_far) fetch_must(f, bw_plan_forgive(&f->length, it->holder));
+    }
+    fetch_wait(f, now + 1);
+    return true;
 }
 
-/* A mirror of mostly false groups, or one that others overtake, is asked last. */
-void fetch_judge(mirror *m) {
-    if (m->bad >= BAD_ENOUGH && m->bad > m->good) m->last = true;
-    if (m->lost >= LOST_ENOUGH && (uint64_t)m->lost * UNIT_GROUPS > m->good) m->last = true;
+static void give_up(fetch *f, uint64_t now) {
+    bool some = false, may_pass = false;    /* the network is why something is lacking: then it may be there later */
+    for (const peer *it = f->peers; it; it = it->next) {
+        bool is_far = it->at.is_far && it->at.faults;
+        some |= is_far && it->is_in, may_pass |= is_far;
+    }
+    if (!forgive(f, now, some)) fetch_stop(f, f->no_memory ? NO_MEMORY : may_pass ? UNREACHED : LACKING);
+}
+
+/* What is there before anything is asked for. */
+static void begin(fetch *f) {
+    f->next_in = f->peers;
+    for (peer *m = f->peers, *line = f->lines; m != f->lines && !f->has_own_lines; m = m->next) m->line = line = line->next ? line->next : f->lines;
+    if (out_is_right(&f->out, &f->set->mode, &f->total)) {
+        f->is_settled = true;
+        return fetch_stop(f, DONE);
+    }
+    if (f->set->check) return fetch_stop(f, LACKING);
+    int status = out_resume(&f->out);
+    if (status > 0) return fetch_stop(f, status);
+    if (!status && f->out.total <= f->set->most) return start_resuming(f);
+    const bw_plan_policy policy = {(uint32_t)f->set->retries, PAUSE_MS, (uint32_t)(SETTLING * f->set->set.stall * 1000), 0};
+    if (bw_plan_new(1, &policy, &f->length)) fetch_stop(f, NO_MEMORY);
+}
+
+bool fetch_turn(fetch *f, uint64_t now) {
+    exchange_sweep(f);
+    if (f->status != GOES_ON) return true;
+    f->wake = now + LOOK_MS, f->waits = false;
+    if (!f->length.at && !f->is_settled) begin(f);
+    bool is_late = f->set->max_time > 0 && (double)(now - f->began) > f->set->max_time * 1000;
+    if (f->status == GOES_ON && is_late) fetch_stop(f, say(UNREACHED, "--max-time is over"));
+    if (f->status == GOES_ON && !f->is_settled) open_all(f, now);
+    if (f->status == GOES_ON && f->is_resuming) resume_turn(f);
+    if (f->status == GOES_ON && f->is_settled) drain_turn(f);
+    if (f->status == GOES_ON && f->is_settled && !f->is_resuming) {
+        admit_all(f);
+        exchange_ask_all(f, now);
+    }
+    bool is_idle = !f->live && !f->waits && !f->is_draining && !f->is_resuming;
+    bool drains = f->is_settled && (f->drained == f->unit_count || is_unit_whole(f, f->drained));
+    if (f->status == GOES_ON && is_idle && !drains) give_up(f, now);
+    return f->status != GOES_ON;
 }

@@ -1,71 +1,168 @@
-/* One fetch: what its threads share, which mirror is asked for what, and what a connection does.
+/* One fetch of one blob. Who is asked for what, who is to blame and who is left out are the answers of three plans (berylwool.h):
+ * of the length, whose one chunk is what certifies it; of the blob's chunks, whose holders are mirrors; and of the parents above
+ * them, whose holders are outboard encodings. What is done here is to carry that out, and to report what came.
  *
- * The blob is fetched in units of 1 MiB, of 16 groups of 64 KiB. A group is verified as a slice of its own, put together of
- * parents that are known to be true and of what one mirror gave, or one mirror and one outboard encoding. The place of the
- * first fault tells whose it is.
- *
- * Memory doesn't grow with the blob. A request brings the parents of its unit, and of those above it what isn't known just
- * then: there is room for some. What was verified goes to the disk. The table begins with the first unit that isn't hashed
- * yet, and has room for some, too. */
+ * All is done in one thread, but for the jobs of a pool, which work on what an exchange has while nothing else touches it. The
+ * blob is asked for in units of 1 MiB, and verified in groups of 64 KiB, as slices put together of parents that are known to be
+ * true and of what came. The first fault in such a slice tells whose it is. */
 #ifndef BW_FETCH_FETCH_H
 #define BW_FETCH_FETCH_H
 
 #include "http.h"
-#include "out.h"
 
-#include <berylwool.h>
-#include <pthread.h>
+#include <stdatomic.h>
+#include <sys/types.h>
 
 enum {
     UNIT_LEN = 1 << 20,
+    UNIT_CHUNKS = UNIT_LEN / BW_CHUNK_LEN,
     UNIT_GROUPS = UNIT_LEN / GROUP_LEN,
-    MIRRORS_MOST = 64,
-    CONNECTIONS_MOST = 8,                   /* for each mirror */
+    UNIT_PARENTS = BW_NODES_MAX(UNIT_CHUNKS) - UNIT_CHUNKS,
+    WINDOW_UNITS = 16,                      /* of a pipe */
+    IN_MOST = 16,                           /* mirrors, and outboard encodings, that are asked at a time */
+    SETTLING = 12,                          /* stall times that a server is left alone at most */
     PIECES_MOST = 64,                       /* in one request */
-    HEAD_LEN = 12288                        /* of a file, asked for at first: see length.c */
+    HEAD_LEN = 12288,                       /* of a file, asked for at first: what a server may send over a new connection
+                                             * before it hears anything (RFC 6928) */
+    DRAIN_LEN = 262144,                     /* what is read back at once, so that it is in a near cache when it is hashed */
+    BYTES_MOST = UNIT_LEN + UNIT_PARENTS * BW_PARENT_LEN + BW_CHUNK_LEN + BW_DEPTH_MAX * BW_PARENT_LEN
 };
 
-/* So many units are in the table at once, and so many parents above units are known. The tests build with small ones. */
-#ifndef UNITS_MOST
-#define UNITS_MOST 16384
-#endif
+/* So many parents above units are known at once. The tests build with few. */
 #ifndef KNOWN_BITS
 #define KNOWN_BITS 13
 #endif
 #define KNOWN_MOST (1 << KNOWN_BITS)
 
-/* An outboard encoding, for mirrors that have the plain file. */
-typedef struct line {
-    place place;
-    bool gone;
-    uint64_t claimed;                       /* the length that it claims, or 0 where it wasn't asked */
-    unsigned faults, lost, bad;             /* requests that failed, and that were ended since they took long, and groups whose
-                                             * parents were refused */
-    unsigned under_way;                     /* requests, and when the first of them began, or the last one came */
-    double since;
-    uint64_t wrong;                         /* bytes that were refused */
-    uint16_t *refused;                      /* as a mirror's */
-} line;
+enum { DONE, LACKING, USAGE, FILE_FAULT, NO_MEMORY, OTHER_ROOT, UNREACHED, INTERRUPTED, GOES_ON };
 
-typedef struct mirror {
-    place place;
-    bool is_bao;                            /* it has the combined encoding, or else the plain file */
-    bool gone, last;                        /* left out; asked only for what no better one may have */
-    bool is_mute;                           /* it isn't asked for the length any more */
-    const char *why;
-    unsigned in_row, faults, lost, next_line;
-    unsigned own_line;                      /* which one it is asked beside, if others aren't better */
-    uint64_t good, bad, wrong;              /* groups that were taken, groups that were refused, bytes that were refused */
-    uint16_t *refused;                      /* for each unit of the table, the groups that it gave falsely: it isn't asked for
-                                             * them again */
-} mirror;
+typedef struct options {
+    settings set;
+    bw_mode mode;
+    uint64_t connections, retries, most;    /* a longer claim than `most` is refused */
+    double patience, max_time;              /* seconds; a max_time of 0 is none */
+    bool verbose, quiet, json, check;
+    int progress;                           /* a descriptor, or -1 */
+} options;
 
-typedef struct unit {
-    uint64_t open[UNIT_GROUPS];             /* the chunks that aren't there yet */
-    uint16_t busy;                          /* groups that are being written */
-    unsigned under_way;                     /* connections that ask for it, and since when the first of them does */
-    double since;
-} unit;
+/* --- out.c: OUT while it comes together: OUT.part.fetch beside it, which is renamed at the end, or for a pipe a window of the
+ * blob in memory. The file has the blob, with holes; after it the outboard encoding, with holes, of parents that were verified;
+ * and last its length and its root. After any end the next run verifies what is there, and goes on in place. */
+
+typedef struct output {
+    const char *path;                       /* what is replaced */
+    char *target, *part, *folder;           /* the same, where OUT is a link to it; OUT.part.fetch; and where that lies */
+    bool is_there, is_pipe;
+    mode_t mode;
+    uid_t user;
+    gid_t group;
+    uint8_t root[BW_HASH_LEN];
+    int fd;
+    atomic_bool is_full, is_over;           /* there is no room for parents; a pipe is written to no more */
+    uint64_t total;
+    uint8_t *window;
+    uint64_t window_len;
+} output;
+
+/* Names the files. What is there has to be a regular file that may be written. 0, or a status: 3 was said. */
+int out_new(output *it, const char *path, const uint8_t root[BW_HASH_LEN]);
+void out_free(output *it);
+
+/* Whether OUT has the root already, and how long it is. */
+bool out_is_right(const output *it, const bw_mode *mode, uint64_t *len);
+
+/* Opens what an earlier run left of the same root. 0 where there is something, -1 where not, or a status. */
+int out_resume(output *it);
+
+/* Makes OUT.part.fetch anew, or the window, for a blob of so many bytes. 0, or a status. */
+int out_open(output *it, uint64_t total);
+
+/* The first byte from there on that isn't in a hole, or UINT64_MAX. */
+uint64_t out_data(const output *it, uint64_t from);
+
+/* Bytes of the blob, to their place and from it. A pipe's lie within the window. */
+bool out_put(output *it, uint64_t from, const uint8_t *bytes, size_t len);
+bool out_get(const output *it, uint64_t from, uint8_t *bytes, size_t len);
+
+/* Has the disk begin with a range of the file, so that less is left to out_finish. */
+void out_write_back(const output *it, uint64_t from, uint64_t len);
+
+/* Writes the next bytes to a pipe; of a file nothing is to be done. */
+bool out_pass(output *it, const uint8_t *bytes, size_t len);
+
+/* Has the file on the disk and renames it to OUT. */
+bool out_finish(output *it);
+
+/* Keeps the parents of an accepted slice, but for those of the path that are known; these are known then. Whether one of the
+ * path is new. A pipe keeps none, nor does a file where there is no room for them: that ends no fetch. */
+bool out_learn(const output *it, trail *above, uint64_t start, uint64_t len, const uint8_t *text);
+
+/* --- A fetch */
+
+/* A mirror, or an outboard encoding. */
+typedef struct peer {
+    struct peer *next, *line;               /* line: the outboard encoding that is asked first beside a plain file */
+    source at;
+    bool is_in;                             /* it is asked */
+    size_t holder;                          /* its number in the plan */
+    uint32_t rank;
+    unsigned busy;                          /* exchanges with it */
+    uint64_t later, wait;                   /* it isn't asked before; and, by a plan, not before something else has changed */
+    uint64_t seen;                          /* how many changes there were when that was said */
+    uint64_t good, bad;                     /* groups that were taken, and refused */
+    unsigned lost;                          /* requests that others overtook */
+    uint64_t claimed;                       /* of an outboard encoding: the length, */
+    uint8_t *spine, *head;                  /* the parents above its last chunk, and then what it begins with, or NULL */
+    size_t head_len;
+} peer;
+
+/* Who may certify the length: a combined encoding; or a plain file beside an outboard encoding, which is asked at first for the
+ * parents above the last chunk. */
+typedef struct opener {
+    struct opener *next;
+    peer *from, *by;
+    size_t holder;
+    bool is_busy;
+} opener;
+
+typedef struct span {
+    unsigned low, high;                     /* chunks of a group, the last one too */
+} span;
+
+typedef struct fetch fetch;
+
+typedef struct exchange {
+    struct exchange *next;
+    fetch *fetch;
+    enum { HEAD, SPINE, PROOF, PARENTS, UNIT } step;
+    opener *opener;                         /* before the length is certified */
+    peer *from, *by;
+    bool is_over, has_ended;                /* the plans were told its end; its last bytes came */
+    leg_end end;
+    uint64_t claimed, unit;
+    bool opens_unit;                        /* the unit is asked for together with what certifies the length */
+    size_t certifying;                      /* so many of the first pieces do that */
+    bool is_asked, asks_line;               /* of which plan something is under way: */
+    uint64_t first, count, line_first, line_count;
+    uint64_t get_first, get_count;          /* the chunks that are asked for indeed */
+    trail above;
+    piece list[PIECES_MOST], parent_list[BW_RANGES_MAX];
+    pieces parts, parents;
+    size_t head_len, try_at;
+    leg leg;
+    /* of the job under way: */
+    bool is_busy, is_whole, is_certified, is_refuted, failed_to_write, learned, is_parent_false;
+    piece seen_list[PIECES_MOST];
+    pieces seen;
+    unsigned next_group, orphaned, taken;
+    uint64_t kept[UNIT_GROUPS], refused[UNIT_GROUPS], orphans[UNIT_GROUPS];
+    uint64_t wrong, wrong_of_line, wrong_parent;
+    uint8_t chunk[BW_CHUNK_LEN];
+    size_t chunk_len, slice_len;
+    job job;
+    uint8_t *head, *slice, *image;          /* what the file begins with; what certifies; a pipe's bytes that were verified */
+    uint8_t bytes[];                        /* what comes, and room for these */
+} exchange;
 
 /* A parent that is known to be true, above some unit. */
 typedef struct known {
@@ -73,165 +170,119 @@ typedef struct known {
     uint8_t text[BW_PARENT_LEN];
 } known;
 
-typedef struct fetch fetch;
-
-typedef struct span {
-    unsigned low, high;                     /* chunks of a group, the last one too */
-} span;
-
-typedef struct conn {
-    fetch *fetch;
-    pthread_t thread;
-    bool started;
-    mirror *mirror;
-    unsigned number;                        /* among those of its mirror */
-    http *http;
-    http_answer answer;                     /* the last one, and whether it counts as a fault where it is one */
-    bool counts;
-    bool opens;                             /* the length isn't certified yet, and its unit is asked for already */
-    uint64_t claimed;                       /* the length that the mirror claims then */
-    enum { UNSURE, CERTIFIED, REFUTED } opening;
-    size_t certifying;                      /* so many of the first pieces certify it */
-    unit *unit;                             /* whose bytes are asked for, or NULL */
-    uint64_t unit_number;
-    path above;                             /* the parents above it */
-    line *line;                             /* which outboard encoding has its parents, or NULL */
-    uint16_t asked;                         /* its groups that are asked for */
-    span spans[UNIT_GROUPS];
-    unsigned next_group, groups_taken, groups_orphaned;     /* of the last ones a parent was refused */
-    size_t try_at;                          /* how many bytes there have to be before the next group is tried */
-    bool was_last;
-    piece list[PIECES_MOST], parent_list[BW_RANGES_MAX];
-    pieces parts, parents;                  /* what is asked for, of the mirror and of an outboard encoding */
-    uint8_t *bytes, *text, *chunks;         /* what comes, a slice, and its chunks */
-    uint8_t *head;                          /* what a file begins with: of the outboard encoding head_of, so many bytes */
-    line *head_of;
-    size_t head_len;
-} conn;
-
 struct fetch {
-    bw_mode mode;
+    hub *hub;
+    const options *set;
+    char *name;                             /* OUT, as it was given */
     uint8_t root[BW_HASH_LEN];
-    uint64_t most;                          /* a longer claim is refused */
-    double stall;
-    bool verbose;
-
-    pthread_mutex_t lock;
-    pthread_cond_t changed, whole, written; /* there may be something to ask for, or nothing more; a unit is whole, or likewise;
-                                             * a group was written, or couldn't be */
-    mirror mirrors[MIRRORS_MOST + 1];
-    line lines[MIRRORS_MOST];
-    conn *conns;
-    unsigned mirror_count, line_count, conn_count;
-    mirror *first;                          /* what an earlier run left: it is asked alone, until it has nothing more */
-    bool quit, settled;
-    int failed;                             /* a status, once the fetch can't go on */
-    uint64_t claimed_above;                 /* the largest claim that was refused for its length */
-
-    uint64_t total, unit_count, chunks_open;
-    bool has_last;                          /* the last chunk came with the length */
-    uint64_t drained;                       /* units that were hashed, in order, and passed on to a pipe */
-    uint64_t first_unit, room;              /* the table has so many units from this one on. Those before it are drained, and
-                                             * nobody asks for them any more */
-    unit *units;                            /* unit u is at u % room */
+    output out;
+    peer *peers, *lines, *next_in;          /* local mirrors, others, and outboard encodings; the first of these; and the first
+                                             * mirror that isn't in yet */
+    peer own, own_line;                     /* OUT.part.fetch, of an earlier run, and its parents */
+    size_t mirror_count;
+    bool has_own_lines;                     /* each plain file has its own outboard encoding */
+    opener *openers;
+    bw_plan length, chunks, parents;
+    exchange *exchanges;
+    unsigned live;
+    int status;
+    bool is_one_of_many, is_told;           /* of a manifest; how it ended was printed, */
+    uint64_t ended, shown_at;               /* when it ended, and when its progress was printed last */
+    bool is_settled, is_resuming, waits, no_memory;     /* waits: for a moment that a plan named */
+    uint64_t total, unit_count, chunks_open, resumed, claimed_above;
+    uint64_t began, wake, moved_at;         /* when it has to be looked at again, and when a chunk came last */
+    unsigned rounds;                        /* of forgiving, without one */
+    uint64_t drained, changes;              /* units that were hashed; ends of exchanges, and what else a plan may answer anew for */
+    bw_hasher hasher;
+    uint8_t *drain_bytes;
+    bool is_draining;
+    int drain_status;
+    job drain;
     known known[KNOWN_MOST];
-    out out;
 };
 
-void fetch_lock(fetch *f);
-void fetch_unlock(fetch *f);
+/* --- fetch.c */
 
-/* Waits, under the lock, until one of `changed` or `whole` is told or the time is over. */
-void fetch_wait(fetch *f, pthread_cond_t *until, double seconds);
+bool read_hash(const char *digits, uint8_t hash[BW_HASH_LEN]);
 
-/* The rest is called under the lock. */
+/* A fetch of the root to OUT. 0, or a status; then some message was written. */
+int fetch_new(fetch **it, hub *on, const options *set, const char *root, const char *name);
 
-/* Tells all that wait. */
-void fetch_tell(fetch *f);
+/* NULL: there is no memory. */
+peer *fetch_add(fetch *f, const char *url, kind as);
+void fetch_free(fetch *f);
 
-/* Ends the fetch with a status. The first one stands. */
-void fetch_fail(fetch *f, int status);
+/* Does what can be done now. Whether it is over, with f->status. */
+bool fetch_turn(fetch *f, uint64_t now);
+void fetch_stop(fetch *f, int status);
 
-void fetch_leave_out(fetch *f, mirror *m, const char *why);
+/* No call of a plan fails but for memory: else this program has a fault. */
+void fetch_must(fetch *f, bw_status of);
 
-/* The length is certified, by the slice of the last chunk. Units that were asked for already, under the same claim, are under
- * way from now on. */
-void fetch_settle(fetch *f, uint64_t total, const uint8_t *text, const uint8_t *chunk, size_t chunk_len);
+/* Tells a plan how a request ended, and counts a failure as the source's. */
+void fetch_ended(fetch *f, bw_plan *plan, source *of, size_t holder, uint64_t first, uint64_t count, uint32_t how, uint64_t later_ms);
 
-/* The unit that a mirror is to be asked for, or NULL. */
-unit *fetch_next(fetch *f, const mirror *m, uint64_t *number);
-
-/* The outboard encoding that a mirror's plain file is to be asked beside for a unit, or NULL. */
-line *fetch_line(fetch *f, const mirror *m, const unit *of);
-
-/* Whether the next unit in order is whole; it is drained now; whether all are. */
-bool fetch_can_drain(const fetch *f);
-void fetch_drained(fetch *f);
-bool fetch_is_all_there(const fetch *f);
-
-/* Whether the table has the blob's last unit. */
-bool fetch_sees_all(const fetch *f);
-
-/* Makes room in the table for units that follow. */
-void fetch_slide(fetch *f);
-
-/* Gives a path the parents that are known, and remembers those that it knows. */
-void fetch_recall(const fetch *f, path *it);
-void fetch_remember(fetch *f, const path *it);
-
-/* Leaves a place alone for as long as it asks, and at most for 12 stall times. False: it is left alone already. */
-bool fetch_leave_alone(fetch *f, place *it, double seconds);
-bool place_waits(const place *it);
-
-/* Decides whether a mirror is asked last from now on. */
-void fetch_judge(mirror *m);
-
-/* Whether some mirror may still have something that is lacking. */
-bool fetch_can_go_on(const fetch *f);
+/* Whether all that used the fetch has ended. */
+bool fetch_is_quiet(fetch *f);
 
 uint64_t units_of(uint64_t total);
-unit *unit_at(const fetch *f, uint64_t number);
-bool unit_is_whole(const unit *it);
+uint64_t groups_of(uint64_t total);
+void fetch_recall(const fetch *f, trail *it);
+void fetch_remember(fetch *f, const trail *it);
 
-/* The chunks of a group, and those that are there. */
-uint64_t chunks_in(uint64_t total, uint64_t group);
-uint64_t chunks_held(const fetch *f, uint64_t group);
+/* It has to be looked at again at that moment. */
+void fetch_wait(fetch *f, uint64_t until);
 
-/* Ends the requests for a unit, or with NULL all, but for that of one connection. */
-void fetch_cut(fetch *f, const unit *of, const conn *but);
+/* Takes chunks of a group as there. */
+void fetch_keep(fetch *f, size_t holder, uint64_t group, uint64_t mask, const uint8_t *bytes);
 
-/* --- A connection */
+/* The length is certified: makes the plans and, where there is none yet, OUT.part.fetch. */
+void fetch_settle(fetch *f, uint64_t total);
 
-/* Its handle and buffers. False: out of memory. */
-bool conn_new(conn *c, fetch *f, mirror *m, unsigned number);
-void conn_free(conn *c);
+void fetch_say(const fetch *f, const peer *of, const char *what);
 
-/* What a connection's thread does, until the fetch ends or its mirror is left out. */
-void *fetch_work(void *conn);
+/* Lets one more mirror in, with its outboard encoding. False: there is none. */
+bool fetch_admit(fetch *f);
+bool fetch_has_left_out(fetch *f, const peer *it);
 
-/* One try to certify the length, from the mirror and, where it has the plain file, from an outboard encoding. Whether it went
- * well. The connection may have been given a unit then, which it has asked for. */
-bool conn_settle(conn *c, line *by);
+/* --- exchange.c */
 
-/* The unit that was asked for together with the length is the connection's. Under the lock. */
-void conn_adopt(conn *c);
+/* NULL: there is no memory for one more. */
+exchange *exchange_new(fetch *f, peer *from);
+void exchange_get(exchange *e, peer *of, pieces *wanted);
 
-/* Takes the groups of its unit that came, in order, as far as they go. */
-void conn_take(conn *c);
+/* Says where the pieces' bytes go, and gives them what the file's head has of them. How many bytes they take. */
+size_t pieces_lay_out(pieces *of, uint8_t *at, const uint8_t *head, size_t head_len);
 
-/* The same, while bytes come. False: nothing more is wanted. */
-bool conn_came(void *conn);
+/* Tells the plans its end: by what the bytes' end was, or as it is given. */
+void exchange_end_by(exchange *e);
+void exchange_end(exchange *e, uint32_t outcome, uint64_t later_ms);
+void exchange_ask_all(fetch *f, uint64_t now);
+void exchange_unit(exchange *e);
+void exchange_sweep(fetch *f);
 
-/* One exchange, and what follows from its answer for all connections. */
-http_answer conn_get(conn *c, place *of, pieces *wanted, http_came *came);
-http_answer conn_heard(conn *c, place *of, http_answer answer);
+/* Moves an exchange on, after its last bytes came or its job was done. */
+void exchange_move(exchange *e);
 
-void conn_say(const conn *c, const place *of, const char *what);
+/* --- open.c */
 
-/* Gives pieces their room, one after another. How much that is. */
-size_t pieces_lay_out(pieces *of, uint8_t *at);
+void open_all(fetch *f, uint64_t now);
+void open_move(exchange *e);
 
-/* Gives the pieces what the head has of them. */
-void conn_fill(const conn *c, pieces *to);
+/* --- verify.c: posts the job that verifies what came, as far as it goes: groups of the unit, or what certifies the length. */
+
+void verify_unit(exchange *e);
+void verify_proof(exchange *e);
+uint64_t mask_of(span of);
+
+/* --- report.c */
+
+/* Prints a line, and returns the status; the second and third are such lines. */
+int say(int status, const char *format, ...) __attribute__((format(printf, 2, 3)));
+int no_memory(void);
+int file_fault(const char *path);
+
+void report_end(fetch *f);
+void report_progress(fetch *f, bool is_last);
 
 #endif

@@ -1,343 +1,89 @@
-#define _GNU_SOURCE
 #include "http.h"
 
-#include <ctype.h>
-#include <curl/curl.h>
-#include <errno.h>
-#include <inttypes.h>
-#include <stdio.h>
-#include <stdlib.h>
-#include <string.h>
-#include <strings.h>
-#include <time.h>
-#include <unistd.h>
+#if LIBCURL_VERSION_NUM < 0x080600
+#define CURLE_TOO_LARGE 100
+#endif
 
 enum {
-    LINE_MOST = 512,                        /* of a header within a part */
-    HEADERS_MOST = 65536,                   /* of an answer, with those of its redirects */
-    SLACK = 65536,                          /* more bytes than were asked for: headers of parts, and what lies between */
-    SLACK_OF_PART = 512,
-    RANGES_MOST = 64,
-    RANGE_DIGITS = 42,
+    SEVERAL_MOST = 64,
     NEAR = 65536,                           /* gaps of so many bytes are asked for as well, by one range */
     BUFFER_LEN = 131072,
-    REDIRECTS_MOST = 5,
+    HOPS_MOST = 5,
     RATE_LEAST = 1024,
-    POLL_MS = 200
+    POLL_MS = 200,
+    LIMITED_MS = 20
 };
 
-/* Where in an answer's body the next byte stands. */
-typedef enum body_state { NOTHING_YET, ONE_BODY, PART_HEADERS, PART_BODY, REFUSED } body_state;
+/* --- What libcurl calls */
 
-struct http {
-    CURL *easy;
-    CURLM *multi;
-    double stall;
-    atomic_bool cut;
-    place *of;
-    piece *asked;                           /* the pieces of the request under way */
-    size_t asked_count, header_bytes;
-    body_state state;
-    uint64_t came, most;                    /* body bytes: so far, and how many are taken at most */
-    uint64_t at, left;                      /* the file's position of the next byte, and how many more of its part follow */
-    bool ranged, multipart, too_much, refused_several, at_end;
-    double wait;                            /* what Retry-After asks for, in seconds, or -1 */
-    char line[LINE_MOST];
-    size_t line_len;
-    char range[RANGES_MOST * RANGE_DIGITS];
-    char why[CURL_ERROR_SIZE];
-};
-
-double seconds_now(void) {
-    struct timespec t;
-    clock_gettime(CLOCK_MONOTONIC, &t);
-    return (double)t.tv_sec + (double)t.tv_nsec / 1e9;
-}
-
-static bool is_whole(const piece *it) {
-    return it->have == it->len;
-}
-
-/* How many of the pieces lack something. */
-static size_t lacking(const piece *list, size_t count) {
-    size_t n = 0;
-    for (size_t i = 0; i < count; i++) n += !is_whole(&list[i]);
-    return n;
-}
-
-/* --- An answer's body */
-
-/* The value of a header, where the line has it, or NULL. */
-static const char *value_of(const char *line, const char *name) {
-    size_t len = strlen(name);
-    return strncasecmp(line, name, len) ? NULL : line + len + strspn(line + len, " \t");
-}
-
-/* "bytes 7-12/40" */
-static bool read_content_range(const char *text, uint64_t *from, uint64_t *len) {
-    unsigned long long first, last;
-    if (sscanf(text, "bytes %llu-%llu", &first, &last) != 2 || last < first || last - first == UINT64_MAX) return false;
-    *from = first, *len = last - first + 1;
-    return true;
-}
-
-/* "120", or a date (RFC 9110, 10.2.3). In seconds from now, or -1. */
-static double read_retry_after(const char *text) {
-    char *end;
-    if (isdigit((unsigned char)*text)) {
-        double seconds = (double)strtoull(text, &end, 10);
-        return end[strspn(end, " \t\r\n")] ? -1 : seconds;
-    }
-    time_t at = curl_getdate(text, NULL), now = time(NULL);
-    return at < 0 ? -1 : at > now ? difftime(at, now) : 0;
-}
-
-/* Hands bytes of the file to the pieces that they belong to. A piece is filled from its first byte on. */
-static void spread(http *it, const uint8_t *bytes, size_t len) {
-    for (size_t i = 0; i < it->asked_count; i++) {
-        piece *to = &it->asked[i];
-        uint64_t next = to->at + to->have;
-        if (is_whole(to) || next < it->at || next >= it->at + len) continue;
-        size_t skip = (size_t)(next - it->at), most = to->len - to->have, take = len - skip < most ? len - skip : most;
-        memcpy(to->bytes + to->have, bytes + skip, take);
-        to->have += take;
-    }
-    it->at += len;
-}
-
-/* Takes in a line of a part's headers, without its end. An empty one ends them. */
-static void end_line(http *it) {
-    it->line[it->line_len] = 0;
-    if (it->line_len && it->line[it->line_len - 1] == '\r') it->line[--it->line_len] = 0;
-    if (!it->line_len && it->left) it->state = PART_BODY;
-    const char *range = value_of(it->line, "content-range:");
-    if (range && !read_content_range(range, &it->at, &it->left)) it->state = REFUSED;
-    it->line_len = 0;
-}
-
-static size_t take_part_header(http *it, const uint8_t *bytes, size_t len) {
-    for (size_t i = 0; i < len; i++) {
-        if (bytes[i] == '\n') {
-            end_line(it);
-            return i + 1;
-        }
-        if (it->line_len == LINE_MOST - 1) {
-            it->state = REFUSED;
-            return len;
-        }
-        it->line[it->line_len++] = (char)bytes[i];
-    }
-    return len;
-}
-
-static size_t take_part_body(http *it, const uint8_t *bytes, size_t len) {
-    size_t take = it->left < len ? (size_t)it->left : len;
-    spread(it, bytes, take);
-    it->left -= take;
-    if (!it->left) it->state = PART_HEADERS;
-    return take;
-}
-
-/* Decides by the status and the headers what the body is. */
-static void begin_body(http *it) {
-    long code = 0;
-    curl_easy_getinfo(it->easy, CURLINFO_RESPONSE_CODE, &code);
-    uint64_t end = 0;
-    for (size_t i = 0; i < it->asked_count; i++) {
-        const piece *of = &it->asked[i];
-        if (!is_whole(of) && of->at + of->len > end) end = of->at + of->len;
-    }
-    it->state = REFUSED;
-    if (code == 206 && it->multipart) it->state = PART_HEADERS, it->left = 0;
-    else if (code == 206 && it->ranged) it->state = ONE_BODY;
-    else if (code == 200 && end <= it->most) it->state = ONE_BODY, it->at = 0;
-    else if (code == 200) it->too_much = true;
-}
-
-static size_t on_body(char *at, size_t one, size_t len, void *with) {
-    http *it = with;
-    const uint8_t *bytes = (const uint8_t *)at;
-    (void)one;
-    if (it->state == NOTHING_YET) begin_body(it);
-    it->came += len;
-    atomic_fetch_add(&it->of->bytes, len);
-    for (size_t used = 0; used < len && it->state != REFUSED;) {
-        size_t rest = len - used;
-        if (it->state == ONE_BODY) spread(it, bytes + used, rest), used = len;
-        else if (it->state == PART_HEADERS) used += take_part_header(it, bytes + used, rest);
-        else used += take_part_body(it, bytes + used, rest);
-    }
-    return it->state == REFUSED || it->came > it->most ? 0 : len;
+/* Whether a limit holds up what comes. */
+static bool is_held_up(const hub *it) {
+    const uint64_t rate = it->set->limit_rate;
+    return rate && it->bytes * 1000 / rate > now_ms() - it->began;
 }
 
 static size_t on_header(char *line, size_t one, size_t len, void *with) {
-    http *it = with;
-    char text[LINE_MOST];
+    leg *it = with;
     (void)one;
-    if ((it->header_bytes += len) > HEADERS_MOST) return 0;
-    snprintf(text, sizeof text, "%.*s", (int)(len < LINE_MOST ? len : LINE_MOST - 1), line);
-    if (!strncasecmp(text, "http/", 5)) it->ranged = it->multipart = false, it->wait = -1;
-    const char *range = value_of(text, "content-range:"), *type = value_of(text, "content-type:");
-    const char *later = value_of(text, "retry-after:");
-    if (range) it->ranged = read_content_range(range, &it->at, &it->left);
-    if (type) it->multipart = value_of(type, "multipart/byteranges");
-    if (later) it->wait = read_retry_after(later);
-    return len;
+    return answer_header(&it->answer, line, len) ? len : 0;
+}
+
+/* The bytes of a file that is copied whole. */
+static bool copy_bytes(leg *it, const char *bytes, size_t len) {
+    uint64_t at = it->answer.came - len;
+    if (!it->copy_to || it->several) return false;
+    if (it->fd < 0) it->fd = open(it->copy_to, O_TMPFILE | O_RDWR | O_CLOEXEC, 0600);
+    it->of->is_copying = it->fd >= 0;
+    return it->fd >= 0 && write_at(it->fd, at, bytes, len) == len && at + len <= it->copy_most;
+}
+
+static size_t on_body(char *at, size_t one, size_t len, void *with) {
+    leg *it = with;
+    answer *a = &it->answer;
+    (void)one;
+    if (is_held_up(it->hub)) return it->is_paused = true, CURL_WRITEFUNC_PAUSE;
+    it->of->bytes += len, it->hub->bytes += len, it->has_news = true;
+    if (a->code >= 300) return (a->came += len) <= a->most ? len : 0;
+    if (!answer_body(a, (const uint8_t *)at, len)) return 0;
+    return a->state != WHOLE_FILE || copy_bytes(it, at, len) ? len : 0;
+}
+
+/* From a public address no redirect leads to a private one. */
+static curl_socket_t open_socket(void *with, curlsocktype purpose, struct curl_sockaddr *to) {
+    leg *it = with;
+    (void)purpose;
+    if (it->is_guarded && address_is_private(&to->addr)) return CURL_SOCKET_BAD;
+    return socket(to->family, to->socktype | SOCK_CLOEXEC, to->protocol);
 }
 
 /* --- A request */
 
-bool http_start(void) {
-    return !curl_global_init(CURL_GLOBAL_DEFAULT);
-}
+#define SET(option, value) (r = r ? r : curl_easy_setopt(it->easy, option, value))
 
-void http_end(void) {
-    curl_global_cleanup();
-}
-
-static bool set_options(http *it) {
-    const struct { CURLoption option; long value; } longs[] = {
-        {CURLOPT_FOLLOWLOCATION, 1}, {CURLOPT_MAXREDIRS, REDIRECTS_MOST}, {CURLOPT_NOSIGNAL, 1},
-        {CURLOPT_FAILONERROR, 1}, {CURLOPT_BUFFERSIZE, BUFFER_LEN},
-    };
+/* What stays the same for all requests of a leg. */
+static bool set_options(leg *it) {
+    const settings *s = it->hub->set;
     CURLcode r = CURLE_OK;
-    for (size_t i = 0; i < sizeof longs / sizeof *longs && !r; i++) {
-        r = curl_easy_setopt(it->easy, longs[i].option, longs[i].value);
-    }
-    if (!r) r = curl_easy_setopt(it->easy, CURLOPT_USERAGENT, "bw-fetch");
-    if (!r) r = curl_easy_setopt(it->easy, CURLOPT_WRITEFUNCTION, on_body);
-    if (!r) r = curl_easy_setopt(it->easy, CURLOPT_WRITEDATA, it);
-    if (!r) r = curl_easy_setopt(it->easy, CURLOPT_HEADERFUNCTION, on_header);
-    if (!r) r = curl_easy_setopt(it->easy, CURLOPT_HEADERDATA, it);
-    if (!r) r = curl_easy_setopt(it->easy, CURLOPT_ERRORBUFFER, it->why);
-    const char *authorities = getenv("SSL_CERT_FILE");
-    if (!r && authorities) r = curl_easy_setopt(it->easy, CURLOPT_CAINFO, authorities);
+    SET(CURLOPT_NOSIGNAL, 1L), SET(CURLOPT_BUFFERSIZE, (long)BUFFER_LEN), SET(CURLOPT_IPRESOLVE, s->family), SET(CURLOPT_USERAGENT, s->agent);
+#if LIBCURL_VERSION_NUM >= 0x075500
+    SET(CURLOPT_PROTOCOLS_STR, "http,https");
+    if (r == CURLE_UNSUPPORTED_PROTOCOL) r = CURLE_OK, SET(CURLOPT_PROTOCOLS_STR, "http");
+#else
+    SET(CURLOPT_PROTOCOLS, (long)(CURLPROTO_HTTP | CURLPROTO_HTTPS));
+#endif
+    SET(CURLOPT_WRITEFUNCTION, on_body), SET(CURLOPT_WRITEDATA, it);
+    SET(CURLOPT_HEADERFUNCTION, on_header), SET(CURLOPT_HEADERDATA, it);
+    SET(CURLOPT_OPENSOCKETFUNCTION, open_socket), SET(CURLOPT_OPENSOCKETDATA, it);
+    SET(CURLOPT_ERRORBUFFER, it->why), SET(CURLOPT_PRIVATE, it);
+    if (s->authorities || s->authorities_in) SET(CURLOPT_CAINFO, s->authorities);
+    /* not the folder that libcurl was built with; one that knows no folders needn't be told */
+    if ((s->authorities || s->authorities_in) && curl_easy_setopt(it->easy, CURLOPT_CAPATH, s->authorities_in) && s->authorities_in) return false;
+    if (s->certificate) SET(CURLOPT_SSLCERT, s->certificate);
+    if (s->key) SET(CURLOPT_SSLKEY, s->key);
+    if (s->proxy) SET(CURLOPT_PROXY, s->proxy);
+    if (s->netrc) SET(CURLOPT_NETRC, (long)CURL_NETRC_OPTIONAL);
+    if (s->unchecked) SET(CURLOPT_SSL_VERIFYPEER, 0L), SET(CURLOPT_SSL_VERIFYHOST, 0L);
     return !r;
-}
-
-http *http_new(double stall) {
-    http *it = calloc(1, sizeof *it);
-    if (!it) return NULL;
-    it->stall = stall;
-    it->easy = curl_easy_init();
-    it->multi = curl_multi_init();
-    if (it->easy && it->multi && set_options(it)) return it;
-    http_free(it);
-    return NULL;
-}
-
-void http_free(http *it) {
-    if (!it) return;
-    curl_easy_cleanup(it->easy);
-    curl_multi_cleanup(it->multi);
-    free(it);
-}
-
-void http_cut(http *it) {
-    atomic_store(&it->cut, true);
-    curl_multi_wakeup(it->multi);
-}
-
-void http_clear(http *it) {
-    atomic_store(&it->cut, false);
-}
-
-const char *http_why(const http *it) {
-    return it->why;
-}
-
-/* Drives the request until it ends, is cut, or gives less than the least rate for as long as a stall takes. */
-static CURLcode drive(http *it, http_came *came, void *with, bool *cut) {
-    double since = seconds_now();
-    uint64_t mark = 0, seen = 0;
-    for (int running = 1, left; running;) {
-        if (curl_multi_perform(it->multi, &running)) return CURLE_OUT_OF_MEMORY;
-        CURLMsg *done = running ? NULL : curl_multi_info_read(it->multi, &left);
-        bool goes_on = !came || it->came == seen || came(with);
-        if (done) return done->data.result;
-        if (!goes_on || atomic_load(&it->cut)) return *cut = true, CURLE_ABORTED_BY_CALLBACK;
-        seen = it->came;
-        if (seen - mark >= it->stall * RATE_LEAST) since = seconds_now(), mark = seen;
-        if (seconds_now() - since > it->stall) {
-            snprintf(it->why, sizeof it->why, "less than 1 KiB a second for %g seconds", it->stall);
-            return CURLE_OPERATION_TIMEDOUT;
-        }
-        curl_multi_poll(it->multi, NULL, 0, POLL_MS, NULL);
-    }
-    return CURLE_RECV_ERROR;
-}
-
-/* Writes the ranges of what the pieces lack, or one range from the first of it to the last. How many bytes are asked for, or 0
- * where there is no room. */
-static uint64_t write_ranges(http *it, const piece *list, size_t count, bool as_one) {
-    size_t used = 0;
-    uint64_t sum = 0;
-    for (size_t i = 0; i < count; i++) {
-        unsigned long long first = list[i].at + list[i].have, last = list[i].at + list[i].len - 1;
-        if (is_whole(&list[i])) continue;
-        used += (size_t)snprintf(it->range + used, sizeof it->range - used, "%s%llu-%llu", used ? "," : "", first, last);
-        if (used >= sizeof it->range) return 0;
-        sum += list[i].len - list[i].have;
-    }
-    if (!as_one) return sum;
-    uint64_t first = list[0].at + list[0].have, end = list[count - 1].at + list[count - 1].len;
-    snprintf(it->range, sizeof it->range, "%" PRIu64 "-%" PRIu64, first, end - 1);
-    return end - first;
-}
-
-static bool set_request(http *it, piece *list, size_t count, bool as_one) {
-    bool secure = !strncasecmp(it->of->url, "https:", 6);
-    const char *schemes = secure ? "https" : "http,https";
-    uint64_t sum = write_ranges(it, list, count, as_one);
-    if (!sum) return false;
-    it->asked = list, it->asked_count = count, it->header_bytes = 0;
-    it->state = NOTHING_YET, it->came = it->left = 0, it->most = sum + SLACK + count * SLACK_OF_PART;
-    it->ranged = it->multipart = it->too_much = false, it->wait = -1, it->line_len = 0, it->why[0] = 0;
-    CURLcode r = curl_easy_setopt(it->easy, CURLOPT_URL, it->of->url);
-    if (!r) r = curl_easy_setopt(it->easy, CURLOPT_RANGE, it->range);
-    if (!r) r = curl_easy_setopt(it->easy, CURLOPT_PROTOCOLS_STR, schemes);
-    if (!r) r = curl_easy_setopt(it->easy, CURLOPT_REDIR_PROTOCOLS_STR, schemes);
-    return !r;
-}
-
-/* One request for some pieces, of several ranges or of one. */
-static http_answer ask(http *it, piece *list, size_t count, bool as_one, http_came *came, void *with) {
-    bool cut = false;
-    if (!set_request(it, list, count, as_one)) return HTTP_MEMORY;
-    if (curl_multi_add_handle(it->multi, it->easy)) return HTTP_MEMORY;
-    CURLcode r = drive(it, came, with, &cut);
-    curl_multi_remove_handle(it->multi, it->easy);
-    const char *why = it->too_much ? "it serves no ranges" : r ? curl_easy_strerror(r) : "other bytes came than were asked for";
-    if (!it->why[0]) snprintf(it->why, sizeof it->why, "%s", why);
-    if (!lacking(list, count)) return HTTP_ALL;
-    long code = 0;
-    curl_easy_getinfo(it->easy, CURLINFO_RESPONSE_CODE, &code);
-    it->refused_several = code == 400 || code == 416 || code == 501;
-    it->at_end = !r && it->state == ONE_BODY;
-    if (cut) return HTTP_CUT;
-    if (r == CURLE_OUT_OF_MEMORY) return HTTP_MEMORY;
-    if ((code == 429 || code == 503) && it->wait >= 0) return HTTP_LATER;
-    return it->too_much ? HTTP_NO_RANGES : HTTP_SHORT;
-}
-
-static http_answer read_file(http *it, place *of, pieces *wanted, http_came *came, void *with) {
-    for (size_t i = 0; i < wanted->count; i++) {
-        piece *to = &wanted->list[i];
-        while (!is_whole(to)) {
-            if (atomic_load(&it->cut)) return HTTP_CUT;
-            ssize_t n = pread(of->fd, to->bytes + to->have, to->len - to->have, (off_t)(to->at + to->have));
-            if (n < 0 && errno == EINTR) continue;
-            if (n <= 0) {
-                snprintf(it->why, sizeof it->why, "%s", n ? strerror(errno) : "it ends before");
-                it->at_end = !n;
-                return HTTP_SHORT;
-            }
-            to->have += (size_t)n;
-            atomic_fetch_add(&of->bytes, (uint64_t)n);
-        }
-    }
-    if (came) came(with);
-    return HTTP_ALL;
 }
 
 /* How many pieces are asked for as one range: each begins near the end of the one before, and the first and the last lack
@@ -347,40 +93,243 @@ static size_t near_ones(const piece *list, size_t count) {
     for (size_t i = 1; i < count; i++) {
         uint64_t end = list[i - 1].at + list[i - 1].len;
         if (list[i].at < end || list[i].at - end > NEAR) break;
-        if (!is_whole(&list[i])) n = i + 1;
+        if (!piece_is_whole(&list[i])) n = i + 1;
     }
     return n;
 }
 
-http_answer http_get(http *it, place *of, pieces *wanted, http_came *came, void *with) {
-    it->of = of;
-    size_t several = lacking(wanted->list, wanted->count);
-    if (!several) return HTTP_ALL;
-    if (of->fd >= 0) return read_file(it, of, wanted, came, with);
-    if (several > 1 && !atomic_load(&of->one_range)) {
-        http_answer r = ask(it, wanted->list, wanted->count, false, came, with);
-        /* Several ranges may be too many for a server that knows one: it gives the whole file, one range alone, or an
-         * error. */
-        bool one_alone = r == HTTP_SHORT && (it->state == ONE_BODY || it->refused_several);
-        if (r != HTTP_NO_RANGES && !one_alone) return r;
-        atomic_store(&of->one_range, true);
+/* Picks the pieces of the next request, and writes its ranges. How many bytes are asked for. */
+static uint64_t write_ranges(leg *it) {
+    const piece *list = it->wanted->list;
+    size_t some = 0, used = 0;
+    while (piece_is_whole(&list[it->first])) it->first++;
+    list += it->first, it->count = it->wanted->count - it->first;
+    for (size_t i = 0; i < it->count; i++) some += !piece_is_whole(&list[i]);
+    it->several = some > 1 && some <= SEVERAL_MOST && !it->of->one_range && !it->of->no_ranges;
+    if (!it->several) {
+        it->count = near_ones(list, it->count);
+        uint64_t from = list->at + list->have, end = list[it->count - 1].at + list[it->count - 1].len;
+        snprintf(it->range, sizeof it->range, "%" PRIu64 "-%" PRIu64, from, end - 1);
+        return end - from;
     }
-    for (size_t i = 0, n; i < wanted->count; i += n) {
-        n = 1;
-        if (is_whole(&wanted->list[i])) continue;
-        n = near_ones(&wanted->list[i], wanted->count - i);
-        http_answer r = ask(it, &wanted->list[i], n, true, came, with);
-        if (r != HTTP_ALL) return r;
+    for (const piece *of = list; of < list + it->count; of++) {
+        if (piece_is_whole(of)) continue;
+        used += (size_t)snprintf(it->range + used, sizeof it->range - used, "%s%" PRIu64 "-%" PRIu64, used ? "," : "", of->at + of->have, of->at + of->len - 1);
     }
-    return HTTP_ALL;
+    return pieces_lacking(list, it->count);
 }
 
-http_answer http_begin(http *it, place *of, piece *first) {
-    it->at_end = false;
-    http_answer r = http_get(it, of, &(pieces){first, 1, 1}, NULL, NULL);
-    return r == HTTP_SHORT && it->at_end ? HTTP_ALL : r;
+/* Where it is asked, or was. */
+static const char *address_of(const leg *it) {
+    return it->url ? it->url : it->of->moved ? it->of->moved : it->of->url;
 }
 
-double http_wait(const http *it) {
-    return it->wait;
+static void request(leg *it) {
+    source *of = it->of;
+    CURLcode r = CURLE_OK;
+    const char *to = address_of(it);
+    bool strange = to != of->url && !url_same_server(to, of->url);
+    if (to == of->moved) it->is_guarded = of->is_guarded;
+    uint64_t asked = write_ranges(it);
+    answer_begin(&it->answer, it->wanted->list + it->first, it->count, asked);
+    it->why[0] = 0, it->mark = 0, it->since = now_ms();
+    SET(CURLOPT_URL, to), SET(CURLOPT_RANGE, it->range), SET(CURLOPT_FRESH_CONNECT, (long)(it->is_guarded && it->url));
+    SET(CURLOPT_HTTPHEADER, strange ? it->hub->set->plain : it->hub->set->headers);
+    if (!r && !curl_multi_add_handle(it->hub->multi, it->easy)) return;
+    snprintf(of->why, sizeof of->why, "%s", r ? curl_easy_strerror(r) : "libcurl refuses the request");
+    it->error = ENOMEM;                     /* its end is told by hub_wait */
+}
+
+static bool may_try_one(const leg *it, CURLcode r) {
+    const long c = it->answer.code;
+    if (!it->several) return false;
+    if (it->answer.state == WHOLE_FILE || (!r && it->answer.state == ONE_BODY)) return true;
+    return c >= 400 && c != 401 && c != 404 && c != 407 && c != 410 && c != 429 && !(c == 503 && it->answer.wait >= 0);
+}
+
+/* Goes where an answer leads. False: it doesn't. */
+static bool follow(leg *it) {
+    char *at = NULL, *to;
+    curl_easy_getinfo(it->easy, CURLINFO_PRIMARY_IP, &at);
+    if (!answer_moves(&it->answer) || ++it->hops > HOPS_MOST || !(to = url_next(address_of(it), it->answer.location))) return false;
+    if (at && *at && !text_is_private(at) && !it->hub->set->allow_private) it->is_guarded = true;
+    free(it->url);
+    it->url = to;
+    return true;
+}
+
+/* Why it ended short, in words, and whether that may pass. */
+static void note_why(leg *it, CURLcode r) {
+    source *of = it->of;
+    const long c = of->code = it->answer.code;
+    const char *why = it->answer.state == WHOLE_FILE ? "it serves no ranges" : "other bytes came than were asked for";
+    bool ours = !r || r == CURLE_WRITE_ERROR, stays = ours || r == CURLE_UNSUPPORTED_PROTOCOL || r == CURLE_URL_MALFORMAT
+        || r == CURLE_OUT_OF_MEMORY || r == CURLE_WEIRD_SERVER_REPLY || r == CURLE_PEER_FAILED_VERIFICATION || r == CURLE_TOO_LARGE;
+    of->is_far = c >= 500 || c == 429 || c == 408 || !stays;
+    if (answer_moves(&it->answer)) snprintf(of->why, sizeof of->why, "it leads elsewhere, where no redirect is followed");
+    else if (c >= 400) snprintf(of->why, sizeof of->why, "HTTP status %ld", c);
+    else if (it->is_guarded && r == CURLE_COULDNT_CONNECT) of->is_far = false, snprintf(of->why, sizeof of->why, "it leads to a private address, or can't be reached");
+    else snprintf(of->why, sizeof of->why, "%s", ours ? why : it->why[0] ? it->why : curl_easy_strerror(r));
+}
+
+/* What came whole is a local file from now on. */
+static bool has_copied(leg *it, CURLcode r) {
+    it->of->is_copying = false;
+    if (it->fd < 0) return false;
+    bool ok = !r && it->of->fd < 0;
+    if (ok) it->of->fd = it->fd, it->of->is_local = true;
+    else close(it->fd);
+    it->fd = -1;
+    return ok;
+}
+
+static void finish(leg *it, CURLcode r) {
+    source *of = it->of;
+    curl_multi_remove_handle(it->hub->multi, it->easy);
+    if (follow(it)) return request(it);
+    it->at_end = !r && it->answer.state == ONE_BODY;
+    bool copied = has_copied(it, r);
+    if (!pieces_lacking(it->wanted->list + it->first, it->count)) {
+        if (it->url && it->hops) free(of->moved), of->moved = it->url, of->is_guarded = it->is_guarded, it->url = NULL;
+        of->code = it->answer.code, it->hops = 0;
+        return pieces_lacking(it->wanted->list, it->wanted->count) ? request(it) : leg_end_with(it, LEG_ALL);
+    }
+    if (copied) return leg_read(it);
+    if (may_try_one(it, r)) return of->one_range = true, request(it);
+    note_why(it, r);
+    free(of->moved), of->moved = NULL;
+    if ((it->answer.code == 429 || it->answer.code == 503) && it->answer.wait >= 0) return leg_end_with(it, LEG_LATER);
+    of->no_ranges |= it->answer.state == WHOLE_FILE;
+    leg_end_with(it, it->answer.state == WHOLE_FILE && !it->copy_to ? LEG_NO_RANGES : LEG_SHORT);
+}
+
+/* --- Legs */
+
+void leg_start(leg *it, hub *on, source *of, pieces *wanted) {
+    it->is_cut = it->is_guarded = it->is_local = it->has_news = it->is_paused = false, it->runs = true;
+    it->hub = on, it->of = of, it->wanted = wanted, it->hops = 0, it->first = 0, it->error = 0, it->fd = -1, it->since = now_ms();
+    it->next = on->legs, on->legs = it;
+    of->live++;
+    if (of->is_local) return leg_read(it);
+    if (!it->easy && (it->easy = curl_easy_init()) && !set_options(it)) curl_easy_cleanup(it->easy), it->easy = NULL;
+    if (it->easy) return request(it);
+    snprintf(of->why, sizeof of->why, "libcurl refuses an option, or memory");
+    it->error = ENOMEM;
+}
+
+/* To end a request whose name is looked up would wait for the name server: it is left to end by itself, and opens no socket. */
+static curl_socket_t no_socket(void *with, curlsocktype purpose, struct curl_sockaddr *to) {
+    (void)with, (void)purpose, (void)to;
+    return CURL_SOCKET_BAD;
+}
+
+static size_t no_bytes(char *at, size_t one, size_t len, void *with) {
+    (void)at, (void)one, (void)len, (void)with;
+    return 0;
+}
+
+static void leave_alone(leg *it) {
+    CURLcode r = CURLE_OK;
+    SET(CURLOPT_OPENSOCKETFUNCTION, no_socket), SET(CURLOPT_ERRORBUFFER, NULL), SET(CURLOPT_PRIVATE, NULL);
+    SET(CURLOPT_WRITEFUNCTION, no_bytes), SET(CURLOPT_HEADERFUNCTION, no_bytes);
+    it->hub->ghosts++;
+    it->easy = NULL;
+}
+
+static void stop(leg *it) {
+    double looked = 0;
+    curl_easy_getinfo(it->easy, CURLINFO_NAMELOOKUP_TIME, &looked);
+    if (looked <= 0 && !it->answer.header_bytes) return leave_alone(it);
+    curl_multi_remove_handle(it->hub->multi, it->easy);
+    has_copied(it, CURLE_ABORTED_BY_CALLBACK);
+}
+
+void leg_cut(leg *it) {
+    if (!it->runs || it->is_cut) return;
+    it->is_cut = true, it->of->live--;
+    if (it->is_local) return;               /* a read that hangs uses its pieces until it ends */
+    if (it->easy && !it->error) stop(it);
+    leg_unlink(it);
+}
+
+void leg_free(leg *it) {
+    curl_easy_cleanup(it->easy);
+    free(it->url);
+    it->easy = NULL, it->url = NULL;
+}
+
+uint64_t leg_wait(const leg *it) {
+    return it->answer.wait > 86400 ? 86400000 : it->answer.wait > 0 ? (uint64_t)(it->answer.wait * 1000) : 0;
+}
+
+/* --- All of them */
+
+bool hub_new(hub *it, const settings *set) {
+    *it = (hub){.set = set, .began = now_ms()};
+    return !curl_global_init(CURL_GLOBAL_DEFAULT) && (it->multi = curl_multi_init()) && pool_new(&it->pool);
+}
+
+bool hub_free(hub *it) {
+    if (!pool_end(&it->pool) || it->ghosts) return false;
+    curl_multi_cleanup(it->multi);
+    curl_global_cleanup();
+    return true;
+}
+
+/* Whether a leg gave less than the least rate for as long as a stall takes. One that a limit holds up isn't blamed. */
+static bool stalls(leg *it, uint64_t now) {
+    const settings *s = it->hub->set;
+    uint64_t came = it->answer.came, took = now - it->since;
+    if (it->is_local) it->of->hangs |= (double)took > s->stall * 500;
+    else if ((double)(came - it->mark) >= s->stall * RATE_LEAST || s->limit_rate) it->mark = came, it->since = now;
+    return (double)(now - it->since) > s->stall * 1000;
+}
+
+/* What a leg waits to be told. Whether it has ended by that. */
+static bool look_at(leg *it, uint64_t now) {
+    source *of = it->of;
+    if (it->is_cut) return false;
+    if (it->is_paused && !is_held_up(it->hub)) it->is_paused = false, curl_easy_pause(it->easy, CURLPAUSE_CONT);
+    if (it->has_news) it->has_news = false, it->came(it);
+    bool failed = !it->is_local && it->error;   /* a read under way writes that of a local file */
+    if (it->is_cut || (!failed && !stalls(it, now))) return it->is_cut && !it->is_local;
+    if (!failed) snprintf(of->why, sizeof of->why, "less than 1 KiB a second for %g seconds", it->hub->set->stall);
+    of->is_far = true;
+    leg_cut(it);
+    it->ended(it, LEG_SHORT);
+    return true;
+}
+
+static void look_at_all(hub *it) {
+    const uint64_t now = now_ms();
+    for (leg *at = it->legs; at;) at = look_at(at, now) ? it->legs : at->next;
+}
+
+static void take_messages(hub *it) {
+    int left;
+    for (CURLMsg *m; (m = curl_multi_info_read(it->multi, &left));) {
+        CURL *easy = m->easy_handle;
+        CURLcode r = m->data.result;
+        leg *of = NULL;
+        curl_easy_getinfo(easy, CURLINFO_PRIVATE, (char **)(void *)&of);
+        if (of) {
+            finish(of, r);
+            continue;
+        }
+        curl_multi_remove_handle(it->multi, easy);
+        curl_easy_cleanup(easy);
+        it->ghosts--;
+    }
+}
+
+void hub_wait(hub *it, uint64_t until) {
+    struct curl_waitfd bell = {.fd = it->pool.bell[0], .events = CURL_WAIT_POLLIN};
+    uint64_t now = now_ms(), most = it->set->limit_rate ? LIMITED_MS : POLL_MS;
+    int runs = 0;
+    if (until < now + most) most = until > now ? until - now : 0;
+    curl_multi_poll(it->multi, &bell, 1, (int)most, NULL);
+    curl_multi_perform(it->multi, &runs);
+    take_messages(it);
+    look_at_all(it);
+    pool_collect(&it->pool);
 }

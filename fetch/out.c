@@ -1,153 +1,168 @@
-#define _GNU_SOURCE
-#include "out.h"
+#include "fetch.h"
 
-#include <errno.h>
-#include <fcntl.h>
 #include <libgen.h>
-#include <stdio.h>
-#include <stdlib.h>
-#include <string.h>
+#include <poll.h>
 #include <sys/file.h>
 #include <sys/stat.h>
-#include <unistd.h>
+#include <sys/statvfs.h>
 
-enum { WINDOW_UNIT = 1 << 20, BLOCK_LEN = 65536, PARENTS_LEN = 8192, TRIES_MOST = 8 };
-
-static char *with_tail(const char *path, const char *tail) {
-    size_t len = strlen(path) + strlen(tail) + 1;
-    char *it = malloc(len);
-    if (it) snprintf(it, len, "%s%s", path, tail);
-    return it;
-}
-
-static bool say(const char *path) {
-    fprintf(stderr, "bw-fetch: %s: %s\n", path, strerror(errno));
-    return false;
-}
+enum { PARENTS_LEN = 8192, TRIES_MOST = 8, TAIL_LEN = 48, PIPE_LEN = 4096, NAP_MS = 200 };
 
 /* What is to be replaced: behind a link what it leads to. 0, or a status. */
-static int find_target(out *it) {
+static int find_target(output *it) {
     struct stat of;
-    if (lstat(it->path, &of)) return errno == ENOENT ? 0 : (say(it->path), 3);
+    if (lstat(it->path, &of)) return errno == ENOENT ? 0 : file_fault(it->path);
     if (S_ISLNK(of.st_mode)) {
         it->target = realpath(it->path, NULL);
-        if (!it->target && errno == ENOMEM) return 4;
-        if (!it->target || lstat(it->target, &of)) return say(it->path), 3;
+        if (!it->target && errno == ENOMEM) return NO_MEMORY;
+        if (!it->target || lstat(it->target, &of)) return file_fault(it->path);
         it->path = it->target;
     }
-    if (!S_ISREG(of.st_mode)) {
-        fprintf(stderr, "bw-fetch: %s: not a regular file; OUT may be -, for a pipe\n", it->path);
-        return 3;
-    }
-    if (access(it->path, W_OK)) return say(it->path), 3;
-    it->is_there = true, it->mode = of.st_mode & 0777;
+    if (!S_ISREG(of.st_mode)) return say(FILE_FAULT, "%s: not a regular file; OUT may be -, for a pipe", it->path);
+    if (access(it->path, W_OK)) return file_fault(it->path);
+    it->is_there = true, it->mode = of.st_mode & 0777, it->user = of.st_uid, it->group = of.st_gid;
     return 0;
 }
 
-int out_new(out *it, const char *path) {
-    *it = (out){.path = path, .fd = -1, .is_pipe = !strcmp(path, "-")};
-    if (it->is_pipe) return 0;
+int out_new(output *it, const char *path, const uint8_t root[BW_HASH_LEN]) {
+    const char *temporary = getenv("TMPDIR");
+    *it = (output){.path = path, .fd = -1, .is_pipe = !strcmp(path, "-")};
+    memcpy(it->root, root, BW_HASH_LEN);
+    if (it->is_pipe) return (it->folder = strdup(temporary && *temporary ? temporary : "/tmp")) ? 0 : NO_MEMORY;
+    mode_t mask = umask(0);
+    umask(mask);
+    it->mode = 0666 & ~mask;
     int status = find_target(it);
     if (status) return status;
-    it->part = with_tail(it->path, ".part.fetch");
-    it->part_bao = with_tail(it->path, ".part.bao");
-    it->part_new = with_tail(it->path, ".part.bao.new");
-    return it->part && it->part_bao && it->part_new ? 0 : 4;
+    char *copy = strdup(it->path);
+    it->folder = copy ? strdup(dirname(copy)) : NULL;
+    free(copy);
+    if (asprintf(&it->part, "%s.part.fetch", it->path) < 0) it->part = NULL;
+    return it->part && it->folder ? 0 : NO_MEMORY;
 }
 
-void out_free(out *it) {
-    free(it->target);
-    free(it->part);
-    free(it->part_bao);
-    free(it->part_new);
-    free(it->window);
+static void close_part(output *it) {
+    if (it->fd >= 0) close(it->fd);
+    it->fd = -1;
 }
 
-/* A new file has the permissions of what it is to replace. */
-static bool keep_mode(const out *it, int fd) {
-    return !it->is_there || !fchmod(fd, it->mode);
+void out_free(output *it) {
+    close_part(it);
+    free(it->target), free(it->part), free(it->folder), free(it->window);
 }
 
-static void close_part(out *it) {
-    close(it->fd), it->fd = -1;
+bool out_is_right(const output *it, const bw_mode *mode, uint64_t *len) {
+    static uint8_t bytes[DRAIN_LEN];
+    uint8_t found[BW_HASH_LEN];
+    bw_hasher hasher = BW_EMPTY;
+    int fd = it->is_there ? open(it->path, O_RDONLY | O_CLOEXEC | O_NONBLOCK) : -1;
+    ssize_t n = -1;
+    *len = 0;
+    bool ok = fd >= 0 && !bw_hasher_new(mode, &hasher);
+    while (ok && (n = read(fd, bytes, sizeof bytes)) > 0) ok = !bw_hasher_update(&hasher, bytes, (size_t)n), *len += (uint64_t)n;
+    ok = ok && !n && !bw_hasher_finish(&hasher, found) && !memcmp(found, it->root, BW_HASH_LEN);
+    bw_hasher_free(&hasher);
+    if (fd >= 0) close(fd);
+    return ok;
 }
 
-/* Whether OUT.part.fetch is the file that is open. */
-static bool is_named(const out *it) {
+/* --- OUT.part.fetch: made by this user alone, with one name, and written by no other run. What isn't so is removed. */
+
+/* Whether the file that is open is this user's own, and has the name. */
+static bool is_own(const output *it) {
     struct stat ours, named;
     if (fstat(it->fd, &ours) || lstat(it->part, &named)) return false;
-    return ours.st_dev == named.st_dev && ours.st_ino == named.st_ino;
+    return ours.st_dev == named.st_dev && ours.st_ino == named.st_ino && S_ISREG(ours.st_mode) && ours.st_nlink == 1
+        && ours.st_uid == geteuid() && !(ours.st_mode & 077);
 }
 
-/* Opens OUT.part.fetch, which no other run writes. One that ended between opening and locking has made OUT of the file that
- * was opened, or removed it: then it is made anew. */
-static bool lock_part(out *it) {
+/* What was there is opened, or what is made. Another run that ended between opening and locking has made OUT of the file. */
+static int lock_part(output *it, bool makes) {
     for (int i = 0; i < TRIES_MOST; i++) {
-        it->fd = open(it->part, O_RDWR | O_CREAT | O_CLOEXEC | O_NOFOLLOW, 0666);
-        if (it->fd < 0) return say(it->part);
-        if (flock(it->fd, LOCK_EX | LOCK_NB)) break;
-        if (is_named(it)) return true;
+        it->fd = open(it->part, O_RDWR | O_CLOEXEC | O_NOFOLLOW | O_NONBLOCK);
+        bool is_there = it->fd >= 0 || errno != ENOENT;
+        if (it->fd >= 0 && flock(it->fd, LOCK_EX | LOCK_NB) && errno == EWOULDBLOCK) {
+            close_part(it);
+            return say(FILE_FAULT, "%s: another bw-fetch writes it", it->part);
+        }
+        if (it->fd >= 0 && is_own(it)) return 0;
         close_part(it);
-        errno = EWOULDBLOCK;
+        if (!makes) return -1;
+        if (is_there && unlink(it->part) && errno != ENOENT) break;
+        it->fd = open(it->part, O_RDWR | O_CREAT | O_EXCL | O_CLOEXEC | O_NOFOLLOW, 0600);
+        if (it->fd < 0 && errno != EEXIST) break;
+        close_part(it);
     }
-    if (errno == EWOULDBLOCK) fprintf(stderr, "bw-fetch: %s: another bw-fetch writes it\n", it->part);
-    else say(it->part);
-    if (it->fd >= 0) close_part(it);
-    return false;
+    return file_fault(it->part);
 }
 
-int out_open(out *it, uint64_t total) {
+/* Magic, length and root, at the end of the file. */
+static void write_tail(const output *it, uint8_t bytes[TAIL_LEN]) {
+    memcpy(bytes, "bw-fetch", 8);
+    claim_length(bytes + 8, it->total);
+    memcpy(bytes + 16, it->root, BW_HASH_LEN);
+}
+
+static uint64_t tail_at(uint64_t total) {
+    return total + bw_outboard_len(total);
+}
+
+int out_resume(output *it) {
+    uint8_t bytes[TAIL_LEN], wanted[TAIL_LEN];
+    struct stat of;
+    int status = it->is_pipe ? -1 : lock_part(it, false);
+    if (status) return status;
+    uint64_t size = fstat(it->fd, &of) || of.st_size < TAIL_LEN ? 0 : (uint64_t)of.st_size - TAIL_LEN;
+    bool ok = size && read_at(it->fd, size, bytes, TAIL_LEN) == TAIL_LEN;
+    if (ok) it->total = length_claimed(bytes + 8), write_tail(it, wanted);
+    if (ok && !memcmp(bytes, wanted, TAIL_LEN) && it->total < size && tail_at(it->total) == size) return 0;
+    return close_part(it), -1;
+}
+
+int out_open(output *it, uint64_t total) {
+    uint8_t bytes[TAIL_LEN];
     it->total = total;
     if (it->is_pipe) {
-        uint64_t units = total / WINDOW_UNIT + 1;
-        it->window_len = (units < WINDOW_UNITS ? units : WINDOW_UNITS) * WINDOW_UNIT;
+        uint64_t units = total / UNIT_LEN + 1;
+        it->window_len = (units < WINDOW_UNITS ? units : WINDOW_UNITS) * UNIT_LEN;
         it->window = malloc((size_t)it->window_len);
-        return it->window ? 0 : 4;
+        return it->window ? 0 : NO_MEMORY;
     }
-    if (!lock_part(it)) return 3;
-    if (ftruncate(it->fd, 0) || !keep_mode(it, it->fd) || ftruncate(it->fd, (off_t)total)) return say(it->part), 3;
-    return 0;
+    int status = lock_part(it, true);
+    if (status) return status;
+    if (ftruncate(it->fd, 0) || ftruncate(it->fd, (off_t)total)) return file_fault(it->part);
+    write_tail(it, bytes);
+    it->is_full = write_at(it->fd, total, bytes + 8, BW_LENGTH_LEN) < BW_LENGTH_LEN || write_at(it->fd, tail_at(total), bytes, TAIL_LEN) < TAIL_LEN;
+    return ftruncate(it->fd, (off_t)(it->is_full ? total : tail_at(total) + TAIL_LEN)) ? file_fault(it->part) : 0;
 }
 
-static bool write_at(int fd, uint64_t at, const uint8_t *bytes, size_t len) {
-    while (len) {
-        ssize_t n = pwrite(fd, bytes, len, (off_t)at);
-        if (n < 0 && errno == EINTR) continue;
-        if (n <= 0) return false;
-        bytes += n, at += (uint64_t)n, len -= (size_t)n;
-    }
-    return true;
+uint64_t out_data(const output *it, uint64_t from) {
+    off_t at = lseek(it->fd, (off_t)from, SEEK_DATA);
+    return at >= 0 ? (uint64_t)at : errno == ENXIO ? UINT64_MAX : from;
 }
 
-static bool read_at(int fd, uint64_t at, uint8_t *bytes, size_t len) {
-    while (len) {
-        ssize_t n = pread(fd, bytes, len, (off_t)at);
-        if (n < 0 && errno == EINTR) continue;
-        if (n <= 0) return false;
-        bytes += n, at += (uint64_t)n, len -= (size_t)n;
-    }
-    return true;
-}
-
-/* Has parents give way to the blob where a disk is full. */
-static bool give_way(out *it) {
-    if (errno != ENOSPC && errno != EDQUOT) return false;
+/* Has parents give way to the blob where a disk is full, if it has room for the blob then. Else all is kept for a later run. */
+static bool give_way(output *it) {
+    struct statvfs disk;
+    struct stat of;
+    if ((errno != ENOSPC && errno != EDQUOT) || fstatvfs(it->fd, &disk) || fstat(it->fd, &of)) return false;
+    if ((uint64_t)disk.f_bavail * disk.f_frsize + (uint64_t)of.st_blocks * 512 < it->total) return errno = ENOSPC, false;
     atomic_store(&it->is_full, true);
     return !ftruncate(it->fd, (off_t)it->total);
 }
 
-bool out_put(out *it, uint64_t from, const uint8_t *bytes, size_t len) {
+bool out_put(output *it, uint64_t from, const uint8_t *bytes, size_t len) {
     if (it->is_pipe) return memcpy(it->window + from % it->window_len, bytes, len), true;
-    if (write_at(it->fd, from, bytes, len)) return true;
-    return (give_way(it) && write_at(it->fd, from, bytes, len)) || say(it->part);
+    if (write_at(it->fd, from, bytes, len) == len) return true;
+    return (give_way(it) && write_at(it->fd, from, bytes, len) == len) || !file_fault(it->part);
 }
 
-bool out_get(const out *it, uint64_t from, uint8_t *bytes, size_t len) {
+bool out_get(const output *it, uint64_t from, uint8_t *bytes, size_t len) {
     if (it->is_pipe) return memcpy(bytes, it->window + from % it->window_len, len), true;
-    return read_at(it->fd, from, bytes, len) || say(it->part);
+    return read_at(it->fd, from, bytes, len) == len || !file_fault(it->part);
 }
 
-void out_write_back(const out *it, uint64_t from, uint64_t len) {
+void out_write_back(const output *it, uint64_t from, uint64_t len) {
 #ifdef SYNC_FILE_RANGE_WRITE
     if (!it->is_pipe) sync_file_range(it->fd, (off_t)from, (off_t)len, SYNC_FILE_RANGE_WRITE);
 #else
@@ -155,44 +170,40 @@ void out_write_back(const out *it, uint64_t from, uint64_t len) {
 #endif
 }
 
-bool out_pass(out *it, const uint8_t *bytes, size_t len) {
+/* So little at a time that a pipe takes it as soon as it takes something: nobody may read it for ever. */
+bool out_pass(output *it, const uint8_t *bytes, size_t len) {
     while (it->is_pipe && len) {
-        ssize_t n = write(STDOUT_FILENO, bytes, len);
-        if (n < 0 && errno == EINTR) continue;
-        if (n <= 0) return say("standard output");
+        struct pollfd to = {.fd = STDOUT_FILENO, .events = POLLOUT};
+        if (atomic_load(&it->is_over)) return false;
+        if (poll(&to, 1, NAP_MS) <= 0) continue;
+        ssize_t n = write(STDOUT_FILENO, bytes, len < PIPE_LEN ? len : PIPE_LEN);
+        if (n < 0 && (errno == EINTR || errno == EAGAIN)) continue;
+        if (n <= 0) return !file_fault("standard output");
         bytes += n, len -= (size_t)n;
     }
     return true;
 }
 
 /* So that the new name is on the disk as well. A folder that can't be opened or flushed is left as it is. */
-static void flush_folder(const char *path) {
-    char *copy = with_tail(path, "");
-    int fd = copy ? open(dirname(copy), O_RDONLY | O_DIRECTORY | O_CLOEXEC) : -1;
+static void flush_folder(const output *it) {
+    int fd = open(it->folder, O_RDONLY | O_DIRECTORY | O_CLOEXEC);
     if (fd >= 0) fsync(fd), close(fd);
-    free(copy);
 }
 
-bool out_finish(out *it) {
+bool out_finish(output *it) {
     if (it->is_pipe) return true;
-    if (ftruncate(it->fd, (off_t)it->total) || fsync(it->fd) || rename(it->part, it->path)) return say(it->path);
-    flush_folder(it->path);
-    unlink(it->part_bao);
+    if (it->is_there && fchown(it->fd, it->user, it->group)) errno = 0;     /* as far as it is allowed */
+    if (fchmod(it->fd, it->mode) || ftruncate(it->fd, (off_t)it->total) || fsync(it->fd) || rename(it->part, it->path)) return !file_fault(it->path);
+    flush_folder(it);
     close_part(it);
     return true;
-}
-
-void out_drop(out *it) {
-    if (it->fd < 0) return;
-    unlink(it->part);
-    close_part(it);
 }
 
 /* --- Parents: byte `at` of the outboard encoding is byte `at` after the blob */
 
 typedef struct learning {
-    const out *to;
-    path *above;
+    const output *to;
+    trail *above;
     bool is_new;
     uint64_t from;
     size_t len;
@@ -206,7 +217,7 @@ static void flush_parents(learning *by) {
 }
 
 static void learn_node(learning *by, const bw_placed *it, const uint8_t *bytes) {
-    above *of = path_find(by->above, it->outboard_at);
+    ancestor *of = trail_find(by->above, it->outboard_at);
     if (of && of->is_known) return;
     if (of) memcpy(of->text, bytes, BW_PARENT_LEN), of->is_known = by->is_new = true;
     if (by->to->is_pipe || atomic_load(&by->to->is_full)) return;
@@ -216,7 +227,7 @@ static void learn_node(learning *by, const bw_placed *it, const uint8_t *bytes) 
     by->len += BW_PARENT_LEN;
 }
 
-bool out_learn(const out *it, path *above, uint64_t start, uint64_t len, const uint8_t *text) {
+bool out_learn(const output *it, trail *above, uint64_t start, uint64_t len, const uint8_t *text) {
     learning by = {.to = it, .above = above};
     slice of;
     if (!slice_of(&of, it->total, start, len)) return false;
@@ -226,101 +237,4 @@ bool out_learn(const out *it, path *above, uint64_t start, uint64_t len, const u
     }
     flush_parents(&by);
     return by.is_new;
-}
-
-/* --- OUT.part.bao */
-
-/* Some bytes of a file: those that were read last, or those that aren't written yet. */
-typedef struct block {
-    int fd;
-    uint64_t at;
-    size_t len;
-    uint8_t bytes[BLOCK_LEN];
-} block;
-
-/* Bytes of a file, or NULL where it ends before. `most` are read at once. */
-static const uint8_t *look(block *in, uint64_t at, size_t len, size_t most) {
-    if (at < in->at || at + len > in->at + in->len) {
-        ssize_t n = pread(in->fd, in->bytes, most, (off_t)at);
-        in->at = at, in->len = n > 0 ? (size_t)n : 0;
-    }
-    return at + len <= in->at + in->len ? in->bytes + (at - in->at) : NULL;
-}
-
-/* Nodes that follow each other are written as one block. */
-static bool flush_block(block *it) {
-    bool ok = write_at(it->fd, it->at, it->bytes, it->len);
-    it->at += it->len, it->len = 0;
-    return ok;
-}
-
-static bool put_block(block *to, uint64_t at, const uint8_t *bytes, size_t len) {
-    if ((at != to->at + to->len || len > BLOCK_LEN - to->len) && !flush_block(to)) return false;
-    if (!to->len) to->at = at;
-    memcpy(to->bytes + to->len, bytes, len);
-    to->len += len;
-    return true;
-}
-
-typedef struct saving {
-    const out *from;
-    block chunks, parents, to;
-    uint64_t end;                           /* of the last node. One before it is there already, of an earlier slice */
-} saving;
-
-static bool is_hole(const uint8_t *parent) {
-    static const uint8_t none[BW_PARENT_LEN];
-    return !memcmp(parent, none, BW_PARENT_LEN);
-}
-
-static bool save_node(saving *by, const bw_placed *it) {
-    bool is_chunk = it->kind == BW_NODE_CHUNK;
-    if (it->combined_at < by->end) return true;
-    const uint8_t *bytes = is_chunk ? look(&by->chunks, it->start, it->size, BLOCK_LEN)
-                                    : look(&by->parents, by->from->total + it->outboard_at, it->size, PARENTS_LEN);
-    if (!is_chunk && (!bytes || is_hole(bytes))) return true;
-    by->end = it->combined_at + it->size;
-    return bytes && put_block(&by->to, it->combined_at, bytes, it->size);
-}
-
-static bool save_slice(saving *by, uint64_t start, uint64_t len) {
-    slice of;
-    if (!slice_of(&of, by->from->total, start, len)) return false;
-    for (size_t i = 0; i < of.count; i++) {
-        if (!save_node(by, &of.nodes[i])) return false;
-    }
-    return true;
-}
-
-/* The chunks of a group that are there, as slices of those that lie side by side. */
-static bool save_group(saving *by, uint64_t group, uint64_t held) {
-    while (held) {
-        unsigned low = (unsigned)__builtin_ctzll(held), count = ~(held >> low) ? (unsigned)__builtin_ctzll(~(held >> low)) : 64;
-        uint64_t start = group * GROUP_LEN + (uint64_t)low * BW_CHUNK_LEN;
-        if (!save_slice(by, start, (uint64_t)count * BW_CHUNK_LEN)) return false;
-        held = count + low == 64 ? 0 : held >> (low + count) << (low + count);
-    }
-    return true;
-}
-
-static bool save_all(saving *by, const void *with, held_chunks *held) {
-    uint64_t total = by->from->total, groups = (chunks_of(total) - 1) / BW_GROUP_CHUNKS + 1;
-    uint8_t claim[BW_LENGTH_LEN];
-    claim_length(claim, total);
-    if (ftruncate(by->to.fd, (off_t)bw_encoded_len(total)) || !put_block(&by->to, 0, claim, BW_LENGTH_LEN)) return false;
-    for (uint64_t g = 0; g < groups; g++) {
-        if (!save_group(by, g, held(with, g))) return false;
-    }
-    return flush_block(&by->to) && !fsync(by->to.fd);
-}
-
-bool out_save(out *it, const void *with, held_chunks *held) {
-    static saving by;
-    by.from = it, by.chunks.fd = by.parents.fd = it->fd;
-    by.to.fd = open(it->part_new, O_WRONLY | O_CREAT | O_TRUNC | O_CLOEXEC | O_NOFOLLOW, 0666);
-    if (by.to.fd < 0) return say(it->part_new);
-    bool ok = keep_mode(it, by.to.fd) && save_all(&by, with, held);
-    ok = !close(by.to.fd) && ok && !rename(it->part_new, it->part_bao);
-    if (!ok) say(it->part_bao), unlink(it->part_new);
-    return ok;
 }

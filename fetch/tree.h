@@ -5,11 +5,16 @@
 #ifndef BW_FETCH_TREE_H
 #define BW_FETCH_TREE_H
 
+#define _GNU_SOURCE
 #include <berylwool.h>
-#include <stdatomic.h>
+#include <errno.h>
+#include <fcntl.h>
+#include <inttypes.h>
 #include <stdbool.h>
-#include <stddef.h>
-#include <stdint.h>
+#include <stdio.h>
+#include <stdlib.h>
+#include <string.h>
+#include <unistd.h>
 
 /* A group, and room for a slice of it. */
 enum {
@@ -37,20 +42,20 @@ typedef struct slice {
 } slice;
 
 /* The parents above a part of the blob, from the root on, with the bytes of those that are known to be true. */
-typedef struct above {
+typedef struct ancestor {
     bool is_known;
     uint64_t outboard_at, combined_at;
     uint8_t text[BW_PARENT_LEN];
-} above;
+} ancestor;
 
-typedef struct path {
+typedef struct trail {
     size_t count;
-    above list[BW_DEPTH_MAX];
-} path;
+    ancestor list[BW_DEPTH_MAX];
+} trail;
 
 /* Where the nodes of a slice are taken from: known parents first, then what came of each kind of file. */
 typedef struct origin {
-    const path *known;
+    trail *known;
     const pieces *combined, *outboard, *plain;
 } origin;
 
@@ -64,16 +69,15 @@ uint64_t chunks_of(uint64_t total);
 bool slice_of(slice *it, uint64_t total, uint64_t start, uint64_t len);
 
 /* The parents above a unit, of which none is known yet: those that are over more bytes than it has. */
-void path_to(path *it, uint64_t total, uint64_t start, uint64_t len);
+void trail_to(trail *it, uint64_t total, uint64_t start, uint64_t len);
 
 /* The parent of the path that lies there in the outboard encoding, or NULL. */
-above *path_find(path *it, uint64_t outboard_at);
+ancestor *trail_find(trail *it, uint64_t outboard_at);
 
 /* Adds the ranges of the combined encoding that are the slice, or of the outboard encoding that are its parents, without the
  * length. Adjacent ones become one. A parent at a range's start that is known, or asked for already, is left out. False:
  * there is no room, and some were added. */
-bool add_slice(pieces *out, const path *known, uint64_t total, uint64_t start, uint64_t len);
-bool add_parents(pieces *out, const path *known, uint64_t total, uint64_t start, uint64_t len);
+bool add_ranges(pieces *out, const trail *known, bool is_combined, uint64_t total, uint64_t start, uint64_t len);
 
 /* Puts a slice of chunks of one group together. Its length, or 0 where a node is lacking or `room` is too small. */
 size_t slice_put(uint64_t total, uint64_t start, uint64_t len, const origin *from, uint8_t *out, size_t room);

@@ -5,6 +5,7 @@ Needs cc. With c++, clang, the sanitizers of cc, valgrind and rustc it runs more
 BERYLWOOL_CI in the environment nothing of these may be missing. With go it runs the example in Go. Its last line is 'the C library passed'."""
 import os
 import pathlib
+import re
 import shutil
 import subprocess
 import sys
@@ -77,9 +78,15 @@ def vectors():
     (OUT / "vectors.h").write_text("\n".join(text) + "\n")
 
 
+def guide():
+    """The code of the guide, block after block, as a header."""
+    blocks = re.findall(r"^```c\n(.*?)^```$", (ROOT / "docs" / "C-API.md").read_text(), re.S | re.M)
+    (OUT / "guide.h").write_text("\n".join(blocks))
+
+
 def kinds():
     """A compiler takes each kind of handle where it is asked for, and no other one there."""
-    kinds = ("hasher", "feed", "outline", "seat")
+    kinds = ("hasher", "feed", "outline", "seat", "plan")
     for wanted in kinds:
         for given in kinds:
             text = f"#include <berylwool.h>\nvoid test(void) {{ bw_{given} it = BW_EMPTY; bw_{wanted}_free(&it); }}\n"
@@ -108,6 +115,7 @@ def main():
         sys.exit("c_test.py: cc isn't installed")
     OUT.mkdir(parents=True, exist_ok=True)
     vectors()
+    guide()
     with open(OUT / "tie.c", "w") as tie:
         run(sys.executable, "scripts/header.py", "crates/berylwool/src", ARCHIVE, stdout=tie)
     run("cc", *FLAGS, "-c", OUT / "tie.c", "-o", OUT / "tie.o")
@@ -121,8 +129,9 @@ def main():
         if sanitizes("cc", flag):
             builds.append(("cc", name, [flag, *(["-fno-sanitize-recover=undefined"] if name == "asan" else [])]))
     for compiler, name, more in builds:
-        run(compiler, *FLAGS, *more, "c/test.c", ARCHIVE, "-o", OUT / f"test-{name}")
-        run(OUT / f"test-{name}")
+        for test in ("test", "test_plan", "guide"):
+            run(compiler, *FLAGS, *more, f"c/{test}.c", ARCHIVE, "-o", OUT / f"{test}-{name}")
+            run(OUT / f"{test}-{name}")
     run("cc", *FLAGS, "-Wl,--wrap=malloc,--wrap=realloc", "c/refuse.c", ARCHIVE, "-o", OUT / "refuse")
     run(OUT / "refuse")
     run("cc", *FLAGS, "c/stack.c", ARCHIVE, "-o", OUT / "stack")
@@ -143,6 +152,7 @@ def main():
     else:
         print("not run, since it isn't here: pkg-config, so that nobody has used what make dist makes")
     run(sys.executable, "scripts/c_fuzz.py")
+    run(sys.executable, "scripts/c_plan.py")
     if there("rustc"):
         run("rustc", "--edition", "2021", "-O", "-D", "warnings", "-L", ARCHIVE.parent, "c/examples/berylwool.rs", "-o", OUT / "example")
         run(OUT / "example")

@@ -16,19 +16,11 @@ import shutil
 import subprocess
 import sys
 
-sys.dont_write_bytecode = True
-import c_manual
-import manual
-
 ROOT = os.path.dirname(os.path.dirname(os.path.abspath(__file__)))
 
-# Where each text of scripts/manual.py lies below share/.
-SHARED = {
-    f"{manual.NAME}.1": f"man/man1/{manual.NAME}.1",
-    f"{manual.NAME}.bash": f"bash-completion/completions/{manual.NAME}",
-    f"_{manual.NAME}": f"zsh/site-functions/_{manual.NAME}",
-    f"{manual.NAME}.fish": f"fish/vendor_completions.d/{manual.NAME}.fish",
-}
+NAME = "bao_gather"
+# What `make doc` made of manual pages and completions, and which of them is of a program that isn't here.
+SHARED, ASIDE = f"{ROOT}/out/doc/share", "man/man1/bw-fetch.1"
 
 
 def said(*words):
@@ -45,7 +37,7 @@ def put(file, to):
 
 
 def put_library(folder, levels):
-    """Puts the C library to a folder, with its header, what pkg-config asks for and its manual pages, and returns its version. ld.so takes the
+    """Puts the C library to a folder, with its header and what pkg-config asks for, and returns its version. ld.so takes the
     library below glibc-hwcaps on a processor that has its level."""
     (first, made), *others = levels
     put(f"{made}/libberylwool.a", f"{folder}/lib/libberylwool.a")
@@ -54,7 +46,6 @@ def put_library(folder, levels):
     for level, its in others:
         put(f"{its}/libberylwool.so", f"{folder}/lib/glibc-hwcaps/{level}/libberylwool.so.0")
     put(f"{ROOT}/c/berylwool.h", f"{folder}/include/berylwool.h")
-    c_manual.main(f"{folder}/share/man/man3")
     with open(f"{ROOT}/c/berylwool.pc.in", encoding="utf-8") as it:
         told = it.read()
     for name, place in (("PREFIX", "${pcfiledir}/../.."), ("LIBDIR", "${prefix}/lib"), ("INCLUDEDIR", "${prefix}/include")):
@@ -73,15 +64,12 @@ def main(folder, levels):
     shutil.rmtree(folder, ignore_errors=True)
     versions = set()
     for level, made in levels:
-        put(f"{made}/{manual.NAME}", f"{folder}/bin/{level}/{manual.NAME}")
-        versions.add(said(f"{folder}/bin/{level}/{manual.NAME}", "--version"))
+        put(f"{made}/{NAME}", f"{folder}/bin/{level}/{NAME}")
+        versions.add(said(f"{folder}/bin/{level}/{NAME}", "--version"))
     if len(versions) > 1:
         sys.exit(f"dist: the programs are of several versions: {', '.join(sorted(versions))}")
-    texts = f"{folder}/texts"
-    manual.write(texts)
-    for name, place in SHARED.items():
-        put(f"{texts}/{name}", f"{folder}/share/{place}")
-    shutil.rmtree(texts)
+    shutil.copytree(SHARED, f"{folder}/share")
+    os.remove(f"{folder}/share/{ASIDE}")
     library = put_library(folder, levels)
     with open(f"{folder}/BUILD", "w", encoding="utf-8") as it:
         it.write(f"{versions.pop()}\nberylwool {library}\ncommit {commit}\nrt {kit}\nlevels {' '.join(level for level, _ in levels)}\n")

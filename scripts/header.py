@@ -21,7 +21,7 @@ EXPORT = re.compile(r'#\[unsafe\(no_mangle\)\]\s*pub extern "C" fn (\w+)\((.*?)\
 MARKED = re.compile(r"^(?:BW_USE )?\w+ (bw_\w+)\([^;]*?\)(?: BW_NONNULL\(([\d, ]+)\))?;", re.M)
 STATUS = re.compile(r"^pub\(crate\) const (\w+): u32 = (\d+);", re.M)
 HANDLE = "BwHandle"
-HANDLES = ("hasher", "feed", "outline", "seat")
+HANDLES = ("hasher", "feed", "outline", "seat", "plan")
 REFERENCE = re.compile(r"&(mut )?(?:\[(\w+)(?:; (\d+))?\]|(\w+))")
 
 

@@ -3,20 +3,21 @@
 
 usage: python3 scripts/laws.py [--list]
 
-At the top of the repository. A law is a public function of a crate determined_*: it asks a call twice of the same, and ensures
-that both answers are equal. A function without one is named, with the reason, in the table of docs/PROMISES.md under HEADING:
-a method there as TYPE::NAME. A function counts as asked where a law calls it; a method, where a law calls one of its name and
-names its type.
-Fails where a public function of a library has neither, or both, or where the table names one that isn't there.
---list prints the functions of each crate that have a law. It proves nothing and takes a second.
+At the top of the repository. A law is a public function of a crate determined_*: it asks a call twice of the same, and ensures that both answers are
+equal. A function counts as asked where a law calls it; a method, where a law calls one of its name and names its type. A function without one is named,
+with the reason, in the file no-law.txt beside the laws, in a line `CRATE: FUNCTION, TYPE::METHOD: reason`.
+Fails where a public function of a library has neither, or both, or where no-law.txt names one that isn't there.
+--list prints the functions of each crate that have a law. It proves nothing and takes seconds.
 """
 import glob
 import os
 import re
 import sys
 
-HEADING = "## Which answers are determined"
-# The crates of laws, and of whose calls each has them. No crate can stand on a static library, so that it has its own.
+sys.dont_write_bytecode = True
+from project import Project, expanded, text_of
+
+# The crates of laws, and of whose calls each has them. No crate can stand on a static library, so that it has its own; bao_plan's are of any list of its calls.
 OF = {
     "determined_b3": ["b3word", "b3tree", "bao_text"],
     "determined_check": ["bao_check", "bao_join", "bao_feed", "bao_bind"],
@@ -28,126 +29,119 @@ OF = {
     "determined_tasks": ["bao_decode", "bao_tasks"],
     "determined_program": ["bao_script", "bao_request"],
     "determined_command": ["bao_command"],
+    "bao_plan": ["bao_plan"],
     "berylwool": ["berylwool"],
 }
 # Crates that nobody calls: laws, tests, programs.
 ASIDE = re.compile(r"determined_|tests_|.*_scenarios$|examples$|bench$|bao_gather$")
-# A public function's head, and its body's first line. One with no body is a law itself: it answers nothing.
-PUBLIC = re.compile(r'^( *)pub (?:(?:const|unsafe|final|extern "C") )*fn (\w+)(?:.*\n)*?(?:\1\{(\}?)$|.*[^ ] \{(\}?)$)', re.M)
-# The type of which an impl's functions are.
-IMPL = re.compile(r"^impl(?:<[^{]*?>)? (?:[^{;]*? for )?&?(?:'\w+ )?(\w+)", re.M)
-LAW = re.compile(r"^pub fn (\w+)", re.M)
 # A call, with the type or module before it, or the dot.
 CALL = re.compile(r"(?:\b(\w+)(?:::<[^>]*>)?::|(\.))?\b(\w+)(?:::<[^>]*>)?\(")
-CLAUSES = re.compile(r"\n    (?:requires|ensures)\b")
+CLAUSE = re.compile(r"^    (?:requires|ensures)\b")
 COMMENT = re.compile(r"//[^\n]*")
 
 
-def text_of(file):
-    with open(file, encoding="utf-8") as it:
-        return it.read()
+def crates_of():
+    """Returns of each crate of crates.txt those of the repository that it stands on, in the order of that file."""
+    named = [it.partition("#")[0].partition(":") for it in text_of("crates.txt").split("\n")]
+    found = {name.split()[0]: uses.split() for name, colon, uses in named if colon}
+    return {name: [it for it in uses if it in found] for name, uses in found.items()}
 
 
-def sources_of(crate):
-    """Returns a crate's source files, its tests aside."""
-    files = sorted(glob.glob(f"crates/{crate}/src/**/*.rt", recursive=True))
-    return [it for it in files if not os.path.basename(it).startswith("tests")]
-
-
-def sources(crate):
-    """Returns the texts of these files without comments."""
-    return [COMMENT.sub("", text_of(it)) for it in sources_of(crate)]
+def root_of(crate):
+    return COMMENT.sub("", text_of(f"crates/{crate}/src/lib.rt"))
 
 
 def exported(crate):
-    """Returns the names that a crate's root hands out."""
-    root = COMMENT.sub("", text_of(f"crates/{crate}/src/lib.rt"))
-    named = " ".join(re.findall(r"^pub use ([^;]*);", root, re.M))
-    return set(re.findall(r"\w+", named)) | set(re.findall(r"^pub mod (\w+)", root, re.M))
+    """Returns the names that a crate's root hands out, each with the first part of its path, and its public modules."""
+    named = [it for use in re.findall(r"^pub use ([^;]*);", root_of(crate), re.M) for it in expanded(re.sub(r"\s+", " ", use))]
+    return {name: path[0] for path, _, name in named} | {it: "" for it in re.findall(r"^pub mod (\w+)", root_of(crate), re.M)}
 
 
-def public_of(crate):
-    """Returns a crate's public functions: those that its root hands out, and as TYPE::NAME the methods of types that it hands out."""
-    out, found = exported(crate), set()
-    for file in sources_of(crate):
-        text, root = COMMENT.sub("", text_of(file)), file.endswith("src/lib.rt")
-        module = os.path.basename(file).removesuffix(".rt") in out
-        for it in PUBLIC.finditer(text):
-            indent, name, *empty = it.groups()
-            of = [*IMPL.findall(text[: it.start()])][-1:] if indent else []
-            is_out = root or module or (of[0] in out if of else name in out or 'extern "C"' in it[0])
-            if is_out and not any(empty) and not name.endswith("_determined"):
-                found.add("::".join([*of, name]))
+def is_empty(unit):
+    """Whether a function has an empty body: then it answers nothing, and is a law itself."""
+    return "".join(unit.body).strip().endswith("{}")
+
+
+def public_of(project, crate, with_laws=False):
+    """Returns a crate's public functions, by name: those that its root hands out, and as TYPE::NAME the methods of types that it hands out."""
+    out, found = exported(crate), {}
+    for it in project.contracts.values():
+        name = it.call.removeprefix(f"{crate}::")
+        if name == it.call or not it.is_public or not with_laws and is_empty(it) or name.endswith("_determined"):
+            continue
+        is_whole = it.file.endswith("src/lib.rt") or os.path.basename(it.file).removesuffix(".rt") in out
+        if is_whole or name.split("::")[0] in out or 'extern "C"' in "\n".join(it.lines):
+            found[name] = it
     return found
 
 
-def laws_of(crate):
-    """Returns of each law of a crate of laws the crates that its file uses of those that it may be of, and what it calls: functions,
-    methods by name alone, and the words that it has."""
-    for text in sources(crate):
-        of = [it for it in OF[crate] if it == crate or re.search(rf"\b{it}::", text)]
-        heads = [it for it in LAW.finditer(text) if not crate in of or it[1].endswith("_determined")]
-        for head, end in zip(heads, [it.start() for it in heads[1:]] + [len(text)]):
-            clauses, body = text[head.start() : end].split("\n{", 1)
-            # (without its clauses, whose words are no types, and its own name, which it doesn't call)
-            law = CLAUSES.split(clauses)[0] + body
-            calls = CALL.findall(body)
-            functions = {f"{of}::{name}" if of[:1].isupper() else name for of, dot, name in calls if not dot}
-            # An iterator's `next` is called by a `for`.
-            methods = {name for _, dot, name in calls if dot} | ({"next"} if re.search(r"^\s*for ", law, re.M) else set())
-            yield of, functions, methods, set(re.findall(r"\w+", law))
+class Law:
+    """A law: of which crates it may be, and what it calls: functions, methods by name alone, and the words that it has."""
+
+    def __init__(self, unit, of):
+        body = COMMENT.sub("", "\n".join(unit.body))
+        head = [it for it in unit.lines if not it.lstrip().startswith("//")]
+        ends = next((at for at, line in enumerate(head) if CLAUSE.match(line)), len(head))
+        # (without its clauses, whose words are no types)
+        text = "\n".join([*head[:ends], body])
+        calls = CALL.findall(body)
+        self.unit, self.of, self.words = unit, of, set(re.findall(r"\w+", text))
+        self.functions = {f"{of}::{name}" if of[:1].isupper() else name for of, dot, name in calls if not dot}
+        # An iterator's `next` is called by a `for`.
+        self.methods = {name for _, dot, name in calls if dot} | ({"next"} if re.search(r"^\s*for ", body, re.M) else set())
+
+    def asks(self, function):
+        of, _, name = function.rpartition("::")
+        return function in self.functions or bool(of) and name in self.methods and of in self.words
+
+
+def laws_of(project):
+    """Returns the laws of each crate's calls."""
+    found = {}
+    for crate, may in OF.items():
+        files = {it: text_of(it) for it in glob.glob(f"crates/{crate}/src/**/*.rt", recursive=True)}
+        for it in project.promises:
+            if it.file in files and it.is_public and it.call.count("::") == 1 and (crate not in may or it.name.endswith("_determined")):
+                of = [one for one in may if one == crate or re.search(rf"\b{one}::", files[it.file])]
+                for one in of:
+                    found.setdefault(one, []).append(Law(it, of))
+    return found
 
 
 def excused():
-    """Returns the functions that the table names, by crate."""
-    section = text_of("docs/PROMISES.md").split(f"\n{HEADING}\n", 1)
-    if len(section) < 2:
-        sys.exit(f"laws: docs/PROMISES.md has no section '{HEADING}'")
-    rows = {}
-    for line in section[1].split("\n## ", 1)[0].split("\n"):
-        cells = [it.strip() for it in line.strip().strip("|").split("|")]
-        if line.startswith("| `") and len(cells) == 3:
-            rows.setdefault(cells[0].strip("`"), set()).update(re.findall(r"`([\w:]+)`", cells[1]))
-    return rows
+    """Returns of each crate the functions that no law asks, with the reason."""
+    found = {}
+    for file in sorted(glob.glob("crates/*/no-law.txt")):
+        for line in text_of(file).split("\n"):
+            if line and not line.startswith("#"):
+                crate, names, why = line.split(": ", 2)
+                found.setdefault(crate, {}).update({it: why for it in names.split(", ")})
+    return found
 
 
-def is_asked(function, laws):
-    """Whether one of the laws asks the function."""
-    of, _, name = function.rpartition("::")
-    return any(function in functions or of and name in methods and of in words for functions, methods, words in laws)
+def look(crate, public, has, told):
+    """Returns what is wrong with the laws of a crate."""
+    wrong = [f"{it} has no law, and no no-law.txt says why" for it in public - has - told]
+    wrong += [f"{it} has a law, and a no-law.txt says why not" for it in has & told]
+    wrong += [f"a no-law.txt names {it}, which is no public function of it" for it in told - public]
+    return [f"{crate}: {it}" for it in sorted(wrong)]
 
 
 def main():
-    crates = [it.split(":")[0].split()[0] for it in text_of("crates.txt").split("\n") if it.strip() and not it.startswith("#")]
-    why, called = excused(), {}
-    for laws in OF:
-        for of, *law in laws_of(laws):
-            for crate in of:
-                called.setdefault(crate, []).append(law)
-    bad = 0
-    for crate in sorted({it for it in crates if it.startswith("determined_")} ^ (OF.keys() - {"berylwool"})):
-        print(f"{crate}: scripts/laws.py doesn't say of whose calls it has laws, or crates.txt doesn't list it")
-        bad += 1
+    project, crates, why = Project(), crates_of(), excused()
+    laws, bad = laws_of(project), []
+    for crate in sorted({it for it in crates if it.startswith("determined_")} ^ {it for it in OF if it.startswith("determined_")}):
+        bad.append(f"{crate}: scripts/laws.py doesn't say of whose calls it has laws, or crates.txt doesn't list it")
     for crate in crates:
         if ASIDE.match(crate):
             continue
-        public = public_of(crate)
-        has, told = {it for it in public if is_asked(it, called.get(crate, []))}, why.pop(crate, set())
-        for name in sorted(public - has - told):
-            print(f"{crate}: {name} has no law, and docs/PROMISES.md doesn't say why")
-            bad += 1
-        for name in sorted(has & told):
-            print(f"{crate}: {name} has a law, and docs/PROMISES.md says why not")
-            bad += 1
-        for name in sorted(told - public):
-            print(f"{crate}: docs/PROMISES.md names {name}, which is no public function of it")
-            bad += 1
+        public = set(public_of(project, crate))
+        has = {it for it in public if any(law.asks(it) for law in laws.get(crate, []))}
+        bad += look(crate, public, has, set(why.pop(crate, {})))
         if "--list" in sys.argv[1:]:
             print(f"{crate}: {len(has)} of {len(public)}: {' '.join(sorted(has))}")
-    for crate in why:
-        print(f"docs/PROMISES.md names {crate}, which is no library")
-        bad += 1
-    print(f"laws: {bad} public functions to look at")
+    bad += [f"a no-law.txt names {crate}, which is no library" for crate in why]
+    print("\n".join([*bad, f"laws: {len(bad)} public functions to look at"]))
     return 1 if bad else 0
 
 

@@ -6,7 +6,7 @@ usage: python3 scripts/memory.py [--only TEXT] [PROGRAM]
 PROGRAM is the built bao_gather, out/bao_gather where it is left out.
 
 Each case of ROWS is a run, or several, of which all but the last make files for the next. What has to come is what the case put there itself: the blob that the
-holders have, or a fault of docs/CLI.md at a place that scripts/definitions.py gives, and then OUT as it was. A run may have so much memory at once
+holders have, or a fault of docs/MANUAL.md at a place that scripts/definitions.py gives, and then OUT as it was. A run may have so much memory at once
 (scripts/peak.c), and where that is looked at it may read so many bytes (scripts/shim.c), which says what no clock can: that a large holder isn't
 read for nothing. Zeros are sparse, so that they take no room on the disk; the rest takes 7 GB.
 Prints a line for each case, with what was wrong, and last 'N passed, M failed'. The exit status is 1 where one failed. Needs cc.
@@ -126,7 +126,7 @@ FOUR_TIMES, LITTLE, OF_A_PIPE = 4 * 68, 32, 32 + 68
 TWENTY = linked("64M.torn", 20)
 BESIDE_ZEROS = gather("4M", "4M.torn", "zeros-3G"), gather("4M", "4M.torn", "zeros-1T")
 TRUE_BESIDE_ZEROS = gather("64M", "64M.bao", "zeros-3G", how="--verbose")
-TRUE_AND_ZEROS = [counted("64M.bao", 0, "64M"), counted("zeros-3G", 1, NOTHING)]
+TRUE_AND_ZEROS = [counted("64M.bao", 0, "64M"), "zeros-3G: no combined encoding of ROOT; a plain copy goes with --outboard"]
 
 # Holders that are many, or large.
 HOLDERS = [
@@ -171,9 +171,9 @@ PIPED = [
 
 PART = f"{HOLED_LEN // 2} {ISLAND_LEN}"
 SLICED = (f"slice {PART} {HOLED} {MADE}", f"decode-slice @{HOLED} {PART} {MADE} {OUT}")
-CUT = (f"encode {HOLED} {MADE}", f"cut-slice @{HOLED} {PART} {MADE} {OUT}", f"decode-slice @{HOLED} {PART} {OUT} {OUT}")
-CUT_BESIDE = (f"outboard {HOLED} {MADE}", f"cut-slice --outboard {MADE} @{HOLED} {PART} {HOLED} {OUT}", f"decode-slice @{HOLED} {PART} {OUT} {OUT}")
-CUT_LONG = (f"encode 1G {MADE}", f"cut-slice @1G 0 {GIB} {MADE} {OUT}", f"decode @1G {OUT} {OUT}")
+CUT = (f"encode {HOLED} {OUT}", f"cut-slice @{HOLED} {PART} {OUT} {MADE}", f"decode-slice @{HOLED} {PART} {MADE} {OUT}")
+CUT_BESIDE = (f"outboard {HOLED} {OUT}", f"cut-slice --outboard {OUT} @{HOLED} {PART} {HOLED} {MADE}", f"decode-slice @{HOLED} {PART} {MADE} {OUT}")
+CUT_LONG = (f"encode 1G {OUT}", f"cut-slice @1G 0 {GIB} {OUT} {MADE}", f"decode @1G {MADE} {OUT}")
 ENCODED = (f"encode 1G {MADE}", f"decode @1G {MADE} {OUT}")
 OUTBOARDED = (f"outboard 1G {MADE}", *decode_beside(MADE, "1G", "1G"))
 
@@ -222,11 +222,8 @@ KEYS = [
     Row("a key out of an endless pipe", (f"decode --key-file {STDIN} @4M 4M.bao {OUT}",), KEEPS, NO_KEY, piped=ZEROS_COME, read=1),
 ]
 
-# FILE and OUT are one: what is written over was read before.
+# A FILE that is gathered and OUT are one: what is written over was read before.
 OVER_ITSELF = [
-    Row("64 MiB decoded over their encoding", (f"encode 64M {OUT}", f"decode @64M {OUT} {OUT}"), GATHERS, like="64M"),
-    Row("64 MiB encoded over themselves", (f"decode @64M 64M.bao {OUT}", f"encode {OUT} {OUT}", f"decode @64M {OUT} {OUT}"), GATHERS, like="64M"),
-    Row("64 MiB decoded over their plain copy", (f"decode @64M 64M.bao {OUT}", *decode_beside("64M.obao", "64M", OUT)), GATHERS, like="64M"),
     Row("64 MiB gathered over their encoding", (f"encode 64M {OUT}", *gather("64M", "64M.torn", OUT)), GATHERS, like="64M"),
 ]
 

@@ -8,7 +8,7 @@ PROGRAM is the built bao_gather, out/bao_gather where it is left out.
 Holders that lie are tried, with a true one among them or none. What a terminal is shown is looked at, by a clock of the shim's. And each task is run with one call of the C library failing, and so with each
 such call in turn, until a run meets none: an allocation, a thread's start, an open, a read, a write, a sync, a rename, a close, or the
 question how long a file is (scripts/shim.c). It fails as FAULTS says, that once or from then on, or the process is killed there. What has to
-come is what scripts/scenarios.py gives by the definitions alone, of the files as the run found them, or a fault of docs/CLI.md: never another
+come is what scripts/scenarios.py gives by the definitions alone, of the files as the run found them, or a fault of docs/MANUAL.md: never another
 text or status. OUT is what it was, or all that was to be written, and so is the list of what is missing. No file is left beside them, but by a process that was killed.
 Prints each case, each run that ended otherwise, and last 'N passed, M failed'. The exit status is 1 where one failed. Needs cc.
 """
@@ -42,7 +42,7 @@ PLAIN = b"bao_gather: memory\n"
 WRITTEN = (OUT, LIST)
 
 # The new file beside OUT, or beside the list.
-DRAFT = re.compile(rf"(?:.*/)?({OUT}|{LIST})\.part[2-9]?")
+DRAFT = re.compile(rf"(?:.*/)?({OUT}|{LIST})\.part\.gather[2-9]?")
 
 # The lines of --verbose, and of a list that isn't written; the one of a FILE that was counted, and those in its place for want of memory.
 TOLD = re.compile(rb"bao_gather: (?:left out .*|missing: .*|nothing fits ROOT: .*|list: left as it is: .*|.*: not counted: no memory|.*: \d+ of \d+ groups of 64 KiB refused)\n")
@@ -389,7 +389,7 @@ def tasks(options):
     yield case(f"gather --capacity 100 --workers 1 {root} out whole", {"whole": whole})
     yield case(f"gather --capacity 100 --encode {root} out whole damaged copy", {"whole": whole, "copy": whole, "damaged": damaged})
     yield case(f"gather --workers 3 --capacity 69 {root} out damaged", {"damaged": damaged})
-    yield case(f"gather --verbose --capacity 100 {root} out piece nofile whole", {"piece": piece, "whole": whole})
+    yield case(f"gather --verbose --capacity 100 {root} out piece nofile whole", {"piece": whole[:-1] + bytes([whole[-1] ^ 1]), "whole": whole})
     yield case(f"gather --missing list --workers 1 --capacity 100 {root} out damaged", {"damaged": damaged})
     yield case(f"gather --missing list --workers 1 --capacity 100 {root} out whole", {"whole": whole})
     yield case(f"gather --missing list --salvage --workers 1 --outboard parents {root} out third fifth", {"parents": parents, "fifth": changed(worn["fourth"], 66_000), **worn})
@@ -451,7 +451,7 @@ def on_terminal(program, shim, folder, words, settings):
 
 
 def shows(program, shim, room):
-    """Holds what a terminal is shown to docs/CLI.md: by a clock that is asked for each line and moves a second then, or stands. Answers
+    """Holds what a terminal is shown to docs/MANUAL.md: by a clock that is asked for each line and moves a second then, or stands. Answers
     how many runs were right, and what to say of the others."""
     moves, stands = {"CLOCK": "moves"}, {"CLOCK": "stands"}
     failing = lambda call, at: {**moves, "CALL": call, "AT": str(at), "HOW": str(errno.EIO)}

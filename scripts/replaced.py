@@ -7,17 +7,21 @@ PROGRAM is the built bao_gather, out/bao_gather where it is left out.
 
 Each row of ROWS is an OUT: how it is laid out, the tasks that write to it, how these end, and what stands in the folder then. A regular OUT
 is replaced at once: so it is what it was or what was to come, a link stays a link, permissions stay, and no file is left beside it. What was to
-come is what scripts/definitions.py gives. Two runs at a time on one OUT leave what one of them was to write.
+come is what scripts/definitions.py gives. Two runs at a time on one OUT leave what one of them was to write. Of runs that are killed at any moments
+one file at most is left beside OUT, and none after the next run. As root, owner and group are looked at, too.
 What is to be seen where a call fails, or the process is killed, scripts/refuse.py tries.
-OUT may not lead to standard output, nor the list of what is missing to another file of the command, by whatever name: then all stays as it was.
+OUT may not lead to standard output, nor to a file that is read, but for those that are gathered, nor the list of what is missing to another file of the
+command, by whatever name: then all stays as it was.
 Prints a line for each row and task, with what was wrong, and last 'N passed, M failed'. The exit status is 1 where one failed.
 """
 import argparse
 import os
+import shutil
 import subprocess
 import sys
 import tempfile
 import threading
+import time
 from dataclasses import dataclass, field
 
 sys.dont_write_bytecode = True
@@ -31,7 +35,12 @@ MODE = Programs().mode_of(None, None)
 ROOT, OTHER_ROOT = MODE.hash(BLOB).hex(), MODE.hash(OTHER).hex()
 ENCODED, PARENTS = bao.combined(MODE, BLOB), bao.outboard(MODE, BLOB)
 TORN = ENCODED[:100_000] + bytes([ENCODED[100_000] ^ 1]) + ENCODED[100_001:]
-FILES = {"blob": BLOB, "blob.bao": ENCODED, "blob.obao": PARENTS, "torn.bao": TORN, "other": OTHER, "other.bao": bao.combined(MODE, OTHER)}
+SLICE = bao.slice_text(MODE, BLOB, 70_000, 1000)
+# A copy whose first byte is wrong, and the combined encoding that it makes with the outboard encoding.
+HURT, FIRST = bytes([BLOB[0] ^ 1]) + BLOB[1:], ENCODED.index(BLOB[:1024])
+HURT_ENCODED = ENCODED[:FIRST] + HURT[:1] + ENCODED[FIRST + 1 :]
+FILES = {"blob.slice": SLICE, "blob": BLOB, "blob.bao": ENCODED, "blob.obao": PARENTS, "torn.bao": TORN, "other": OTHER, "other.bao": bao.combined(MODE, OTHER)}
+FILES |= {"hurt": HURT, **{f"long{name[4:]}": FILES[name] + b"!" for name in ("blob", "blob.bao", "blob.obao", "blob.slice")}}
 
 
 
@@ -56,6 +65,16 @@ TASKS = {
     f"gather --long {ROOT} OUT torn.bao blob.bao": BLOB,
 }
 DECODE, GATHER = f"decode {ROOT} blob.bao OUT", f"gather {ROOT} OUT torn.bao blob.bao"
+# Tasks whose input isn't accepted, whatever OUT is.
+DAMAGED = {
+    f"decode {ROOT} long.bao OUT": f"503 trailing at {len(ENCODED)}",
+    f"decode {ROOT} torn.bao OUT": fault_of(TORN),
+    f"decode-slice {ROOT} 70000 1000 long.slice OUT": f"503 trailing at {len(SLICE)}",
+    f"decode --outboard long.obao {ROOT} blob OUT": f"503 trailing at {len(PARENTS)}",
+    f"decode --outboard blob.obao {ROOT} long OUT": f"503 trailing at {len(BLOB)}",
+    f"cut-slice {ROOT} 0 {len(BLOB)} torn.bao OUT": fault_of(TORN),
+    f"cut-slice --outboard blob.obao {ROOT} 0 {len(BLOB)} hurt OUT": fault_of(HURT_ENCODED),
+}
 REFUSED = {f"decode {ROOT} torn.bao OUT": fault_of(TORN), f"gather {ROOT} OUT torn.bao": "901 unfinished", f"gather --long {ROOT} OUT torn.bao": "901 unfinished"}
 
 CANNOT = "cannot write {out}"
@@ -66,8 +85,8 @@ LONGEST = "o" * 255
 
 @dataclass(frozen=True)
 class Row:
-    """An OUT: its name, the files, links and folders that are laid out, the tasks, the line of the fault that all end with, or none, and the
-    files that hold what was to come; all others stay."""
+    """An OUT: its name, the files, links and folders that are laid out, the tasks, the line of the fault that all end with, or none, the
+    files that hold what was to come, and those that are removed; all others stay."""
 
     name: str
     out: str
@@ -77,10 +96,15 @@ class Row:
     tasks: tuple = tuple(TASKS)
     fault: str = ""
     written: tuple = ("out",)
+    removed: tuple = ()
     mode: int = 0o644
 
 
-TAKEN = {f"out.part{k or ''}": b"somebody's" for k in ["", *range(2, 9)]}
+# The names beside OUT, and files that killed runs left there.
+BESIDE = tuple(f"out.part.gather{k or ''}" for k in ["", *range(2, 10)])
+LEFT = {name: b"left" for name in BESIDE}
+
+IS_READ = "usage: OUT is a file that is read"
 
 ROWS = [
     Row("absent", "out"),
@@ -91,16 +115,21 @@ ROWS = [
     Row("a link to a file in another folder", "out", {"there/target": KEPT}, {"out": "there/target"}, ("there",), written=("there/target",)),
     Row("a link to a link", "out", {"there/target": KEPT}, {"out": "link", "link": "there/target"}, ("there",), written=("there/target",)),
     Row("a link to nothing", "out", links={"out": "target"}, written=("target",)),
-    Row("eight names beside it are taken", "out", {"out": KEPT, **TAKEN}),
-    Row("all names beside it are taken", "out", {"out": KEPT, **TAKEN, "out.part9": b"somebody's"}, fault=CANNOT, written=()),
-    Row("no name is left beside it", LONGEST, {LONGEST: KEPT}, fault=CANNOT, written=()),
+    Row("a killed run has left a file", "out", {"out": KEPT, BESIDE[0]: b"left"}, removed=BESIDE[:1]),
+    Row("killed runs have left nine", "out", {"out": KEPT, **LEFT}, removed=BESIDE),
+    Row("a download beside it", "out", {"out": KEPT, "out.part": b"somebody's"}),
+    Row("a link beside it", "out", {"out": KEPT, "other": OTHER}, {BESIDE[0]: "other"}),
+    Row("what was left is a FILE", "out", {"out": KEPT, BESIDE[0]: ENCODED}, tasks=(f"gather {ROOT} OUT {BESIDE[0]}",)),
+    Row("all names beside it are taken", "out", {"out": KEPT}, folders=BESIDE, fault=CANNOT, written=()),
+    Row("the longest name", LONGEST, {LONGEST: KEPT}, written=(LONGEST,)),
+    Row("a name that is too long", LONGEST + "o", fault=CANNOT, written=()),
     Row("a folder", "out", folders=("out",), fault=CANNOT, written=()),
     Row("in no folder", "nowhere/out", fault=CANNOT, written=()),
     Row("a full device", "/dev/full", fault=CANNOT, written=()),
     Row("a device", "/dev/null", written=()),
-    Row("one of the files, to decode", "blob.bao", tasks=(DECODE, GATHER), written=("blob.bao",)),
-    Row("one of the files, to encode", "blob", tasks=("encode blob OUT",), written=("blob",)),
-    Row("one of the files, under another name", "out", links={"out": "blob.bao"}, tasks=(DECODE, GATHER), written=("blob.bao",)),
+    Row("one of the files, to gather", "blob.bao", tasks=(GATHER,), written=("blob.bao",)),
+    Row("one of the files, to gather, under another name", "out", links={"out": "blob.bao"}, tasks=(GATHER,), written=("blob.bao",)),
+    *[Row("a fault of the input comes first", out, tasks=(words,), fault=why, written=()) for out in ("nowhere/out", "/dev/full") for words, why in DAMAGED.items()],
     *[Row(f"refused: {words.split()[0]}", "out", {"out": KEPT}, tasks=(words,), fault=why, written=()) for words, why in REFUSED.items()],
     *[Row(f"refused, and absent: {words.split()[0]}", "out", tasks=(words,), fault=why, written=()) for words, why in REFUSED.items()],
 ]
@@ -137,9 +166,11 @@ def lay_out(folder, row):
 def differences(before, after, row, words):
     """What isn't there as it should be."""
     wanted = dict(before)
+    for name in row.removed:
+        del wanted[name]
     for name in row.written:
         mode = before[name][0] if name in before else 0o666 & ~UMASK
-        wanted[name] = (mode, TASKS[words])
+        wanted[name] = (mode, TASKS.get(words, BLOB))
     names = sorted({*wanted, *after}, key=str)
     said = lambda it: "nothing" if it is None else f"{it[0] if isinstance(it[0], str) else oct(it[0])}, {len(it[1])} of {it[1][:16]!r}"
     return [f"{name[:20]}: {said(after.get(name))} in place of {said(wanted.get(name))}" for name in names if after.get(name) != wanted.get(name)]
@@ -162,7 +193,7 @@ def tried(program, row, words):
         ran = run(program, folder, words, row.out)
         wrong = differences(before, found(folder), row, words)
     fault = f"bao_gather: {row.fault.format(out=row.out)}\n" if row.fault else ""
-    status = 0 if not fault else 3 if row.fault == CANNOT else 1
+    status = 0 if not fault else 3 if row.fault == CANNOT else 2 if row.fault == IS_READ else 1
     got, wanted = (ran.returncode, ran.stderr), (status, fault)
     return wrong + ([f"{got} in place of {wanted}"] if got != wanted else [])
 
@@ -254,6 +285,32 @@ def onto_output(program):
     return wrong
 
 
+def onto_read(program):
+    """OUT is no file that is read, by whatever name, but for those that are gathered."""
+    wrong, nothing = [], lambda folder: None
+    soft = lambda to: lambda folder: os.symlink(to, f"{folder}/to")
+    hard = lambda to: lambda folder: os.link(f"{folder}/{to}", f"{folder}/to")
+    reads = {
+        "encode blob OUT": ["blob"],
+        "outboard blob OUT": ["blob"],
+        "slice 70000 1000 blob OUT": ["blob"],
+        "encode --key-file key blob OUT": ["key"],
+        f"decode {ROOT} blob.bao OUT": ["blob.bao"],
+        f"decode-slice {ROOT} 70000 1000 blob.slice OUT": ["blob.slice"],
+        f"cut-slice {ROOT} 70000 1000 blob.bao OUT": ["blob.bao"],
+        f"cut-slice --outboard blob.obao {ROOT} 70000 1000 blob OUT": ["blob", "blob.obao"],
+        f"decode --outboard blob.obao {ROOT} blob OUT": ["blob", "blob.obao"],
+        f"gather --outboard blob.obao {ROOT} OUT blob": ["blob.obao"],
+        f"gather --key-file key {ROOT} OUT blob.bao": ["key"],
+    }
+    for words, names in reads.items():
+        for name in names:
+            trials = [(name, nothing), (f"there/../{name}", nothing), ("to", soft(name)), ("to", hard(name))]
+            for out, make in trials:
+                wrong += refused(program, words, out, IS_READ.removeprefix("usage: "), make)
+    return wrong
+
+
 def onto_list(program):
     """The list of what is missing is no other file of the command."""
     wrong, leads = [], "LIST leads to another file of the command"
@@ -302,6 +359,55 @@ def two_at_a_time(program):
     return wrong
 
 
+def killed(program):
+    """Runs that are killed at sixty moments, one after the other and two at a time, and then one that isn't."""
+    wrong = []
+    with tempfile.TemporaryDirectory(prefix="replaced-") as folder:
+        with open(f"{folder}/big", "wb") as it:
+            it.write(bytes(8 << 20))
+        root = run(program, folder, "encode big big.bao", "out").stdout.strip()
+        words, start = ["decode", root, "big.bao", "out"], time.monotonic()
+        run(program, folder, " ".join(words), "out")
+        took = time.monotonic() - start
+        before = found(folder)
+        for many in (1, 2):
+            for k in range(60):
+                runs = [subprocess.Popen([program, *words], cwd=folder, stdout=subprocess.DEVNULL) for _ in range(many)]
+                time.sleep(took * k / 60)
+                for it in runs:
+                    it.kill()
+                    it.wait(HELD)
+                beside = [it for it in found(folder) if ".part" in it]
+                if len(beside) > many or found(folder)["out"] != before["out"]:
+                    wrong.append(f"{many} at a time, killed after {k}/60 of a run: {beside}")
+            ran = run(program, folder, " ".join(words), "out")
+            if ran.returncode or found(folder) != before:
+                wrong.append(f"{many} at a time: {ran.returncode}, {ran.stderr!r}, {sorted(found(folder))}")
+    return wrong
+
+
+def owned(program):
+    """Owner and group stay where the system allows it, which is so of root; another user may not write to what is protected."""
+    if os.geteuid():
+        return []
+    wrong, user = [], 12345
+    for owner, mode, runs_as, wanted in [(user, 0o640, 0, user), (user, 0o640, user, user), (0, 0o666, user, user), (0, 0o644, user, None)]:
+        with tempfile.TemporaryDirectory(prefix="replaced-") as folder:
+            lay_out(folder, Row("", "out", {"out": KEPT}, mode=mode))
+            os.chmod(folder, 0o777)
+            os.chown(f"{folder}/out", owner, owner)
+            shutil.copy(program, f"{folder}/program")
+            os.chmod(f"{folder}/program", 0o755)
+            ran = run("./program", folder, GATHER, "out", user=runs_as, group=runs_as, extra_groups=[])
+            after = os.stat(f"{folder}/out")
+            with open(f"{folder}/out", "rb") as it:
+                got = (ran.returncode, after.st_uid, after.st_gid, after.st_mode & 0o7777, it.read() == BLOB, any(".part" in it for it in os.listdir(folder)))
+            done = wanted is not None
+            if got != (0 if done else 3, wanted if done else owner, wanted if done else owner, mode, done, False):
+                wrong.append(f"{owner}, {mode:o}, as {runs_as}: {got}")
+    return wrong
+
+
 def main():
     asked = argparse.ArgumentParser(description=__doc__, formatter_class=argparse.RawDescriptionHelpFormatter)
     asked.add_argument("--only", default="", help="rows alone whose name has this text in it")
@@ -310,7 +416,8 @@ def main():
     program = os.path.abspath(asked.program)
     trials = [(f"{row.name}: {words.replace(ROOT, 'ROOT')}", lambda row=row, words=words: tried(program, row, words)) for row in ROWS for words in row.tasks]
     trials += [("an open file", lambda: through_descriptor(program)), ("a pipe", lambda: into_pipe(program))]
-    trials += [("standard output", lambda: onto_output(program)), ("the list", lambda: onto_list(program)), ("two runs at a time", lambda: two_at_a_time(program))]
+    trials += [("standard output", lambda: onto_output(program)), ("a file that is read", lambda: onto_read(program)), ("the list", lambda: onto_list(program))]
+    trials += [("killed runs", lambda: killed(program)), ("owner and group", lambda: owned(program)), ("two runs at a time", lambda: two_at_a_time(program))]
     passed = failed = 0
     for name, trial in trials:
         if asked.only not in name:

@@ -717,6 +717,13 @@ class Programs:
         is_told = name == "gather" and file in given[2:] or name not in ("cut-slice", "decode", "decode-slice", "gather")
         return [f"{file}: {self.reason_of(file)}"] if "--verbose" in options and file != fault and not is_told else []
 
+    def check_out(self, name, options, given):
+        """Refuses an OUT that is read, but for the files that are gathered."""
+        out = self.OUTS[name]
+        read = [options[it] for it in ("--outboard", "--key-file") if it in options] + ([] if name == "gather" else [given[out - 1]])
+        if os.path.normpath(given[out]) in map(os.path.normpath, read):
+            raise Refused(2, "usage: OUT is a file that is read")
+
     def check_list(self, options, given):
         """Refuses a list that has the name of another file of the command."""
         if options["--missing"] in [given[1], *self.STANDARD_OUTPUT]:
@@ -787,6 +794,8 @@ class Programs:
                 self.check_list(options, given)
             if name in self.OUTS and os.path.normpath(given[self.OUTS[name]]) in self.STANDARD_OUTPUT:
                 raise Refused(2, "usage: OUT leads to standard output")
+            if name in self.OUTS:
+                self.check_out(name, options, given)
             if "--missing" in options:
                 self.check_list_leads(options, given)
             out = [f"out: {it}" for it in getattr(self, name.replace("-", "_"))(mode, root, options, given).splitlines()]
@@ -849,16 +858,12 @@ class Programs:
         try:
             return Outline(mode, root, text)
         except bao.Fault as fault:
-            raise Refused(1, str(fault)) from None
+            raise self.refused(options, options["--outboard"], text, fault, bao.outboard_nodes) from None
 
     def decode(self, mode, root, options, given):
         if "--outboard" not in options:
             return self.decoded(mode, root, options, 0, None, *given[1:])
-        parents = self.read(options["--outboard"])
-        try:
-            outline = Outline(mode, root, parents)
-        except bao.Fault as fault:
-            raise self.refused(options, options["--outboard"], parents, fault, bao.outboard_nodes) from None
+        outline = self.outline(mode, root, options)
         copy = self.read(given[1])
         try:
             outline.beside(copy, 0, bao.chunks_of(outline.length))
@@ -879,12 +884,16 @@ class Programs:
             return f"too short: ends within what begins at its byte {fault.at}"
         return f"too long: bytes follow its first {fault.at}" if str(fault).startswith("503") else None
 
-    def refused(self, options, file, text, fault, given):
+    def refused(self, options, file, text, fault, given, is_whole=False):
         """The refusal of an encoding whose nodes these are for a length; with --verbose it is told where the file is at fault."""
         if "--verbose" in options and not (file in self.irregular and file == options.get("--outboard")):
             place = self.place_of(fault)
             if place is None and file in self.irregular:
                 place = f"damaged at its byte {fault.at}"
+            if place is None and fault.at == 8 and file == options.get("--outboard"):
+                place = self.NO_OUTBOARD
+            if place is None and fault.at == 8 and is_whole and self.is_no_encoding(text):
+                place = self.NO_ENCODING
             if place is None:
                 it = next(it for it in given(int.from_bytes(text[:8], "little")) if it.offset == fault.at)
                 first = bao.CHUNK_LEN * it.number
@@ -897,7 +906,7 @@ class Programs:
         try:
             length, found, _ = bao.checked(mode, root, text, lambda length: bao.slice_nodes(length, start, asked))
         except bao.Fault as fault:
-            raise self.refused(options, file, text, fault, lambda length: bao.slice_nodes(length, start, asked)) from None
+            raise self.refused(options, file, text, fault, lambda length: bao.slice_nodes(length, start, asked), count is None) from None
         first, last = (0, length) if count is None else (min(start, length), min(start + count, length))
         made = b""
         for it in found:
@@ -912,7 +921,7 @@ class Programs:
         if len(files) > self.MOST_FILES:
             raise Refused(2, "usage: too many files")
         # The outboard encoding comes first: where it is refused no file is opened.
-        if "--verbose" in options:
+        if "--verbose" in options and options.get("--outboard") not in self.files:
             self.told = [f"left out {it}: not opened" for it in files]
         try:
             outline = self.outline(mode, root, options)
@@ -922,7 +931,7 @@ class Programs:
         self.told = []
         found = [it for it in files if it in self.files]
         regular = [it for it in found if it not in self.irregular]
-        answer, opened, is_done = Refused(3, f"cannot read {files[0]}"), [], False
+        answer, opened, is_done, worths = Refused(3, f"cannot read {files[0]}"), [], False, []
         grains = [GROUP_LEN, 1] if "--salvage" in options else [GROUP_LEN]
         # What isn't a regular file is opened only where the regular ones leave the blob unfinished.
         capacity = 2**54 if "--long" in options else int(options["--capacity"])
@@ -937,14 +946,19 @@ class Programs:
             elif it not in self.files:
                 self.told.append(f"left out {it}: can't be read: {self.reason_of(it)}")
             else:
-                self.told.append(f"{it}: {self.worth(mode, root, int(options['--capacity']), outline, self.given(it, options, outline))} groups of 64 KiB refused")
+                text = self.given(it, options, outline)
+                refused, groups = self.worth(mode, root, outline, text)
+                is_none = refused == groups and not outline and it not in self.irregular and self.is_no_encoding(text)
+                self.told.append(f"{it}: {self.NO_ENCODING if is_none else f'{refused} of {groups} groups of 64 KiB refused'}")
+                worths.append((refused, groups))
+        if "--verbose" in options and str(answer) == "805 too large" and "--long" not in options:
+            self.told.append("the blob is longer than --capacity allows: --long lifts that limit")
         lack = None
         if str(answer) == "901 unfinished":
             lack = self.lack(mode, root, outline, [self.given(it, options, outline) for it in opened], grains[-1])
         if "--verbose" in options and str(answer) == "901 unfinished":
             self.told += self.lack_told(lack)
-            counts = [it.group(1, 2) for it in [re.fullmatch(r".*: (\d+) of (\d+) groups of 64 KiB refused", it) for it in self.told] if it]
-            if self.told[-1] == self.NO_END and counts and all(refused == groups for refused, groups in counts):
+            if self.told[-1] == self.NO_END and "--salvage" not in options and worths and all(refused == groups for refused, groups in worths):
                 self.told.append(self.NOTHING)
         if isinstance(answer, Refused):
             self.told += self.unlisted(options) if lack is None else self.listed(options, lack[1])
@@ -973,20 +987,40 @@ class Programs:
 
     # The most parts that are shown of what is missing, and what is told where none has the end, and where nothing is under the root.
     MOST_SHOWN = 8
+    NO_ENCODING = "no combined encoding of ROOT; a plain copy goes with --outboard"
+    NO_OUTBOARD = "no outboard encoding of ROOT: look at ROOT, the key and --context"
+
+    def is_no_encoding(self, text):
+        """Whether it has another size than a combined encoding of the length that it claims."""
+        claimed = int.from_bytes(text[:8], "little")
+        return len(text) >= 8 and len(text) != 8 + claimed + 64 * (bao.chunks_of(claimed) - 1)
+
     NO_END = "missing: the end, so that the length isn't known"
     NOTHING = "nothing fits ROOT: look at ROOT, the key and --context; plain copies go with --outboard, encodings without"
 
     def lack(self, mode, root, outline, texts, grain):
-        """What none of these texts has: the end, which is told by none, or parts of so many chunks each, those together that follow one another."""
+        """What none of these texts has of a length, certified or claimed: parts of so many chunks each, those together that follow one another. None where there is no length."""
         end = next(self.pieces(mode, root, outline, texts, 2**64 - 1, 1), None)
-        if end is None:
+        total = self.claimed(mode, root, outline, texts, grain) if end is None else end.length
+        if total is None:
             return None
-        total, size, parts = end.length, bao.CHUNK_LEN * grain, []
+        size, parts = bao.CHUNK_LEN * grain, []
         for start in range(0, bao.CHUNK_LEN * bao.chunks_of(total), size):
             if next(self.pieces(mode, root, outline, texts, start, size), None) is None:
                 first = parts.pop()[0] if parts and parts[-1][1] == start else start
                 parts.append((first, min(start + size, total)))
         return total, parts
+
+    def claimed(self, mode, root, outline, texts, grain):
+        """The length that the outboard encoding claims, or the first text of which one of the first 64 units is right by the length that it claims."""
+        if outline is not None:
+            return outline.length
+        for text in texts:
+            total, size = int.from_bytes(text[:8], "little"), bao.CHUNK_LEN * grain
+            units = range(0, min(bao.CHUNK_LEN * bao.chunks_of(total), 64 * size), size) if len(text) >= 8 else []
+            if any(next(self.pieces(mode, root, outline, [text], start, size), None) is not None for start in units):
+                return total
+        return None
 
     def lack_told(self, lack):
         """What is told of it."""
@@ -1026,13 +1060,14 @@ class Programs:
             return Refused(1, "901 unfinished")
         return blob if mode.hash(blob) == root else Refused(1, "902 not the root")
 
-    def worth(self, mode, root, capacity, outline, text):
+    def worth(self, mode, root, outline, text):
         """How many of the groups that a file is asked for are refused, and of how many: by the length that it claims, or the outline."""
-        claimed = outline.length if outline else int.from_bytes(text[:8], "little")
-        length = min(claimed, bao.CHUNK_LEN * capacity) if outline or len(text) >= 8 else 0
-        groups, group_bytes = -(-bao.chunks_of(length) // GROUP_LEN), GROUP_LEN * bao.CHUNK_LEN
-        found = [next(self.pieces(mode, root, outline, [text], group_bytes * group, group_bytes), None) for group in range(groups)]
-        return f"{found.count(None)} of {groups}"
+        claimed = outline.length if outline else int.from_bytes(text[:8], "little") if len(text) >= 8 else 0
+        groups, group_bytes = -(-bao.chunks_of(claimed) // GROUP_LEN), GROUP_LEN * bao.CHUNK_LEN
+        # Of an encoding none is accepted that begins after its end.
+        asked = groups if outline else min(groups, -(-len(text) // group_bytes))
+        found = [next(self.pieces(mode, root, outline, [text], group_bytes * group, group_bytes), None) for group in range(asked)]
+        return found.count(None) + groups - asked, groups
 
     def pieces(self, mode, root, outline, texts, start, count):
         """The accepted slices of these encodings, or of these plain copies beside an outline."""
@@ -1194,12 +1229,24 @@ class Gathering(Stores):
                     left = [k for k in left if k not in stored]
                     self.keep_parents(piece)
 
+    def complete(self, holders, outline=None):
+        """The end of a closing round: groups of which a parent isn't held, whichever chunks are, for their parents alone."""
+        for group in range(-(-bao.chunks_of(self.length) // GROUP_LEN) if self.is_to_go_on else 0):
+            first = GROUP_LEN * group
+            for it in holders:
+                if all(m in self.parents for m in range(max(first, 1), min(first + GROUP_LEN, bao.chunks_of(self.length)))):
+                    break
+                piece = self.asked(it, outline, *self.range_of(outline, first, GROUP_LEN))
+                if piece is not None:
+                    self.keep_parents(piece)
+
     def worked(self, holders, workers, outline=None):
         """Both rounds. Several workers make no other difference than in what they ask."""
         self.begin()
         self.round(holders, outline)
         too_large, self.is_too_large = self.is_too_large, False
         self.round(holders, outline)
+        self.complete(holders, outline)
         told_of = list(self.report) if workers == 1 else ["committed", "parents"]
         said = ", ".join(f"{it} {self.report[it]}" for it in told_of)
         return said + (", too large" if too_large or self.is_too_large else "")

@@ -5,7 +5,7 @@ usage: python3 scripts/uncited.py
 
 At the top of the repository. It reads the files of crates/*/specs and crates/*/proofs, but for the answers of single functions, which
 the prover asks for by name. A name counts as cited where it stands anywhere in a source, a specs or a proofs file beside its own
-statement and equations, or in a document of docs/. So does a lemma of a `module`, and a field of a record of proofs/. Of LAWS each
+statement and equations. So does a lemma of a `module`, and a field of a record of proofs/. Of LAWS each
 proves something of a definition for its reader, so nothing cites it.
 Fails where a name isn't cited. It proves nothing and takes seconds.
 """
@@ -32,8 +32,7 @@ def stated(text, is_proof):
 def main():
     files = sorted(it for part in ("specs/**/*.antt", "proofs/**/*.antt", "src/**/*.rt") for it in glob.glob(f"crates/*/{part}", recursive=True))
     texts = {it: COMMENT.sub("", open(it, encoding="utf-8").read()) for it in files}
-    documents = [open(it, encoding="utf-8").read() for it in sorted(glob.glob("docs/*.md"))]
-    counts = collections.Counter(name for it in [*texts.values(), *documents] for name in NAME.findall(it))
+    counts = collections.Counter(name for it in texts.values() for name in NAME.findall(it))
     looked = [it for it in texts if it.endswith(".antt") and not OF_FUNCTIONS.search(it) and it not in LAWS]
     found = [f"{it}: nothing cites {name}" for it in looked for name, own in stated(texts[it], "/proofs/" in it).items() if counts[name] <= own]
     print("\n".join([*found, f"{len(looked)} files of definitions and lemmas, {len(found)} that nothing cites"]))

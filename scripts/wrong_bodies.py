@@ -22,7 +22,8 @@ name, and the reason where there is one. What a body is refused of is what its f
 its contract, what that cites, and the contracts of what it calls, without comments. For an edit that changes anything but one
 body it is the crate's text. What was refused of the same is not tried again, but with --anew.
 --read proves nothing and takes seconds: it fails on an edit of either folder that can't be applied any more, or that
-stands in both, and names each crate with edits that were never tried so, or of other grounds. With --strict it fails on those too.
+stands in both, and names each crate with edits that were never tried so, or of other grounds. With --strict it fails on those too,
+but for the crates that scripts/untried.txt names, and where that names one that owes no trial.
 --renamed proves nothing either: an edit that was refused in COMMIT, HEAD if left out, is noted as refused now where both the edit and
 what it was refused of are the same but for these names, as words of texts and of paths. NEW may not have been a word of the crate.
 """
@@ -234,6 +235,12 @@ def without_answers(crate, texts, said, text_of):
     return made
 
 
+def owed():
+    """Returns the crates that are known to owe trials."""
+    with open("scripts/untried.txt", encoding="utf-8") as it:
+        return {line.strip() for line in it if line.strip() and not line.startswith("#")}
+
+
 def read_alone(rt, crates, is_strict):
     """Says which edits can't be applied, and which crates have changed since theirs were tried."""
     unread, stale = 0, []
@@ -256,7 +263,10 @@ def read_alone(rt, crates, is_strict):
     if stale:
         print(f"wrong bodies not tried on these crates as they stand: make wrong-bodies CRATES='{' '.join(stale)}'")
     print(f"wrong bodies: {unread} that can't be applied, {len(stale)} crates to try")
-    return 1 if unread or is_strict and stale else 0
+    wrong = set(stale) ^ owed() if is_strict else set()
+    for name in sorted(wrong):
+        print(f"scripts/untried.txt: {name} {'owes no trial' if name not in stale else 'is not named'}")
+    return 1 if unread or wrong else 0
 
 
 def body_of(lines, number):

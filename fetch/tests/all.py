@@ -17,20 +17,21 @@ HERE = pathlib.Path(__file__).resolve().parent
 ROOT = HERE.parent.parent
 OUT = ROOT / "out" / "fetch"
 ARCHIVE = ROOT / "out" / "libberylwool.a"
-WARNINGS = "-std=c11 -Wall -Wextra -Werror -pthread".split()
-WRAPPED = "-Wl,--wrap=malloc,--wrap=calloc,--wrap=realloc,--wrap=curl_global_init,--wrap=fsync,--wrap=flock"
+WARNINGS = "-std=c11 -Wall -Wextra -Wshadow -Werror -pthread".split()
+WRAPPED = "-Wl,--wrap=malloc,--wrap=calloc,--wrap=realloc,--wrap=curl_global_init,--wrap=fsync,--wrap=flock,--wrap=pread,--wrap=pthread_create,--wrap=curl_easy_setopt"
 SANITIZERS = {"asan": "-fsanitize=address,undefined", "tsan": "-fsanitize=thread"}
+DELAYED = "-Wl,--wrap=pthread_mutex_lock,--wrap=pthread_mutex_unlock,--wrap=pthread_cond_wait,--wrap=pthread_cond_signal"
 
 # The large cases show nothing more under a sanitizer, where they take long.
 LARGE = "64 MiB", "little memory"
 
-# With the sanitizers a table of few units, and few parents that are known at once: what a long blob has with the usual ones.
-NARROW = "-DUNITS_MOST=3", "-DKNOWN_BITS=1"
+# With the sanitizers few parents are known at once: what a long blob has with the usual ones.
+NARROW = ("-DKNOWN_BITS=1",)
 
 
 def run(*words, **more):
     words = [str(it) for it in words]
-    ran = subprocess.run(words, cwd=ROOT, **more)
+    ran = subprocess.run(words, **{"cwd": ROOT, **more})
     if ran.returncode:
         sys.exit(f"all.py: status {ran.returncode}: {' '.join(words)}")
 
@@ -49,6 +50,45 @@ def sanitizes(flag):
     source.write_text("int main(void) { return 0; }\n")
     built = subprocess.run(["cc", flag, source, "-o", program], capture_output=True).returncode == 0
     return built and subprocess.run([program], capture_output=True).returncode == 0
+
+
+def compile_old():
+    """With the headers of libcurl 7.68, as far as those of today can show it: by its version alone."""
+    include = OUT / "old"
+    (include / "curl").mkdir(parents=True, exist_ok=True)
+    for path in asked_of_curl("--cflags") + ["-I/usr/include", *(f"-I{it}" for it in pathlib.Path("/usr/include").glob("*-linux-gnu"))]:
+        for it in pathlib.Path(path.removeprefix("-I"), "curl").glob("*.h"):
+            (include / "curl" / it.name).write_text(re.sub(r"(?m)^#define LIBCURL_VERSION_NUM .*$", "#define LIBCURL_VERSION_NUM 0x074400", it.read_text()))
+    for it in sorted((ROOT / "fetch").glob("*.c")):
+        run("cc", *WARNINGS, "-Wno-deprecated-declarations", f"-I{include}", f"-I{ROOT}/c", "-c", it, "-o", OUT / "old.o")
+
+
+def no_wall_clock():
+    """Nothing waits by a clock that may go back."""
+    for it in sorted((ROOT / "fetch").glob("*.c")):
+        if "CLOCK_REALTIME" in it.read_text() or "gettimeofday" in it.read_text():
+            sys.exit(f"all.py: {it.name} asks a clock that may go back")
+
+
+SEEDS = (
+    b"\x10HTTP/1.1 206 P\r\nContent-Range: bytes 0-99/500\r\n\r\nabcdefgh",
+    b"\xffHTTP/1.1 206 P\r\nContent-Type: multipart/byteranges; boundary=T\r\n\r\n--T\r\nContent-Range: bytes 5000-5009/9\r\n\r\n0123456789\r\n--T--\r\n",
+    b"\x01HTTP/1.1 200 OK\r\nRetry-After: 12\r\nLocation: /x\r\n\r\nhello",
+)
+
+
+def fuzz():
+    """The parser of answers, for a minute. Whether that is possible here."""
+    program, corpus = OUT / "fuzz", OUT / "corpus"
+    words = ["clang", "-std=c11", "-g", "-O1", "-fsanitize=fuzzer,address,undefined", f"-I{ROOT}/c", HERE / "fuzz.c", ROOT / "fetch" / "answer.c",
+             *asked_of_curl("--cflags"), *asked_of_curl("--libs"), "-o", program]
+    if not shutil.which("clang") or subprocess.run(words, capture_output=True).returncode:
+        return False
+    corpus.mkdir(exist_ok=True)
+    for number, seed in enumerate(SEEDS):
+        (corpus / str(number)).write_bytes(seed)
+    run(program, "-max_total_time=60", "-max_len=20000", "-verbosity=0", corpus, stderr=subprocess.DEVNULL, cwd=OUT)
+    return True
 
 
 def build_example():
@@ -81,17 +121,25 @@ def main(drawn="4000"):
         build("clang", "clang", [], sources)
     else:
         missing.append("clang")
+    compile_old()
+    no_wall_clock()
     build_example()
     compare_manual(plain)
+    if not fuzz():
+        missing.append("clang -fsanitize=fuzzer")
     run(sys.executable, HERE / "hostile.py", plain, mkbao)
+    run(sys.executable, HERE / "options.py", plain, mkbao)
     run(sys.executable, HERE / "drawn.py", plain, mkbao, drawn)
     run(sys.executable, HERE / "drawn.py", "--refuse", refuses, mkbao)
     for name, flag in SANITIZERS.items():
         if not sanitizes(flag):
             missing.append(f"cc {flag}")
             continue
-        program = build("cc", name, [flag, *NARROW], sources)
+        delayed = name == "tsan"
+        program = build("cc", name, [flag, *NARROW, *[DELAYED] * delayed], [*sources, *[HERE / "delays.c"] * delayed])
+        os.environ["BW_DELAYS"] = "1"                       # of drawn.py each draw has its own
         run(sys.executable, HERE / "hostile.py", program, mkbao, *(f"-{it}" for it in (*LARGE, "near ranges")))
+        run(sys.executable, HERE / "options.py", program, mkbao)
         run(sys.executable, HERE / "drawn.py", program, mkbao, int(drawn) // 10 + 1)
     for name in missing:
         print(f"not run, since it isn't here: {name}")

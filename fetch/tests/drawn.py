@@ -4,7 +4,7 @@
     drawn.py BW_FETCH MKBAO COUNT [SEED]       COUNT runs against one to three drawn mirrors of a blob of up to 4 MB
     drawn.py --refuse BW_FETCH MKBAO           the smallest fetch, with the Nth request for memory refused, for each N
 
-Of a drawn fetch either OUT is the blob and the status is 0, or the status is 1 and there is no OUT; it has to be 0 where a drawn mirror is true. A drawn mirror
+Of a drawn fetch either OUT is the blob and the status is 0, or the status is 1 or 6 and there is no OUT; it has to be 0 where a drawn mirror is true. A drawn mirror
 changes, cuts, moves, splits and lengthens what it says, or stops, at a drawn byte and a drawn moment; an earlier run may have left something, true or not. A draw
 hangs on its number alone, which is printed where a run fails. `drawn.py BW_FETCH MKBAO 1 SEED` does that one again. Draws are parted among as many processes as
 there are processors, each with mirrors of its own; what is printed doesn't hang on that.
@@ -25,8 +25,8 @@ import mirrors
 SIDE_BY_SIDE = 16                       # in each process
 LONGEST = 240
 LENGTHS = [0, 1, 1023, 1024, 1025, 4096, 65_535, 65_536, 65_537, 100_000, 131_073, 196_608, 1_048_577, 4_000_000]
-TRUE = ("good", "onerange", "severalwhole", "several416", "reversed")
-WHOLE = ("never", "e404", "e500", "loop", "close", "nothttp", "norange", "shifted", "badparts", "noise", "zeros", "unplaced", "gzip", "longer", "huge")
+TRUE = ("good", "onerange", "severalwhole", "several416", "reversed", "norange")
+WHOLE = ("never", "e404", "e500", "loop", "close", "nothttp", "longheader", "shifted", "badparts", "noise", "zeros", "unplaced", "gzip", "longer", "huge")
 
 
 class Drawn(mirrors.Mirror):
@@ -177,14 +177,16 @@ class Blobs:
             self.of[length] = blob, root
 
 
-def left_before(dice, encoding):
-    """An OUT.part.bao: a true one that was cut, or of which some bytes are others, or noise."""
-    text = bytearray(encoding if dice.random() < 0.8 else dice.randbytes(len(encoding)))
+def left_before(dice, length, root, folder):
+    """An OUT.part.fetch: a true one of which some bytes are others, or noise. Its length and root are mostly true."""
+    outboard = (folder / f"{length}.obao").read_bytes()
+    text = bytearray((folder / f"{length}").read_bytes() + outboard if dice.random() < 0.8 else dice.randbytes(length + len(outboard)))
     for _ in range(dice.randrange(6)):
         at = dice.randrange(len(text))
         end = min(len(text), at + dice.choice((1, 64, 5000)))
         text[at:end] = bytes(end - at)
-    return bytes(text[:dice.choice((len(text), dice.randrange(len(text) + 1)))])
+    text += b"bw-fetch" + length.to_bytes(8, "little") + bytes.fromhex(root)
+    return bytes(text[:len(text) if dice.random() < 0.8 else dice.randrange(len(text) + 1)])
 
 
 def run_drawn(seed, fetch, blobs, port):
@@ -201,12 +203,14 @@ def run_drawn(seed, fetch, blobs, port):
     with tempfile.TemporaryDirectory() as folder:
         out = pathlib.Path(folder) / "out"
         if dice.random() < 0.25:
-            (pathlib.Path(folder) / "out.part.bao").write_bytes(left_before(dice, (blobs.folder / f"{length}.bao").read_bytes()))
-        words = [fetch, "-v", "--stall", "60" if must else "0.5", "-c", str(dice.randrange(1, 4)), root, "-" if pipe else out, *urls]
-        ran = subprocess.run(words, capture_output=True, timeout=LONGEST)
+            part = pathlib.Path(folder) / "out.part.fetch"
+            part.write_bytes(left_before(dice, length, root, blobs.folder))
+            part.chmod(0o600)
+        words = [fetch, "-v", "--stall", "60" if must else "0.5", "--patience", "60" if must else "0.2", "-c", str(dice.randrange(1, 4)), root, "-" if pipe else out, *urls]
+        ran = subprocess.run(words, capture_output=True, timeout=LONGEST, env={**os.environ, "BW_DELAYS": str(seed)})
         got = ran.stdout if pipe else out.read_bytes() if out.exists() else None
     right = ran.returncode == 0 and got == blob
-    none = ran.returncode == 1 and (got is None or pipe and blob.startswith(got)) and not must
+    none = ran.returncode in (1, 6) and (got is None or pipe and blob.startswith(got)) and not must
     if right or none:
         return None
     return f"draw {seed}, {length} bytes, {list(zip(kinds, modes))}: status {ran.returncode}\n{ran.stderr.decode(errors='replace')[-2000:]}"
@@ -251,6 +255,8 @@ def refuse(fetch, mkbao):
         asked = sum(pool.map(lambda row: at_a_place(fetch, mkbao, row[0], refuse_each, row[1]), rows))
     at_a_place(fetch, mkbao, "bao plain", refuse_flush)
     at_a_place(fetch, mkbao, "bao@at=5000", other_ends)
+    for fault in ("https", "threads", "hang"):
+        at_a_place(fetch, mkbao, "bao plain", in_spite_of, fault)
     print(f"{asked} refusals passed")
     return 0
 
@@ -260,25 +266,35 @@ def refuse_flush(place, fetch, urls):
     place.put("out", b"before")
     ran = subprocess.run([fetch, place.root, place.out, *urls], capture_output=True, timeout=LONGEST, env={**os.environ, "BW_REFUSE": "fsync"})
     left = sorted(it.name for it in place.folder.glob("out*"))
-    if ran.returncode != 3 or place.out.read_bytes() != b"before" or left != ["out"]:
+    if ran.returncode != 3 or place.out.read_bytes() != b"before" or left != ["out", "out.part.fetch"]:
         sys.exit(f"drawn.py: fsync refused: status {ran.returncode}, {left}")
 
 
 def other_ends(place, fetch, urls):
     """Another run that puts its OUT in place just when OUT.part.fetch was opened: a run that fails leaves that OUT."""
     place.put("out.part.fetch", b"whole")
+    (place.folder / "out.part.fetch").chmod(0o600)
     settings = {"BW_REFUSE": "flock", "BW_FROM": str(place.folder / "out.part.fetch"), "BW_TO": str(place.out)}
     ran = subprocess.run([fetch, place.root, place.out, *urls], capture_output=True, timeout=LONGEST, env={**os.environ, **settings})
-    if ran.returncode != 1 or place.out.read_bytes() != b"whole" or (place.folder / "out.part.fetch").exists():
+    if ran.returncode != 1 or place.out.read_bytes() != b"whole":
         sys.exit(f"drawn.py: another run ended: status {ran.returncode}\n{ran.stderr.decode(errors='replace')[-2000:]}")
+
+
+def in_spite_of(place, fetch, urls, fault):
+    """A libcurl without https, a process that may start no thread, and a local file whose read never ends cost no fetch over http."""
+    place.put("hangs.bao", (place.folder / "blob.bao").read_bytes())
+    words = [fetch, "--stall", "1", place.root, place.out, *([place.folder / "hangs.bao"] if fault == "hang" else []), *urls]
+    ran = subprocess.run(words, capture_output=True, timeout=LONGEST, env={**os.environ, "BW_REFUSE": fault})
+    if ran.returncode or place.out.read_bytes() != place.blob:
+        sys.exit(f"drawn.py: {fault}: status {ran.returncode}\n{ran.stderr.decode(errors='replace')[-2000:]}")
 
 
 def refuse_each(place, fetch, urls, tail):
     """How many requests for memory were refused, one in each run."""
     for number in range(1, 100_000):
-        ran = subprocess.run([fetch, "-c", "1", place.root, place.out, *urls], capture_output=True, timeout=LONGEST, env={**os.environ, "BW_REFUSE": f"{number}{tail}"})
+        ran = subprocess.run([fetch, "-c", "1", "--retries", "1", "--patience", "0", place.root, place.out, *urls], capture_output=True, timeout=LONGEST, env={**os.environ, "BW_REFUSE": f"{number}{tail}"})
         got = place.out.read_bytes() if place.out.exists() else None
-        fine = (ran.returncode == 0 and got == place.blob) or (ran.returncode in (1, 4) and got is None)
+        fine = (ran.returncode == 0 and got == place.blob) or (ran.returncode in (1, 3, 4, 6) and got is None)
         if not fine:
             sys.exit(f"drawn.py: request {number}{tail} for memory refused, {urls}: status {ran.returncode}\n{ran.stderr.decode(errors='replace')[-2000:]}")
         for it in place.folder.glob("out*"):

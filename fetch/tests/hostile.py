@@ -8,6 +8,7 @@ network of its own, where the kernel allows that. Ports are the system's; no cas
 """
 import concurrent.futures
 import fcntl
+import json
 import os
 import pathlib
 import pty
@@ -72,21 +73,21 @@ CASES = [
     ("one has the beginning, the other the end", 9_000_000, "bao@to=5000000 bao@from=4400000", "", 0),
     ("one has the beginning, the other not all of the end", 9_000_000, "bao@to=4400000 bao@from=5000000", "", 1),
     ("truncates", 8_000_000, "bao@trunc bao", "", 0),
-    ("truncates, alone", 3_000_000, "bao@trunc", "", 1),
-    ("truncates, plain and alone", 3_000_000, "plain@trunc", "", 1),
+    ("truncates, alone", 3_000_000, "bao@trunc", "", 6),
+    ("truncates, plain and alone", 3_000_000, "plain@trunc", "", 6),
     ("stalls", 9_000_000, "bao@stall bao", "--stall 60", 0),
     ("stalls, plain", 9_000_000, "plain@stall plain", "--stall 60", 0),
-    ("stalls, alone", 3_000_000, "bao@stall", "--stall 0.5", 1),
+    ("stalls, alone", 3_000_000, "bao@stall", "--stall 0.5", 6),
     ("drips", 3_000_000, "bao@drip plain", "--stall 60", 0),
-    ("drips, alone", 3_000_000, "bao@drip", "--stall 0.5", 1),
+    ("drips, alone", 3_000_000, "bao@drip", "--stall 0.5", 6),
     ("never answers", 8_000_000, "bao@never plain", "--stall 60", 0),
     ("two never answer", 3_000_000, "bao@never plain@never plain", "--stall 60", 0),
     ("two stall", 3_000_000, "bao@stall plain@stall bao", "--stall 60", 0),
     ("the outboard encoding of the first stalls", 9_000_000, "plain@stall bare bare plain", "--stall 60", 0),
-    ("never answers, alone", 8_000_000, "bao@never", "--stall 0.5", 1),
+    ("never answers, alone", 8_000_000, "bao@never", "--stall 0.5", 6),
     ("headers without an end", 3_000_000, "bao@headers bao", "--stall 600", 0),
     ("headers without an end, alone", 3_000_000, "bao@headers", "--stall 600", 1),
-    ("headers that drip, alone", 3_000_000, "bao@dripheaders", "--stall 0.5", 1),
+    ("headers that drip, alone", 3_000_000, "bao@dripheaders", "--stall 0.5", 6),
     ("a body without an end", 3_000_000, "bao@endless bao", "", 0),
     ("a body without an end, plain and alone", 3_000_000, "plain@endless", "", 0),
     ("slow beside a quick one", 6_000_000, "bao@slow=60000 bao", "", 0),
@@ -96,13 +97,29 @@ CASES = [
     ("redirected in a circle, and to a file", 3_000_000, "bao@loop bao@tofile bao", "", 0),
     ("redirected to a file alone", 3_000_000, "bao@tofile", "", 1),
     ("no ranges", 3_000_000, "bao@norange plain", "", 0),
-    ("no ranges, alone", 3_000_000, "bao@norange", "", 1),
+    ("no ranges, alone", 3_000_000, "bao@norange", "", 0),
     ("no ranges of a short file", 30_000, "bao@norange", "", 0),
     ("no ranges of a short file, plain", 30_000, "plain@norange", "", 0),
     ("one range at a time", 5_000_000, "bao@onerange", "", 0),
     ("several ranges are the whole file", 5_000_000, "bao@severalwhole", "", 0),
     ("several ranges are 416", 5_000_000, "bao@several416", "", 0),
     ("several ranges, plain, one at a time", 5_000_000, "plain@onerange", "", 0),
+    ("several ranges are 403", 5_000_000, "bao@several403", "", 0),
+    ("several ranges are 500", 5_000_000, "bao@several500", "", 0),
+    ("no ranges, plain and alone", 3_000_000, "plain@norange", "", 0),
+    ("no ranges, to a pipe", 3_000_000, "bao@norange", "-", 0),
+    ("no ranges, and lies", 3_000_000, "bao@norange bao@noise", "", 0),
+    ("a header line of 150 KB", 3_000_000, "bao@longheader bao", "", 0),
+    ("a header line of 150 KB, alone", 3_000_000, "bao@longheader", "", 1),
+    ("a redirect's body without an end", 3_000_000, "-@good bao@endlessredirect=#0", "", 0),
+    ("an outage of two seconds", 9_000_000, "bao@outage=2", "--patience 60", 0),
+    ("an outage of two seconds, plain", 9_000_000, "plain@outage=2", "--patience 60", 0),
+    ("one connection at a time", 3_000_000, "bao@oneconnection=1000000", "--patience 60", 0),
+    ("one request in eight fails", 20_000_000, "bao@eighth", "", 0),
+    ("one request in eight fails, plain", 20_000_000, "plain@eighth", "", 0),
+    ("a third of all requests for parents fail", 20_000_000, "plain@thirdobao", "", 0),
+    ("an outboard encoding that is busy, late", 3_000_000, "plain@busylate=1 plain@busylate=1", "", 6),
+    ("nobody listens, for a while", 300_000, "bao@dead", "--patience 3", 6),
     ("parts in another order", 5_000_000, "bao@reversed", "", 0),
     ("parts of a short file put together", 60_000, "bao@coalesced", "", 0),
     ("parts that claim more than they have", 5_000_000, "bao@badparts bao", "", 0),
@@ -116,11 +133,11 @@ CASES = [
     ("asks to wait until a date", 3_000_000, "bao@laterdate=2", "", 0),
     ("asks to wait a second, plain", 3_000_000, "plain@later=1", "", 0),
     ("asks to wait a second, plain and for data", 3_000_000, "plain@laterdata=1", "-c 1", 0),
-    ("asks to wait no time, again and again", 3_000_000, "bao@busy=0", "", 1),
-    ("asks to wait in words that tell no time", 3_000_000, "bao@busy=soon", "", 1),
+    ("asks to wait no time, again and again", 3_000_000, "bao@busy=0", "", 6),
+    ("asks to wait in words that tell no time", 3_000_000, "bao@busy=soon", "", 6),
     ("asks to wait beside one that is refused", 3_000_000, "bao@noise plain@later=1", "", 0),
     ("500 and 404", 3_000_000, "bao@e500 plain@e404 bao", "", 0),
-    ("403 and 503, alone", 3_000_000, "bao@e403 plain@e503", "", 1),
+    ("403 and 503, alone", 3_000_000, "bao@e403 plain@e503", "", 6),
     ("says that it is gzip", 3_000_000, "bao@gzip bao", "", 0),
     ("a longer claim", 3_000_000, "bao@longer plain@longer plain", "", 0),
     ("a claim of 2^64 - 1 bytes, alone", 3_000_000, "bao@huge", "", 1),
@@ -134,7 +151,7 @@ CASES = [
     ("an outboard encoding of a shorter blob first", 3_000_000, "short plain", "", 0),
     ("an outboard encoding of a shorter blob alone", 3_000_000, "short", "", 1),
     ("nobody listens at one", 3_000_000, "bao bao@dead", "", 0),
-    ("nobody listens", 3_000_000, "bao@dead", "", 1),
+    ("nobody listens", 3_000_000, "bao@dead", "", 6),
     ("at most as long as it is", 100_000, "bao", "--max 100000", 0),
     ("longer than wanted", 100_000, "bao", "--max 99999", 1),
     ("longer than wanted, plain", 100_000, "plain", "--max 99999", 1),
@@ -200,10 +217,12 @@ class Place:
             self.server.stdout.close()
             self.server = None
 
-    def run(self, words, urls, status, out=None, **more):
-        """Runs bw-fetch, and looks at its status and at OUT."""
+    def run(self, words, urls, status, out=None, anew=True, **more):
+        """Runs bw-fetch, and looks at its status and at OUT, which isn't there before unless it is to be."""
         out = out or self.out
-        ran = subprocess.run([self.fetch, "-v", *words, self.root, out, *urls], capture_output=True, timeout=LONGEST, **more)
+        if anew:
+            self.out.unlink(missing_ok=True)
+        ran = subprocess.run([self.fetch, "-v", "--patience", "0.5", "--stall", "60", *words, self.root, out, *urls], capture_output=True, timeout=LONGEST, **more)
         self.said = ran.stderr.decode(errors="replace")
         want(ran.returncode == status, f"status {ran.returncode}, and not {status}")
         got = ran.stdout if out == "-" else self.out.read_bytes() if self.out.exists() else None
@@ -213,7 +232,6 @@ class Place:
             want(not left, f"{left} are left")
         elif out != "-":
             want(got is None, "there is an OUT")
-            want(not (self.folder / "out.part.fetch").exists(), "there is an OUT.part.fetch")
 
 
 def run_case(place, mirrors, words, status):
@@ -227,7 +245,7 @@ def run_case(place, mirrors, words, status):
 def resumes(place):
     """What a failure leaves is a mirror of the next run: here it has what the second mirror lacks."""
     place.run([], place.serve("bao@some=1 bao@to=5000000"), 1)
-    want((place.folder / "out.part.bao").exists(), "there is no OUT.part.bao")
+    want((place.folder / "out.part.fetch").exists(), "there is no OUT.part.fetch")
     place.run([], place.serve("bao@from=4400000"), 0)
 
 
@@ -236,18 +254,17 @@ def the_rest_alone(place):
     place.run([], place.serve("bao@from=4400000"), 1)
 
 
-def resumes_alone(place):
-    """An OUT.part.bao that has all needs no mirror that answers, and none is asked."""
+def local_alone(place):
+    """A local path that has all needs no mirror that answers, and none is asked."""
     for mirrors in ("bao@dead", "bao"):
-        place.put("out.part.bao", (place.folder / "blob.bao").read_bytes())
         urls = place.serve(mirrors)
-        place.run([], urls, 0)
+        place.run([], [*urls, place.folder / "blob.bao"], 0)
         want(f"{urls[0]}: 0 bytes, " in place.said, "the mirror was asked")
 
 
 def part_is_not_trusted(place):
-    """An OUT.part.bao of noise costs nothing but itself, and is no mirror of the run after."""
-    place.put("out.part.bao", random.Random(3).randbytes(2_000_000))
+    """An OUT.part.fetch of noise costs nothing."""
+    place.put("out.part.fetch", random.Random(3).randbytes(2_000_000))
     place.run([], place.serve("bao"), 0)
 
 
@@ -265,7 +282,7 @@ def keeps_old_out(place):
     for mirrors in ("bao@noise", "bao@at=150000"):
         ran = subprocess.run([place.fetch, place.root, place.out, *place.serve(mirrors)], capture_output=True, timeout=LONGEST)
         want(ran.returncode == 1 and place.out.read_bytes() == b"before", "the OUT of before has changed")
-    place.run([], place.serve("bao"), 0)
+    place.run([], place.serve("bao"), 0, anew=False)
 
 
 def interrupted(place, number):
@@ -275,8 +292,8 @@ def interrupted(place, number):
     want(place.server.stdout.readline() == "blocked\n", "the mirror didn't begin to say nothing")
     ran.send_signal(number)
     _, said = ran.communicate(timeout=LONGEST)
-    want(ran.returncode == 1 and b"interrupted" in said, f"status {ran.returncode}: {said}")
-    want(not place.out.exists() and not (place.folder / "out.part.fetch").exists(), "there is an OUT")
+    want(ran.returncode == 7 and b"interrupted" in said, f"status {ran.returncode}: {said}")
+    want(not place.out.exists(), "there is an OUT")
     place.run([], place.serve("bao@from=4400000"), 0)
 
 
@@ -286,6 +303,250 @@ def sigint(place):
 
 def sigterm(place):
     interrupted(place, signal.SIGTERM)
+
+
+def keeps(place, stop):
+    """After any end what came is kept, and the next run goes on: here with what another mirror has."""
+    urls = place.serve("bao@half")
+    ran = subprocess.Popen([place.fetch, "--stall", "600", "-c", "1", place.root, place.out, *urls], stderr=subprocess.PIPE)
+    want(place.server.stdout.readline() == "blocked\n", "the mirror didn't begin to say nothing")
+    stop(ran)
+    _, said = ran.communicate(timeout=LONGEST)
+    want(not place.out.exists() and (place.folder / "out.part.fetch").stat().st_nlink == 1, "nothing is kept, or there is an OUT")
+    place.run([], place.serve("bao@from=4400000"), 0)
+    return ran.returncode
+
+
+def sighup(place):
+    want(keeps(place, lambda ran: ran.send_signal(signal.SIGHUP)) == 7, "another status")
+
+
+def sigkill(place):
+    keeps(place, lambda ran: ran.kill())
+
+
+def a_full_disk_keeps(place):
+    """Status 3 in the middle, on a disk that has no room: what came is kept. It needs a mount of its own."""
+    disk = place.folder / "disk"
+    disk.mkdir()
+    mount = f"mount -t tmpfs -o size=6000000 none {disk}"
+    if not shutil.which("unshare") or subprocess.run(["unshare", "-m", "sh", "-c", mount], capture_output=True).returncode:
+        print("hostile.py: not run, since no mount is allowed here: a full disk keeps")
+        return
+    url, = place.serve("bao")
+    words = f"{place.fetch} {place.root} {disk}/out {url}"
+    script = f"{mount} && {{ {words}; [ $? = 3 ]; }} && mount -o remount,size=40000000 {disk} && {words} && cmp {disk}/out {place.folder}/blob"
+    ran = subprocess.run(["unshare", "-m", "sh", "-c", script], capture_output=True, timeout=LONGEST)
+    want(ran.returncode == 0, f"status {ran.returncode}: {ran.stderr.decode(errors='replace')[-2000:]}")
+    came = sum(end - start for it in place.requests(url) for start, end in it)
+    want(came < 14_000_000, f"{came} bytes were asked for")
+
+
+def own_part_as_a_mirror(place):
+    """OUT.part.fetch among the mirrors loses nothing."""
+    place.run([], place.serve("bao@some=1 bao@to=5000000"), 1)
+    place.run([], [place.folder / "out.part.fetch", *place.serve("bao@from=4400000")], 0)
+
+
+def resume_asks_for_the_rest(place):
+    """A run that was killed late costs little more than what was lacking."""
+    place.run([], place.serve("bao@at=1500000 bao@at=1500000"), 1)
+    urls = place.serve("bao")
+    place.run([], urls, 0)
+    came = sum(end - start for it in place.requests(urls[0]) for start, end in it)
+    want(came < 100_000, f"{came} bytes were asked for")
+
+
+def damaged_part(place):
+    """What is damaged in OUT.part.fetch is asked for again, and what is of another root is none."""
+    place.run([], place.serve("bao@at=1500000 bao@at=1500000"), 1)
+    part = bytearray((place.folder / "out.part.fetch").read_bytes())
+    for at in range(0, len(part) - 48, 1_000_003):
+        part[at] ^= 1
+    place.put("out.part.fetch", bytes(part))
+    place.run([], place.serve("bao"), 0)
+    place.out.unlink()
+    place.put("out.part.fetch", bytes(part[:-1]) + bytes([part[-1] ^ 1]))
+    place.run([], place.serve("bao"), 0)
+
+
+def right_out(place):
+    """A right OUT is not fetched again. --check asks nobody."""
+    place.put("out", place.blob)
+    for words in (["--check"], []):
+        urls = place.serve("bao")
+        place.run(words, urls, 0, anew=False)
+        want(not place.requests(urls[0]), "the mirror was asked")
+    place.put("out", place.blob[:-1] + b"?")
+    ran = subprocess.run([place.fetch, "--check", place.root, place.out], capture_output=True, timeout=LONGEST)
+    want(ran.returncode == 1 and b"hasn't the root" in ran.stderr, f"status {ran.returncode}")
+
+
+def no_outboard_ends(place):
+    """A plain file without an outboard encoding ends, alone and beside a mirror that nobody hears of."""
+    for words in ([place.folder / "bare"], ["--outboard", place.folder / "none", place.folder / "bare"]):
+        ran = subprocess.run([place.fetch, place.root, place.out, *words], capture_output=True, timeout=LONGEST)
+        want(ran.returncode == 1, f"status {ran.returncode}")
+
+
+def queries(place):
+    """The name ends before a query or a fragment, and a query goes to the outboard encoding, too."""
+    urls = place.serve("bao plain")
+    place.run([], [urls[0] + "?sig=a/b.c&x=1#part"], 0)
+    place.out.unlink()
+    place.run([], [urls[1] + "?sig=a/b.bao"], 0)
+    want("blob.obao?sig=a/b.bao " in (place.folder / "requests").read_text(), "the query isn't in the outboard encoding's address")
+    place.out.unlink()
+    place.put("other", (place.folder / "blob.bao").read_bytes())
+    place.run(["--bao", urls[0].replace("blob.bao", "other")], [], 0)
+
+
+def silent_name_server(place):
+    """A mirror whose name server says nothing costs no time beside a true one."""
+    if not shutil.which("unshare") or not os.environ.get("BW_FETCH_ALONE"):
+        print("hostile.py: not run, since no network of its own is allowed here: silent name server")
+        return
+    place.put("resolv.conf", b"nameserver 127.0.0.1\noptions timeout:30 attempts:5\n")
+    with socket.socket(socket.AF_INET, socket.SOCK_DGRAM) as it:
+        it.setsockopt(socket.SOL_SOCKET, socket.SO_REUSEADDR, 1)
+        it.bind(("127.0.0.1", 53))
+        url, = place.serve("bao")
+        words = f"mount --bind {place.folder}/resolv.conf /etc/resolv.conf && exec {place.fetch} {place.root} {place.out} http://silent.example/X.bao {url}"
+        began = time.monotonic()
+        ran = subprocess.run(["unshare", "-m", "sh", "-c", words], capture_output=True, timeout=LONGEST)
+        took = time.monotonic() - began
+        want(ran.returncode == 0 and place.out.read_bytes() == place.blob, f"status {ran.returncode}: {ran.stderr}")
+        want(took < 28, f"it took {took} seconds")
+
+
+def closed_output(place):
+    """With standard output closed and OUT - nothing is asked, and with standard error closed OUT is right."""
+    urls = place.serve("bao")
+    ran = subprocess.run(f"{place.fetch} {place.root} - {urls[0]} >&-", shell=True, stderr=subprocess.PIPE, timeout=LONGEST)
+    want(ran.returncode == 3 and not place.requests(urls[0]), f"status {ran.returncode}")
+    ran = subprocess.run(f"{place.fetch} {place.root} {place.out} {urls[0]} <&- >&- 2>&-", shell=True, timeout=LONGEST)
+    want(ran.returncode == 0 and place.out.read_bytes() == place.blob, f"status {ran.returncode}")
+
+
+def part_of_others(place):
+    """An OUT.part.fetch with another name, or that others may write, or that is none, isn't used."""
+    part = place.folder / "out.part.fetch"
+    for make in (lambda: os.link(place.folder / "victim", part), lambda: (place.put("out.part.fetch", b"x"), part.chmod(0o666)), lambda: os.mkfifo(part),
+                 lambda: part.symlink_to(place.folder / "victim")):
+        place.put("victim", b"before")
+        make()
+        place.run([], place.serve("bao"), 0)
+        want((place.folder / "victim").read_bytes() == b"before", "another file was written")
+        want(place.out.stat().st_nlink == 1 and place.out.stat().st_mode & 0o022 == 0, "OUT may be written by others")
+        place.out.unlink()
+        (place.folder / "victim").unlink()
+
+
+def pipe_that_nobody_reads(place):
+    """A signal ends a run whose pipe is full. One that doesn't block works, too."""
+    urls = place.serve("bao")
+    reader, writer = os.pipe()
+    ran = subprocess.Popen([place.fetch, place.root, "-", *urls], stdout=writer, stderr=subprocess.PIPE)
+    os.read(reader, 1)
+    ran.send_signal(signal.SIGTERM)
+    _, said = ran.communicate(timeout=LONGEST)
+    want(ran.returncode == 7, f"status {ran.returncode}: {said}")
+    os.close(reader), os.close(writer)
+    reader, writer = os.pipe()
+    os.set_blocking(writer, False)
+    ran = subprocess.Popen([place.fetch, place.root, "-", *urls], stdout=writer, stderr=subprocess.PIPE)
+    os.close(writer)
+    with open(reader, "rb") as it:
+        got = it.read()
+    want(ran.wait(LONGEST) == 0 and got == place.blob, f"status {ran.returncode}")
+    ran.stderr.close()
+
+
+def few_descriptors(place):
+    """Where descriptors are few, some connections are lost, and not the fetch."""
+    urls = place.serve("bao " * 12)
+    place.run(["-c", "8", "--patience", "60"], urls, 0, preexec_fn=lambda: resource.setrlimit(resource.RLIMIT_NOFILE, (30, 30)))
+
+
+def no_secrets(place):
+    """User, password and query of an address are never printed."""
+    urls = [it.replace("http://", "http://me:secret@") + "?token=secret" for it in place.serve("bao@noise plain@e404")]
+    place.run(["--json"], urls, 1)
+    want("secret" not in place.said, place.said)
+
+
+def private_redirects(place):
+    """From a public address no redirect leads to a private one, unless that is allowed."""
+    if not os.environ.get("BW_FETCH_ALONE"):
+        print("hostile.py: not run, since no network of its own is allowed here: private redirects")
+        return
+    urls = place.serve("bao bao@redirect=#0")
+    public = urls[1].replace("127.0.0.1", "198.51.100.1")
+    place.run([], [public], 1)
+    want(not place.requests(urls[0]), "a private address was asked")
+    place.run(["--allow-private"], [public], 0)
+
+
+def bounds(place):
+    """--max-time ends it, with a status of its own; --limit-rate holds it up."""
+    place.run(["--max-time", "1"], place.serve("bao@never"), 6)
+    began = time.monotonic()
+    place.run(["--limit-rate", "200K"], place.serve("bao"), 0)
+    want(time.monotonic() - began > 1, "it was too quick")
+
+
+def local_first(place):
+    """What a local path has isn't asked of others, but for what is damaged there."""
+    damaged = bytearray((place.folder / "blob.bao").read_bytes())
+    damaged[1_500_000] ^= 1
+    place.put("here.bao", bytes(damaged))
+    urls = place.serve("bao")
+    place.run([], [*urls, place.folder / "here.bao"], 0)
+    came = int(re.search(r"blob.bao: (\d+) bytes", place.said)[1])
+    want(came < 300_000, f"{came} bytes came over the network")
+
+
+def many_at_once(place):
+    """A manifest: one that fails stops no other, and the status is that of the worst."""
+    good, bad = place.serve("bao bao@e404")
+    lines = "".join(f"{place.root} {place.folder}/m{i} {url}\n" for i, url in enumerate([good, bad, good, good] * 5))
+    place.put("manifest", ("# files\n" + lines).encode())
+    ran = subprocess.run([place.fetch, "--json", "--manifest", place.folder / "manifest"], capture_output=True, timeout=LONGEST)
+    place.said = ran.stderr.decode()
+    want(ran.returncode == 1, f"status {ran.returncode}")
+    told = [json.loads(it) for it in ran.stdout.splitlines()]
+    want(sorted(it["status"] for it in told) == [0] * 15 + [1] * 5, f"{told}")
+    for i in range(20):
+        it = place.folder / f"m{i}"
+        want(it.exists() == (i % 4 != 1) and (i % 4 == 1 or it.read_bytes() == place.blob), f"{it}")
+    want(told[0]["mirrors"][0]["bytes"] > 0 and any(it["mirrors"][0]["http"] == 404 for it in told), f"{told[0]}")
+
+
+def headers(place):
+    """A header goes to a mirror's own server, and not to another one that it leads to."""
+    place.put("headers", b"X-Token: abc\n")
+    urls = place.serve("bao bao@redirect=#0")
+    place.run(["--header-file", place.folder / "headers"], urls[1:], 0)
+    lines = [it.split() for it in (place.folder / "requests").read_text().splitlines()]
+    ports = {it: {line[3] for line in lines if line[0] == url.split(":")[2].split("/")[0]} for it, url in enumerate(urls)}
+    want(ports == {0: {"-"}, 1: {"abc"}}, f"{ports}")
+    place.out.unlink()
+    place.run(["-H", "X-Token: abc", "--user-agent", "me"], urls[:1], 0)
+
+
+def progress_in_json(place):
+    reader, writer = os.pipe()
+    urls = place.serve("bao")
+    place.run(["--progress", str(writer)], urls, 0, pass_fds=(writer,))
+    os.close(writer)
+    with open(reader) as it:
+        last = [json.loads(line) for line in it][-1]
+    want(last["have"] == last["length"] == len(place.blob) or abs(last["have"] - len(place.blob)) < 1024, f"{last}")
+    ran = subprocess.run([place.fetch, "--version"], capture_output=True, timeout=LONGEST)
+    want(ran.returncode == 0 and ran.stdout.startswith(b"bw-fetch "), "version")
+    place.out.unlink()
+    ran = subprocess.run([place.fetch, "-q", place.root, place.out, *urls], capture_output=True, timeout=LONGEST)
+    want(ran.returncode == 0 and not ran.stderr, f"{ran.stderr}")
 
 
 def keyed(place):
@@ -376,14 +637,14 @@ def no_unit_twice(place):
 
 
 def left_alone(place):
-    """A mirror that asks to wait for an hour is asked once, while another one gives all. Alone, it is asked five times, 12 stall times apart."""
+    """A mirror that asks to wait for an hour is asked once, while another one gives all. Alone, it is asked again and again, 12 stall times apart."""
     urls = place.serve("bao@busy=3600 bao")
     place.run(["-c", "1"], urls, 0)
     want(len(place.requests(urls[0])) <= 1, f"{len(place.requests(urls[0]))} requests")
     place.out.unlink()
     urls = place.serve("bao@busy=3600")
     began = time.monotonic()
-    place.run(["--stall", "0.1"], urls, 1)
+    place.run(["--stall", "0.1"], urls, 6)
     want(time.monotonic() - began > 12 * 0.1, "it wasn't left alone")
     want(len(place.requests(urls[0])) == 5, f"{len(place.requests(urls[0]))} requests")
 
@@ -403,6 +664,7 @@ def progress(place):
     urls = place.serve("bao@noise bao")
     place.run([], urls, 0)
     want("\r" not in place.said, "progress without a terminal")
+    place.out.unlink()
     ours, theirs = pty.openpty()
     ran = subprocess.Popen([place.fetch, place.root, place.out, *urls], stdout=subprocess.DEVNULL, stderr=theirs)
     os.close(theirs)
@@ -500,7 +762,7 @@ def false_below_its_spine(place):
     place.put("one", obao)
     (url,) = place.serve("bare")
     place.run(["-c", "1", "--outboard", place.folder / "one"], [url], 1)
-    (place.folder / "out.part.bao").unlink()
+    (place.folder / "out.part.fetch").unlink()
     place.run(["-c", "1", "--outboard", place.folder / "one", "--outboard", place.folder / "blob.obao"], [url], 0)
     came = int(re.search(re.escape(url) + r": (\d+) bytes, 0 of them false", place.said)[1])
     want(came <= len(place.blob) + (2 << 20), f"{came} bytes came")
@@ -513,12 +775,12 @@ def a_hole_near_the_start(place):
 
 
 def keeps_all_but_a_chunk(place):
-    """What a failure leaves is the combined encoding, but for the chunk that no mirror has."""
-    true = (place.folder / "blob.bao").read_bytes()
+    """What a failure leaves is the blob, but for the chunk that no mirror has, and the outboard encoding, with length and root behind."""
+    true = place.blob + (place.folder / "blob.obao").read_bytes() + b"bw-fetch" + len(place.blob).to_bytes(8, "little") + bytes.fromhex(place.root)
     for mirrors in ("bao@at=1500000 bao@at=1500000", "plain@at=1500000"):
         place.run([], place.serve(mirrors), 1)
-        left = (place.folder / "out.part.bao").read_bytes()
-        (place.folder / "out.part.bao").unlink()
+        left = (place.folder / "out.part.fetch").read_bytes()
+        (place.folder / "out.part.fetch").unlink()
         others = [at for at, (byte, of) in enumerate(zip(left, true)) if byte != of]
         want(len(left) == len(true) and others and others[-1] - others[0] < 1024, f"{mirrors}: {len(others)} bytes are others")
         want(not any(left[others[0]:others[-1] + 1]), f"{mirrors}: what is lacking isn't a hole")
@@ -594,7 +856,7 @@ def no_room(place):
     urls = place.serve("bao")
     ran = subprocess.run([place.fetch, place.root, place.out, *urls], capture_output=True, timeout=LONGEST,
                          preexec_fn=lambda: resource.setrlimit(resource.RLIMIT_FSIZE, (1 << 20, 1 << 20)))
-    want(ran.returncode == 3 and not list(place.folder.glob("out*")), f"status {ran.returncode}")
+    want(ran.returncode == 3 and not place.out.exists(), f"status {ran.returncode}")
 
 
 def one_at_a_time(place):
@@ -607,7 +869,7 @@ def one_at_a_time(place):
     want((place.folder / "out.part.fetch").exists(), "the other's OUT.part.fetch is gone")
     first.send_signal(signal.SIGINT)
     first.communicate(timeout=LONGEST)
-    want(first.returncode == 1, f"status {first.returncode}")
+    want(first.returncode == 7, f"status {first.returncode}")
 
 
 def usage(place):
@@ -615,7 +877,7 @@ def usage(place):
     for words in ([], [root], [root, out], [root, "", url], [root[1:], out, url], ["g" + root[1:], out, url], ["-c", "0", root, out, url], ["-c", "9", root, out, url],
                   ["--stall", "0", root, out, url], ["--stall", "x", root, out, url], ["--max", "-1", root, out, url], ["--none", root, out, url],
                   ["--key-file", place.folder / "blob", root, out, url], ["--context", b"\xff", root, out, url],
-                  ["--key-file", place.folder / "none", "--context", "a", root, out, url], [root, out, *[url] * 65]):
+                  ["--key-file", place.folder / "none", "--context", "a", root, out, url], ["--progress", "77", root, out, url], [root, out, *[url] * 1001]):
         ran = subprocess.run([place.fetch, *words], capture_output=True, timeout=LONGEST)
         want(ran.returncode == 2 and not ran.stdout and ran.stderr, f"status {ran.returncode} of {words}")
     for words in (["--key-file", place.folder / "none", root, out, url], ["--mirrors", place.folder / "none", root, out]):
@@ -627,11 +889,15 @@ def usage(place):
 
 # function, length, key
 LONGER = [
-    (resumes, 9_000_000, ""), (the_rest_alone, 9_000_000, ""), (resumes_alone, 3_000_000, ""), (part_is_not_trusted, 3_000_000, ""), (keeps_salvage, 3_000_000, ""),
+    (resumes, 9_000_000, ""), (the_rest_alone, 9_000_000, ""), (local_alone, 3_000_000, ""), (part_is_not_trusted, 3_000_000, ""), (keeps_salvage, 3_000_000, ""),
     (keeps_old_out, 300_000, ""), (sigint, 9_000_000, ""), (sigterm, 9_000_000, ""), (keyed, 300_000, KEY), (under_a_context, 300_000, CONTEXT), (mirrors_in_a_file, 300_000, ""),
     (outboard_elsewhere, 3_000_000, ""), (two_outboards, 3_000_000, ""), (local_mirrors, 3_000_000, ""), (blame_is_exact, 20_000_000, ""),
     (unwritable, 3_000_000, ""), (kinds_of_out, 300_000, ""), (no_room, 3_000_000, ""), (one_at_a_time, 9_000_000, ""), (usage, 10, ""), (one_round_trip, 6_000_000, ""), (short_in_one_request, 10_000, ""), (no_unit_twice, 6_000_000, ""),
-    (near_ranges, 6_000_000, ""),
+    (near_ranges, 6_000_000, ""), (sighup, 9_000_000, ""), (sigkill, 9_000_000, ""), (a_full_disk_keeps, 9_000_000, ""), (own_part_as_a_mirror, 9_000_000, ""),
+    (resume_asks_for_the_rest, 9_000_000, ""), (damaged_part, 9_000_000, ""), (right_out, 300_000, ""), (no_outboard_ends, 300_000, ""), (queries, 300_000, ""),
+    (silent_name_server, 300_000, ""), (closed_output, 20_000, ""), (part_of_others, 300_000, ""), (pipe_that_nobody_reads, 3_000_000, ""),
+    (few_descriptors, 3_000_000, ""), (no_secrets, 300_000, ""), (private_redirects, 300_000, ""), (bounds, 400_000, ""), (local_first, 3_000_000, ""),
+    (many_at_once, 20_000, ""), (headers, 300_000, ""), (progress_in_json, 300_000, ""),
     (left_alone, 3_000_000, ""), (progress, 20_000_000, ""), (lines_are_blamed, 3_000_000, ""), (false_below_its_spine, 3_000_000, ""),
     (a_hole_near_the_start, 9_000_000, ""), (keeps_all_but_a_chunk, 3_000_000, ""),
     (room_for_the_blob_alone, 3_000_000, ""), (disk_for_the_blob_alone, 9_000_000, ""), (little_memory, 300 << 20, ""),
@@ -647,6 +913,8 @@ def isolate():
         with socket.socket(socket.AF_INET, socket.SOCK_DGRAM) as it:
             request = struct.pack("16sh", b"lo", 1)         # IFF_UP
             fcntl.ioctl(it, 0x8914, request)                # SIOCSIFFLAGS
+            address = struct.pack("16sHH4s8x", b"lo:1", socket.AF_INET, 0, socket.inet_aton("198.51.100.1"))
+            fcntl.ioctl(it, 0x8916, address)                # SIOCSIFADDR: a public one
         return
     words = ["unshare", "-rn", sys.executable]
     try:
@@ -681,6 +949,8 @@ def is_wanted(name, words):
 
 def main(fetch, mkbao, *words):
     isolate()
+    for it in (signal.SIGINT, signal.SIGTERM, signal.SIGHUP):
+        signal.signal(it, signal.SIG_DFL)               # a shell may have them ignored, and bw-fetch leaves them so
     tools = pathlib.Path(fetch).resolve(), pathlib.Path(mkbao).resolve()
     rows = [(name, length, "", lambda place, row=row: run_case(place, *row)) for name, length, *row in CASES]
     rows += [(it.__name__.replace("_", " "), length, key, it) for it, length, key in LONGER]

@@ -1,16 +1,18 @@
 """Mirrors on loopback for the tests of bw-fetch, most of them hostile.
 
-    mirrors.py FOLDER [tls:]MODE[=VALUE] ..
+    mirrors.py FOLDER [tls:|mutual:|six:]MODE[=VALUE] ..
 
 prints a port for each mode, then a line 'blocked' each time that a mirror of mode `half` begins to say nothing more. FOLDER/requests gets a line for each
-request: port, range, path. With tls: it is https, by FOLDER/key.pem and FOLDER/cert.pem. It ends with its standard input, or after SECONDS.
+request: port, range, path. With tls: it is https, by FOLDER/key.pem and FOLDER/cert.pem; with mutual: also for a client with FOLDER/client.pem alone; with six: it listens on ::1. It ends with its standard input, or after SECONDS.
 `Mirrors` is the same for a test that is written in Python.
 """
+import base64
 import email.utils
 import http.server
 import os
 import random
 import re
+import socket
 import socketserver
 import ssl
 import sys
@@ -47,16 +49,20 @@ class Mirror(http.server.BaseHTTPRequestHandler):
         self.mode, self.value = self.server.mode, self.server.value
 
     def do_GET(self):
+        self.has_turn = False
         try:
             self.note()
             self.answer()
         except OSError:
             self.close_connection = True
+        finally:
+            if self.has_turn:
+                self.server.busy = False
 
     def note(self):
         if self.server.log:
             with open(self.server.log, "ab", buffering=0) as file:
-                file.write(f"{self.server.server_port} {self.headers.get('Range', '-')} {self.path}\n".encode())
+                file.write(f"{self.server.server_port} {self.headers.get('Range', '-')} {self.path} {self.headers.get('X-Token', '-')}\n".encode())
 
     # --- Answers that need no file
 
@@ -79,6 +85,48 @@ class Mirror(http.server.BaseHTTPRequestHandler):
         self.wfile.write(b"HTTP/1.1 206 Partial Content\r\n")
         while not self.server.ended.wait(0.05):
             self.wfile.write(b"X: x\r\n")
+
+    def endless_redirect(self, to):
+        self.send_response(302)
+        self.send_header("Location", to)
+        self.send_header("Transfer-Encoding", "chunked")
+        self.end_headers()
+        while not self.server.ended.is_set():
+            self.wfile.write(b"10000\r\n" + bytes(65536) + b"\r\n")
+
+    def is_out(self):
+        """Closes each connection for some seconds, from the first request for data on."""
+        server, now = self.server, time.monotonic()
+        with server.lock:
+            if server.until is None and sum(end - start for start, end in ranges_of(self.headers.get("Range"), 1 << 62) or []) > 20_000:
+                server.until = now + float(self.value)
+            out = server.until is not None and now < server.until
+        self.close_connection |= out
+        return out
+
+    def lacks_password(self):
+        lacks = self.headers.get("Authorization") != f"Basic {base64.b64encode(self.value.encode()).decode()}"
+        if lacks:
+            self.send_error(401)
+        return lacks
+
+    def fails_each(self, number):
+        with self.server.lock:
+            self.server.asked += 1
+            fails = self.server.asked % number == 0
+        if fails:
+            self.send_error(500)
+        return fails
+
+    def is_refused(self):
+        """Whether another connection has an answer under way: then this one gets 503."""
+        with self.server.lock:
+            busy = self.server.busy
+            self.server.busy = True
+        self.has_turn = not busy
+        if busy:
+            self.send_error(503)
+        return busy
 
     def ask_to_wait(self, code, when):
         self.send_response(code)
@@ -130,6 +178,24 @@ class Mirror(http.server.BaseHTTPRequestHandler):
             self.close_connection = True
         elif mode == "busy":
             self.ask_to_wait(503, self.value)
+        elif mode == "busylate":
+            time.sleep(0.6)
+            self.ask_to_wait(503, self.value)
+        elif mode == "longheader":
+            self.wfile.write(b"HTTP/1.1 206 Partial Content\r\nX-Filler: " + b"x" * 150_000 + b"\r\n\r\n")
+            self.close_connection = True
+        elif mode == "endlessredirect":
+            self.endless_redirect(f"http://127.0.0.1:{self.value}{self.path}")
+        elif mode == "password":
+            return self.lacks_password()
+        elif mode == "outage":
+            return self.is_out()
+        elif mode == "eighth":
+            return self.fails_each(8)
+        elif mode == "thirdobao":
+            return self.path.endswith(".obao") and self.fails_each(3)
+        elif mode == "oneconnection":
+            return self.is_refused()
         elif mode in ("later", "laterdata", "laterdate"):
             return self.later()
         else:
@@ -188,7 +254,7 @@ class Mirror(http.server.BaseHTTPRequestHandler):
     def answer(self):
         if self.answered():
             return
-        self.file = os.path.join(self.server.folder, os.path.basename(self.path))
+        self.file = os.path.join(self.server.folder, os.path.basename(self.path.partition("?")[0]))
         try:
             size = os.path.getsize(self.file)
         except OSError:
@@ -196,8 +262,8 @@ class Mirror(http.server.BaseHTTPRequestHandler):
         asked = None if self.mode == "norange" else ranges_of(self.headers.get("Range"), size)
         if asked is not None and len(asked) > 1 and self.mode == "severalwhole":
             asked = None
-        if asked == [] or (asked and len(asked) > 1 and self.mode == "several416"):
-            return self.send_error(416)
+        if asked == [] or (asked and len(asked) > 1 and self.mode.startswith("several4") or asked and len(asked) > 1 and self.mode == "several500"):
+            return self.send_error(int(self.mode[7:]) if asked else 416)
         if asked and self.mode == "onerange":
             asked = asked[:1]
         if self.mode == "half" and asked and asked[-1][1] > size // 2 and sum(end - start for start, end in asked) > 20_000:
@@ -240,7 +306,7 @@ class Mirror(http.server.BaseHTTPRequestHandler):
                 self.wfile.write(body[at:at + 1])
                 if self.server.ended.wait(0.05):
                     return
-        elif mode == "slow":
+        elif mode in ("slow", "oneconnection"):
             step = int(self.value) // 20
             for at in range(0, len(body), step):
                 self.wfile.write(body[at:at + step])
@@ -260,20 +326,28 @@ class Server(socketserver.ThreadingMixIn, http.server.HTTPServer):
         pass
 
 
+class Server6(Server):
+    address_family = socket.AF_INET6
+
+
 class Mirrors:
     """The servers, one for each mode, in threads of this process."""
 
     def __init__(self, folder, modes, handler=Mirror, log=None):
         self.servers, self.ports = [], []
         for word in modes:
-            secure = word.startswith("tls:")
-            mode, _, value = word.removeprefix("tls:").partition("=")
-            server = Server(("127.0.0.1", 0), handler)
-            if secure:
+            way, _, rest = word.partition(":") if word.startswith(("tls:", "mutual:", "six:")) else ("", "", word)
+            mode, _, value = rest.partition("=")
+            server = Server6(("::1", 0), handler) if way == "six" else Server(("0.0.0.0" if os.environ.get("BW_FETCH_ALONE") else "127.0.0.1", 0), handler)
+            if way in ("tls", "mutual"):
                 context = ssl.SSLContext(ssl.PROTOCOL_TLS_SERVER)
                 context.load_cert_chain(f"{folder}/cert.pem", f"{folder}/key.pem")
+                if way == "mutual":
+                    context.load_verify_locations(f"{folder}/client.pem")
+                    context.verify_mode = ssl.CERT_REQUIRED
                 server.socket = context.wrap_socket(server.socket, server_side=True, do_handshake_on_connect=False)
             server.log, server.lock, server.until, server.impatient = log, threading.Lock(), None, False
+            server.asked, server.busy = 0, False
             server.folder, server.mode, server.ended = str(folder), mode, threading.Event()
             server.value = str(self.ports[int(value[1:])]) if value.startswith("#") else value
             self.servers.append(server)

@@ -1,7 +1,6 @@
 -- The compressions of one chunk (BLAKE3 paper, 2.4). A byte is a number below 256, and a chunk a list
 -- of at most 1024 bytes.
-use Rattle.std.specs.Prelude.{ℕ, zero, suc, ◌+◌, ◌-◌, ◌*◌, ◌/◌, ◌==◌, List, ◌++◌, length, map, max, take, drop, replicate, bit_or, if◌then◌else◌}
-use Rattle.std.specs.List.{range_with_len}
+use Rattle.std.specs.Prelude.{ℕ, zero, suc, ◌+◌, ◌-◌, ◌*◌, ◌/◌, ◌==◌, List, ◌++◌, length, max, take, drop, replicate, bit_or, if◌then◌else◌}
 use Rattle.b3word.specs.declared.input.Input.{Input}
 use Rattle.b3word.specs.Compression.{cv}
 use Rattle.b3tree.specs.declared.mode.Mode.{Mode}
@@ -46,10 +45,6 @@ unfoldable pub chunk_input : Mode → ℕ → List ℕ → ℕ → Input
 chunk_input mode i s zero = block_input mode i s 0 (key_words mode)
 chunk_input mode i s (suc k) = block_input mode i s (suc k) (cv (chunk_input mode i s k))
 
--- all inputs of the chunk, in order
-abbrev pub chunk_inputs : Mode → ℕ → List ℕ → List Input
-chunk_inputs mode i s = map (chunk_input mode i s) (range_with_len 0 (block_count (length s)))
-
--- the last of them
+-- the input of a chunk's last block
 abbrev pub last_chunk_input : Mode → ℕ → List ℕ → Input
 last_chunk_input mode i s = chunk_input mode i s (block_count (length s) - 1)

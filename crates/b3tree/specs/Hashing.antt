@@ -21,11 +21,11 @@ root_hash x = take 32 (bytes_of (out x))
 unfoldable pub hash : Mode → List ℕ → List ℕ
 hash mode s = root_hash (rooted (top_input mode 0 s))
 
--- the key of a context: its hash, as the first step of key derivation has it
+-- the key of a context: the hash that is the first step of key derivation
 abbrev pub context_key : List ℕ → List ℕ
 context_key context = hash of_context context
 
--- derivation of keys from material, for the use that the context names
+-- the mode that derives keys from key material, for the purpose that the context names
 abbrev pub derived : List ℕ → Mode
 derived context = of_context_key (context_key context)
 
@@ -33,14 +33,14 @@ derived context = of_context_key (context_key context)
 abbrev pub output_block : Input → ℕ → List ℕ
 output_block x n = bytes_of (out (record x { t = n }))
 
--- the byte at place p of the output stream of the root x, its blocks 0, 1, 2, .. one after another
+-- the byte at offset p of the output stream of the root x: its blocks 0, 1, 2, .. one after another
 unfoldable pub output_byte : Input → ℕ → ℕ
 output_byte x p = slice_index (output_block x (p / 64)) (p % 64)
 
--- n bytes of that stream, from place p on
+-- n bytes of that stream, from offset p on
 abbrev pub output : Input → ℕ → ℕ → List ℕ
 output x p n = map (output_byte x) (range_with_len p n)
 
--- n bytes of the output stream of the bytes s, from place p on
+-- n bytes of the output stream of the bytes s, from offset p on
 abbrev pub stream : Mode → List ℕ → ℕ → ℕ → List ℕ
 stream mode s p n = output (rooted (top_input mode 0 s)) p n

@@ -1,4 +1,4 @@
--- What a mode brings to every compression (BLAKE3 paper, 2.3).
+-- The key words and the flags that a mode gives every compression (BLAKE3 paper, 2.3).
 use Rattle.std.specs.Prelude.{◌≡◌, ℕ, ◌%◌, List, refl}
 use Rattle.b3word.specs.Compression.{iv}
 use Rattle.b3tree.specs.declared.mode.Mode.{Mode}
@@ -13,7 +13,7 @@ key_words mode = mode.key
 abbrev pub mode_flags : Mode → ℕ
 mode_flags mode = mode.domain
 
--- the mode with these key words and flags, none of which is one of the tree
+-- the mode with these key words and flags, none of which is a flag of the tree
 abbrev pub mode_with : List ℕ → (flags : ℕ) → flags % 16 ≡ 0 → Mode
 mode_with key flags apart = record { key = key; domain = flags; apart = apart }
 
@@ -25,7 +25,7 @@ plain = mode_with iv 0 refl
 abbrev pub keyed : List ℕ → Mode
 keyed key = mode_with (words_of 8 key) keyed_hash refl
 
--- derivation of keys from material, with the 32 bytes of the key of a context
+-- derivation of keys from key material, with the 32 bytes of a context's key
 abbrev pub of_context_key : List ℕ → Mode
 of_context_key key = mode_with (words_of 8 key) derive_key_material refl
 

@@ -8,22 +8,22 @@ use Rattle.b3tree.specs.Pieces.{piece}
 use Rattle.b3word.specs.Compression.{cv}
 use Rattle.b3tree.specs.Tree.{parent_input, subtree_cv}
 
--- the value of the subtree of n chunks that begins a chunks on
+-- the chaining value of the subtree of n chunks that begins a chunks after the first
 abbrev pub value_at : Mode → ℕ → List ℕ → ℕ → ℕ → List ℕ
 value_at mode first s n a = subtree_cv mode (first + a) (piece s (1024 * a) (1024 * n))
 
--- v j is the value of chunk j of the bytes s, of which the first has the number `first`
+-- v j is the chaining value of chunk j of the bytes s, whose first chunk has the index `first`
 abbrev pub AreChunkValues : Mode → ℕ → List ℕ → (ℕ → List ℕ) → Type 0
 AreChunkValues mode first s v = (j : ℕ) → 1024 * j < length s → v j ≡ value_at mode first s 1 j
 
--- the two parts, of n chunks each, of the subtree that begins a chunks on
+-- the two children, of n chunks each, of the subtree that begins a chunks after the first
 abbrev pub parts_at : Mode → ℕ → List ℕ → ℕ → ℕ → Parts
 parts_at mode first s n a = record {
   left = record { 0 = value_at mode first s n a };
   right = record { 0 = value_at mode first s n (a + n) };
 }
 
--- the parents of the four chunks that begin a chunks on
+-- the parents over the four chunks that begin a chunks after the first
 abbrev pub four_parents : Mode → ℕ → List ℕ → ℕ → FourParents
 four_parents mode first s a = record {
   top = parts_at mode first s 2 a;
@@ -38,7 +38,7 @@ eight_parents mode first s = record {
   right = four_parents mode first s 4;
 }
 
--- the parent of two values, and the values of the parents of neighbours, two and two
+-- the parent of values j and j + 1; then the value of the parent of values 2 * j and 2 * j + 1
 abbrev pub parts_of : (ℕ → List ℕ) → ℕ → Parts
 parts_of values j = record { left = record { 0 = values j }; right = record { 0 = values (j + 1) } }
 

@@ -1,4 +1,4 @@
--- What the values of the types are like: a clause's variables range over all numbers.
+-- What the values of the types satisfy: in a clause a variable of type ℕ ranges over all numbers.
 use Rattle.std.specs.Prelude.{ℕ, ◌^◌, ◌<◌, List, slice_index}
 use Rattle.b3word.specs.Words.{AreWords}
 use Rattle.b3tree.specs.declared.mode.Mode.{Mode}

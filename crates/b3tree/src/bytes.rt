@@ -2,7 +2,7 @@ ghost use Rattle.std.specs.Prelude.{◌≡◌, ◌+◌, ◌*◌, ◌≤◌, leng
 ghost use Rattle.b3tree.specs.Bytes.{bytes_of, word_at, words_of};
 ghost use Rattle.b3tree.specs.Valid.{AreBytes};
 
-/// The elements of a slice of bytes are numbers below 256: a law, for proofs over bytes. Nothing runs.
+/// Lemma: the elements of a byte slice are below 256. No effect at run time.
 pub fn bytes_are(bytes: &[u8])
     ensures { AreBytes bytes.now }
 {

@@ -9,10 +9,10 @@ use crate::flags::{CHUNK_END, CHUNK_START};
 use crate::mode::Mode;
 use b3word::{Input, compress};
 
-/// The bytes of a block.
+/// The length of a block in bytes.
 pub const BLOCK_LEN: usize = 64;
 
-/// The bytes of a chunk.
+/// The length of a chunk in bytes.
 pub const CHUNK_LEN: usize = 1024;
 
 pub(crate) fn block_count(len: usize) -> usize
@@ -133,8 +133,10 @@ pub(crate) fn value_before(
     value
 }
 
-/// The input of block `k`, from 0, of the chunk with the number `i` and the bytes `chunk`: at most
-/// 1,024, in blocks of 64, of which no bytes have one (BLAKE3 paper, 2.4).
+/// Returns the compression input of block `k` (from 0) of chunk number `i`, whose bytes are `chunk` (BLAKE3
+/// paper, 2.4).
+///
+/// A chunk has at most 1,024 bytes, in blocks of 64; an empty chunk has one empty block.
 pub fn chunk_input(mode: &Mode, i: u64, chunk: &[u8], k: usize) -> Input
     requires len { length chunk.now ≤ 1024 }
     requires block { k < block_count (length chunk.now) }

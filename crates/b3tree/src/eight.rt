@@ -14,14 +14,14 @@ use crate::values::Cv;
 use b3word::transposed;
 use std::simd::u32x8;
 
-/// A parent: the chaining values of its two parts.
+/// A parent node: the chaining values of its two children.
 #[derive(Clone, Copy, Debug, PartialEq, Eq)]
 pub struct Parts {
     pub left: Cv,
     pub right: Cv,
 }
 
-/// The parents of four whole chunks: that of all, and those of the chunks, two and two.
+/// The parents over four whole chunks: the top, then those of each pair of chunks.
 #[derive(Clone, Copy, Debug, PartialEq, Eq)]
 pub struct FourParents {
     pub top: Parts,
@@ -29,7 +29,7 @@ pub struct FourParents {
     pub right: Parts,
 }
 
-/// The parents of eight whole chunks: that of all, and those below it.
+/// The parents over eight whole chunks: the top, then those of each half.
 #[derive(Clone, Copy, Debug, PartialEq, Eq)]
 pub struct EightParents {
     pub top: Parts,
@@ -47,8 +47,10 @@ fn parent_of(left: u32x8, right: u32x8) -> Parts
     }
 }
 
-/// The chaining values of the eight chunks of `bytes`, 8,192 in number, of which the first chunk has the number
-/// `first`, at once. The bytes have to end within an input of at most 2^64 - 1 bytes.
+/// Returns the chaining values of the eight chunks of `bytes`, computed at once.
+///
+/// `bytes` has 8,192 bytes. Its first chunk has index `first`, and its end is at most at byte 2^64 - 1 of the
+/// input.
 pub fn eight_values(mode: &Mode, first: u64, bytes: &[u8]) -> [Cv; 8]
     requires len { length bytes.now ≡ 8192 }
     requires end { 1024 * first + 8192 ≤ 2 ^ 64 - 1 }
@@ -64,9 +66,10 @@ pub fn eight_values(mode: &Mode, first: u64, bytes: &[u8]) -> [Cv; 8]
     )
 }
 
-/// The parents of the eight chunks of `bytes`, 8,192 in number, of which the first chunk has the number
-/// `first`: the values that `subtree_cv` gives for the parts of each, at once. The bytes have to end
-/// within an input of at most 2^64 - 1 bytes.
+/// Returns the seven parents over the eight chunks of `bytes`, computed at once.
+///
+/// The values are those of `subtree_cv`. `bytes` has 8,192 bytes. Its first chunk has index `first`, and its
+/// end is at most at byte 2^64 - 1 of the input.
 pub fn eight_parents(mode: &Mode, first: u64, bytes: &[u8]) -> EightParents
     requires len { length bytes.now ≡ 8192 }
     requires end { 1024 * first + 8192 ≤ 2 ^ 64 - 1 }
@@ -76,7 +79,7 @@ pub fn eight_parents(mode: &Mode, first: u64, bytes: &[u8]) -> EightParents
     lane_parents(mode, &values)
 }
 
-/// The seven parents of the values in eight lanes: each is that of its two neighbours.
+/// Returns the seven parents over the chaining values in eight lanes: each joins two neighbours.
 pub fn lane_parents(mode: &Mode, values: &[u32x8; 8]) -> EightParents
     ensures { result ≡ lane_parents mode.now (λ j. lane8 j values.now) }
 {

@@ -46,7 +46,7 @@ fn whole_chunks(before: u64, len: usize) -> usize
 pub struct TooLong;
 
 impl TooLong {
-    /// The fault's number: 201.
+    /// Returns the number of the fault: 201.
     pub fn code(&self) -> u16
         ensures { result ≡ 201 }
     {
@@ -54,8 +54,8 @@ impl TooLong {
     }
 }
 
-/// Hashes an input that comes in pieces: the result is that of `hash` and `xof` of all bytes taken
-/// in, however they were cut.
+/// Hashes an input that arrives in parts: the result is that of `hash` and `xof` over all the bytes, however
+/// they are cut.
 #[derive(Drop)]
 pub struct Hasher {
     mode: Mode,
@@ -75,7 +75,7 @@ impl Hasher {
     ghost use Rattle.b3tree.specs.Taken.{Holds, Splits};
     ghost use Rattle.b3tree.specs.Tree.{subtree_cv, top_input};
 
-    /// A hasher of `mode` that has taken in nothing.
+    /// Returns a hasher in `mode` that has no input yet.
     pub fn new(mode: &Mode) -> Hasher
         ensures { Holds result mode.now [] }
     {
@@ -88,10 +88,10 @@ impl Hasher {
         }
     }
 
-    /// Takes in `bytes`, after those taken in before.
+    /// Appends `bytes` to the input.
     ///
-    /// Answers `TooLong` (201) exactly where there would be more than 2^64 - 1 bytes in all, and then
-    /// the hasher is unchanged.
+    /// Refuses with `TooLong` (201) exactly if the input would be longer than 2^64 - 1 bytes; the hasher is
+    /// then unchanged.
     pub fn update(&mut self, bytes: &[u8]) -> Result<(), TooLong>
         ensures taken { (mode : Mode) (s : List ℕ) → Holds self.old mode s → OnOk result (Holds self.new mode (s ++ bytes.now)) }
         ensures refused { (mode : Mode) (s : List ℕ) → Holds self.old mode s
@@ -217,7 +217,7 @@ impl Hasher {
         rooted(&input)
     }
 
-    /// The hash of the bytes taken in. The hasher can go on.
+    /// Returns the hash of the input so far. More input may follow.
     #[tactic(auto, unfolding(crate::specs::Hashing::hash))]
     pub fn finalize(&self) -> Hash
         ensures { (mode : Mode) (s : List ℕ) → Holds self.now mode s → result.0 ≡ hash mode s }
@@ -225,8 +225,8 @@ impl Hasher {
         root_hash(&self.root())
     }
 
-    /// Fills `out` with the extended output of the bytes taken in, from byte `at` on, as `xof` does.
-    /// The hasher can go on.
+    /// Fills `out` with extended output of the input so far, from byte `at` of the output on, as `xof` does.
+    /// More input may follow.
     pub fn finalize_xof(&self, at: u64, out: &mut [u8])
         requires { at + length out.old ≤ 2 ^ 64 - 1 }
         ensures { (mode : Mode) (s : List ℕ) → Holds self.now mode s → out.new ≡ stream mode s at (length out.old) }

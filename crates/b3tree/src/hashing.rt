@@ -8,7 +8,7 @@ use crate::tree::{subtree_value, top_input};
 use crate::values::{Cv, Hash};
 use b3word::{Input, cv};
 
-/// `input` as the root: with the flag ROOT (BLAKE3 paper, 2.6).
+/// Returns `input` with the flag ROOT (BLAKE3 paper, 2.6).
 pub fn rooted(input: &Input) -> Input
     ensures { result ≡ rooted input.now }
 {
@@ -18,14 +18,14 @@ pub fn rooted(input: &Input) -> Input
     }
 }
 
-/// The hash of an input whose root is `root`, the flag ROOT in it: the first 32 bytes of its output.
+/// Returns the hash whose root compression is `root`, with the flag ROOT set: the first 32 bytes of its output.
 pub fn root_hash(root: &Input) -> Hash
     ensures { result.0 ≡ root_hash root.now }
 {
     Hash(Cv(cv(root)).to_bytes())
 }
 
-/// The hash of `bytes` in `mode` (BLAKE3 paper, 2.6). Takes every input.
+/// Returns the hash of `bytes` in `mode` (BLAKE3 paper, 2.6).
 #[tactic(auto, unfolding(crate::specs::Hashing::hash))]
 pub fn hash(mode: &Mode, bytes: &[u8]) -> Hash
     ensures value { result.0 ≡ hash mode.now bytes.now }
@@ -36,8 +36,10 @@ pub fn hash(mode: &Mode, bytes: &[u8]) -> Hash
     root_hash(&rooted(&top_input(mode, 0, bytes)))
 }
 
-/// The chaining value of the subtree over `bytes` whose first chunk has the number `first`: not that
-/// of a root. The bytes have to end within an input of at most 2^64 - 1 bytes.
+/// Returns the chaining value of a subtree that isn't the root: it has the bytes `bytes` and begins with chunk
+/// `first`.
+///
+/// The subtree ends at most at byte 2^64 - 1 of the input.
 pub fn subtree_cv(mode: &Mode, first: u64, bytes: &[u8]) -> Cv
     requires { 1024 * first + length bytes.now ≤ 2 ^ 64 - 1 }
     ensures { result.0 ≡ subtree_cv mode.now first bytes.now }

@@ -23,8 +23,8 @@ use std::simd::u32x8;
 // Lanes of a vector.
 pub(crate) const LANES: usize = 8;
 
-/// The most chunks of a subtree that is hashed at once. Those of more lanes would lie further apart than the
-/// caches like.
+/// The most chunks of a subtree that is hashed at once. In larger ones the lanes' bytes lie too far apart for
+/// the caches.
 pub(crate) const MOST_CHUNKS: usize = 512;
 
 // Blocks of a whole chunk.
@@ -162,7 +162,8 @@ pub(crate) fn chunk_lanes(
     h
 }
 
-/// The chaining value of a parent in each lane, of the values that the same lane of `left` and of `right` has.
+/// Returns in each lane the chaining value of the parent whose children are the values in that lane of `left`
+/// and `right`.
 pub fn parent_lanes(mode: &Mode, left: &[u32x8; 8], right: &[u32x8; 8]) -> [u32x8; 8]
     ensures { (j : ℕ) → j < 8 → lane8 j result ≡ cv (parent_input mode.now (lane8 j left.now) (lane8 j right.now)) }
 {
@@ -242,8 +243,8 @@ pub(crate) fn whole_top(mode: &Mode, first: u64, bytes: &[u8], chunks: usize) ->
     parent_input(mode, &Cv(left.to_array()), &Cv(right.to_array()))
 }
 
-/// How many chunks each of eight lanes has, where `len` bytes are a whole subtree of at least eight chunks
-/// and at most 512.
+/// Returns how many chunks each of eight lanes gets if `len` bytes are a whole subtree of 8 to 512 chunks, else
+/// `None`.
 pub fn chunks_a_lane(len: u64) -> Option<usize>
     ensures { IfSome result (λ chunks. IsPowerOfTwo chunks × (len ≡ 8192 * chunks) × (chunks ≤ 64)) }
 {

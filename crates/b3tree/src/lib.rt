@@ -1,6 +1,6 @@
 //! BLAKE3: modes, chunks, the tree over them, the hash and extended output.
 //!
-//! Nothing here takes memory.
+//! Nothing here allocates.
 #![tactic(auto)]
 
 pub use b3word::{Input, cv};

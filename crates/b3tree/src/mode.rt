@@ -6,7 +6,7 @@ use crate::flags::{DERIVE_KEY_CONTEXT, DERIVE_KEY_MATERIAL, KEYED_HASH};
 use crate::hashing::hash;
 use b3word::IV;
 
-/// A mode of BLAKE3: the key words and the flags that every compression carries (BLAKE3 paper, 2.3).
+/// A BLAKE3 mode: the key words and the flags of every compression (BLAKE3 paper, 2.3).
 #[derive(Clone, Copy, Debug, PartialEq, Eq)]
 pub struct Mode {
     key: [u32; 8],
@@ -21,14 +21,15 @@ impl Mode {
     ghost use Rattle.b3tree.specs.Hashing.{context_key, derived};
     ghost use Rattle.b3tree.specs.Valid.{IsKeyed};
 
-    /// Plain hashing: the IV as key words, and no flags.
+    /// Returns the mode of plain hashing: the IV as key words, and no flags.
     pub fn hash() -> Mode
         ensures { result ≡ plain }
     {
         Mode { key: IV, domain: 0 }
     }
 
-    /// Hashing under a key of 32 bytes, whose words are the key words, with the flag KEYED_HASH.
+    /// Returns the mode that hashes under a key of 32 bytes: the key words are the key's, and the flag is
+    /// KEYED_HASH.
     pub fn keyed(key: [u8; 32]) -> Mode
         ensures { result ≡ keyed key }
     {
@@ -38,28 +39,30 @@ impl Mode {
         }
     }
 
-    /// Derivation of keys from material, for one use that `context` names.
+    /// Returns the mode that derives keys for the purpose that `context` names: `hash` and `xof` of key
+    /// material give the derived key.
     ///
-    /// The hash of `context` under the IV and the flag DERIVE_KEY_CONTEXT is the key, and the mode has
-    /// the flag DERIVE_KEY_MATERIAL: `hash` and `xof` of the material give the derived key.
+    /// The key is the hash of `context` under the IV with the flag DERIVE_KEY_CONTEXT; the flag is
+    /// DERIVE_KEY_MATERIAL.
     pub fn derive(context: &str) -> Mode
         ensures { result ≡ derived context.now }
     {
         Mode::from_context_key(Mode::context_key(context.as_bytes()))
     }
 
-    /// The key of a context, 32 bytes: the hash of `context` under the IV and the flag DERIVE_KEY_CONTEXT. It is no
-    /// secret. Who keeps it spares a hash of the context for each mode.
+    /// Returns the 32-byte key of a context: the hash of `context` under the IV with the flag
+    /// DERIVE_KEY_CONTEXT.
     ///
-    /// BLAKE3 takes contexts of UTF-8; here any bytes are hashed.
+    /// It isn't secret. Keeping it saves hashing the context for each mode. BLAKE3 defines contexts as UTF-8;
+    /// here they may be any bytes.
     pub fn context_key(context: &[u8]) -> [u8; 32]
         ensures { result ≡ context_key context.now }
     {
         hash(&Mode::of_context(), context).0
     }
 
-    /// Derivation of keys from material, with the key of the context, as `context_key` has it:
-    /// `Mode::derive(context)` is `Mode::from_context_key(Mode::context_key(context))`.
+    /// Returns the key derivation mode for a key that `context_key` returned: `Mode::derive(context)` is
+    /// `Mode::from_context_key(Mode::context_key(context))`.
     pub fn from_context_key(key: [u8; 32]) -> Mode
         ensures { result ≡ of_context_key key }
     {
@@ -69,7 +72,7 @@ impl Mode {
         }
     }
 
-    /// The key words and flags of a mode are words: a law, for proofs over modes. Nothing runs.
+    /// Lemma: the key words and the flags of a mode are words. No effect at run time.
     pub fn is_keyed(&self)
         ensures { IsKeyed self.now }
     {

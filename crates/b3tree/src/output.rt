@@ -9,7 +9,7 @@ use b3word::{Input, compress};
 
 const OUTPUT_BLOCK_LEN: usize = 64;
 
-/// Whether `len` bytes of extended output from byte `at` on end at 2^64 - 1 or before.
+/// Returns whether `len` bytes of extended output from byte `at` on end at 2^64 - 1 or before.
 pub fn xof_fits(at: u64, len: u64) -> bool
     ensures { IsTrue result ↔ (at + len ≤ 2 ^ 64 - 1) }
 {
@@ -42,10 +42,11 @@ pub(crate) fn fill_output(root: &Input, at: u64, out: &mut [u8])
     }
 }
 
-/// Fills `out` with the extended output of `bytes` in `mode`, from byte `at` on (BLAKE3 paper, 2.6).
+/// Fills `out` with the extended output of `bytes` in `mode`, from byte `at` of the output on (BLAKE3 paper,
+/// 2.6).
 ///
-/// `xof_fits` is the test of what is asked: `at + out.len()` is at most 2^64 - 1. The first 32 bytes
-/// of output are the hash. Only the blocks that `out` meets are computed.
+/// `at + out.len()` is at most 2^64 - 1, as `xof_fits` tests. The first 32 bytes of the output are the hash.
+/// Only the blocks that `out` overlaps are computed.
 pub fn xof(mode: &Mode, bytes: &[u8], at: u64, out: &mut [u8])
     requires { at + length out.old ≤ 2 ^ 64 - 1 }
     ensures { out.new ≡ stream mode.now bytes.now at (length out.old) }

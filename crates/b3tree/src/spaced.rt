@@ -14,7 +14,8 @@ use crate::mode::Mode;
 use b3word::{cv_lanes, joined, transposed};
 use std::simd::u32x8;
 
-/// The words of 32 bytes of the text in each lane, those of lane 0 from place `at` on.
+/// Returns in each lane 32 bytes of `text` as words: lane 0 reads from offset `at` on, and lane `j` from `step
+/// * j` bytes and `j / 2 + j / 4` parents later.
 #[inline(always)]
 pub fn spaced_values(text: &[u8], at: usize, step: usize) -> [u32x8; 8]
     requires { at + step * 7 + 288 ≤ length text.now }
@@ -44,8 +45,10 @@ fn spaced_words(text: &[u8], at: usize, step: usize) -> [u32x8; 16]
     joined(&front, &back)
 }
 
-/// The chaining value of a whole chunk of the text in each lane, that of lane 0 from place `at` on. The
-/// chunk in lane 0 has the number `first`, and from lane to lane the numbers are `apart` more.
+/// Returns in each lane the chaining value of a whole chunk of `text`, which begins where `spaced_values`
+/// reads.
+///
+/// The chunk in lane `j` has index `first + apart * j`.
 pub fn spaced_chunks(
     mode: &Mode,
     first: u64,

@@ -8,7 +8,7 @@ use crate::values::Cv;
 use arrayvec::ArrayVec;
 use b3word::cv;
 
-/// A tree has at most 2^54 chunks.
+/// The most levels of a tree: it has at most 2^54 chunks.
 pub(crate) const STACK_LEN: usize = 54;
 
 // The chaining values of the whole subtrees of the chunks so far, the largest first: one for each

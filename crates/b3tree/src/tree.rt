@@ -12,8 +12,8 @@ use crate::mode::Mode;
 use crate::values::Cv;
 use b3word::{Input, cv};
 
-/// How many bytes of `len`, more than one chunk, the left subtree has: the largest number of the form
-/// 1,024 * 2^k that is below `len` (BLAKE3 paper, 2.1).
+/// Returns how many of the `len` bytes, more than one chunk, are in the left subtree: the largest 1,024 * 2^k
+/// below `len` (BLAKE3 paper, 2.1).
 pub fn left_len(len: u64) -> u64
     requires { 1024 < len }
     ensures value { result ≡ left_len len }
@@ -27,7 +27,7 @@ pub fn left_len(len: u64) -> u64
     chunk_len << ((len - 1) / chunk_len).ilog2()
 }
 
-/// The input of the parent of two subtrees with these chaining values (BLAKE3 paper, 2.5).
+/// Returns the compression input of a parent whose children have these chaining values (BLAKE3 paper, 2.5).
 pub fn parent_input(mode: &Mode, left: &Cv, right: &Cv) -> Input
     ensures { result ≡ parent_input mode.now left.now.0 right.now.0 }
 {
@@ -59,12 +59,12 @@ pub(crate) fn subtree_value(mode: &Mode, first: u64, bytes: &[u8]) -> [u32; 8]
     cv(&top_input(mode, first, bytes))
 }
 
-/// The last compression of the tree over `bytes` whose first chunk has the number `first`, before it
-/// is known whether it is the root: that of the only chunk, or the parent of the trees over the left
-/// part and the rest (BLAKE3 paper, 2.5). A whole subtree of 8 to 512 chunks goes by lanes, and so do two to eight
-/// chunks of which the last may be short.
+/// Returns the last compression of the tree over `bytes`, which begins with chunk `first`, without the flag
+/// ROOT (BLAKE3 paper, 2.5).
 ///
-/// `cv` of it is `subtree_cv`. The bytes have to end within an input of at most 2^64 - 1 bytes.
+/// For one chunk it is the chunk's last compression, else that of the top parent. Its `cv` is `subtree_cv`. The
+/// tree ends at most at byte 2^64 - 1 of the input. Whole subtrees of 8 to 512 chunks, and two to eight chunks
+/// of which the last may be short, are hashed in lanes.
 #[cycle(subtrees)]
 pub fn top_input(mode: &Mode, first: u64, bytes: &[u8]) -> Input
     requires { 1024 * first + length bytes.now ≤ 2 ^ 64 - 1 }

@@ -12,8 +12,8 @@ pub struct Hash(pub [u8; 32]);
 pub struct Cv(pub [u32; 8]);
 
 impl Cv {
-    /// The chaining value whose words, each little-endian, are these 32 bytes: what a parent's text has of
-    /// one of its parts, or the words of a hash.
+    /// Returns the chaining value whose words are these 32 bytes, little-endian, as an encoding's parent has
+    /// them.
     pub fn from_bytes(bytes: &[u8]) -> Cv
         requires { length bytes.now ≡ 32 }
         ensures { result.0 ≡ words_of 8 bytes.now }
@@ -21,7 +21,7 @@ impl Cv {
         Cv(words_of(bytes))
     }
 
-    /// The words as 32 bytes, each little-endian, as a parent's text has them.
+    /// Returns the words as 32 bytes, little-endian, as an encoding's parent has them.
     pub fn to_bytes(&self) -> [u8; 32]
         ensures { result ≡ bytes_of self.now.0 }
     {

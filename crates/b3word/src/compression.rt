@@ -5,7 +5,8 @@ ghost use Rattle.b3word.specs.Lanes.{paired_rows, rows};
 use crate::input::Input;
 use std::simd::u32x4;
 
-/// The initial words (BLAKE3 paper, Table 1): the key words of plain hashing, and of which the first four stand in each state.
+/// The eight initial words (BLAKE3 paper, Table 1): the key words of plain hashing; each state has the first
+/// four.
 pub const IV: [u32; 8] = [
     0x6A09E667, 0xBB67AE85, 0x3C6EF372, 0xA54FF53A, 0x510E527F, 0x9B05688C, 0x1F83D9AB, 0x5BE0CD19,
 ];
@@ -183,7 +184,7 @@ fn output_words(h: &[u32; 8], v: [u32x4; 4]) -> [u32; 16]
     ]
 }
 
-/// The 16 output words of `input`, after seven rounds (BLAKE3 paper, 2.2). Takes every input.
+/// Returns the 16 output words of `input` after seven rounds (BLAKE3 paper, 2.2).
 #[inline(always)]
 #[tactic(auto, unfolding(crate::specs::Compression::out))]
 pub fn compress(input: &Input) -> [u32; 16]
@@ -194,7 +195,7 @@ pub fn compress(input: &Input) -> [u32; 16]
     output_words(&input.h, v)
 }
 
-/// The chaining value of `input`: the first 8 of its output words.
+/// Returns the chaining value of `input`: the first 8 of its output words.
 pub fn cv(input: &Input) -> [u32; 8]
     ensures { result ≡ cv input.now }
 {

@@ -148,10 +148,11 @@ fn initial_state(h: &[u32x8; 8], t_low: u32x8, t_high: u32x8, b: u32x8, d: u32x8
     ]
 }
 
-/// The chaining values of eight inputs, each word of all eight in one vector: lane `j` of the result is
-/// that of the input in lane `j`, whose counter is `t_low` with `t_high` above it.
+/// Returns the chaining values of eight inputs, one in each lane: each vector has the same word of all eight.
 ///
-/// `COPY` is any number. Each has code of its own, which goes in line where one call alone has it.
+/// The counter of lane `j` has the low word `t_low[j]` and the high word `t_high[j]`. `COPY` may be any number
+/// and doesn't change the result: each value has code of its own, which the compiler inlines if it is called
+/// once.
 #[inline(always)]
 pub fn cv_lanes<const COPY: usize>(
     h: &[u32x8; 8],
@@ -245,8 +246,7 @@ fn by_halves(a: u32x8, b: u32x8) -> (u32x8, u32x8)
     )
 }
 
-/// Rows and lanes exchanged: vector `k` has lane `k` of each of the eight rows, and lane `j` of all of
-/// them is row `j`.
+/// Transposes eight vectors: lane `j` of vector `k` of the result is lane `k` of row `j`.
 #[inline(always)]
 pub fn transposed(rows: &[u32x8; 8]) -> [u32x8; 8]
     ensures lanes { (j : ℕ) → j < 8 → lane8 j result ≡ slice_index_or rows.now j [] }
@@ -267,7 +267,7 @@ pub fn transposed(rows: &[u32x8; 8]) -> [u32x8; 8]
     [v0, v1, v2, v3, v4, v5, v6, v7]
 }
 
-/// Two arrays of vectors in a row.
+/// Concatenates two arrays of eight vectors.
 #[inline(always)]
 pub fn joined(front: &[u32x8; 8], back: &[u32x8; 8]) -> [u32x8; 16]
     ensures { (j : ℕ) → j < 8 → lane16 j result ≡ lane8 j front.now ++ lane8 j back.now }
@@ -279,7 +279,7 @@ pub fn joined(front: &[u32x8; 8], back: &[u32x8; 8]) -> [u32x8; 16]
     ]
 }
 
-/// The chaining values of eight inputs: entry `k` of the result is that of input `k`.
+/// Returns the chaining values of eight inputs: entry `k` is that of input `k`.
 pub fn cv8(inputs: &[Input; 8]) -> [[u32; 8]; 8]
     ensures { result ≡ map cv inputs.now }
 {

@@ -1,4 +1,4 @@
-//! BLAKE3's compression function, after section 2.2 of the BLAKE3 paper.
+//! BLAKE3's compression function (BLAKE3 paper, 2.2), on one input and on two, four or eight at once.
 #![tactic(auto)]
 
 pub use compression::{IV, compress, cv};

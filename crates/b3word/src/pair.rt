@@ -203,9 +203,10 @@ fn values(v: [u32x8; 4]) -> ([u32; 8], [u32; 8])
     )
 }
 
-/// The chaining values of two inputs, in the time of one.
+/// Returns the chaining values of two inputs, computed side by side.
 ///
-/// `COPY` is any number. Each has code of its own, which goes in line where one call alone has it.
+/// `COPY` may be any number and doesn't change the result: each value has code of its own, which the compiler
+/// inlines if it is called once.
 #[inline(always)]
 pub fn cv_pair<const COPY: usize>(a: &Input, b: &Input) -> ([u32; 8], [u32; 8])
     ensures first { result.0 ≡ cv a.now }
@@ -215,7 +216,7 @@ pub fn cv_pair<const COPY: usize>(a: &Input, b: &Input) -> ([u32; 8], [u32; 8])
     values(seven_rounds::<COPY>(initial_state(a, b), x, y, z, w))
 }
 
-/// The chaining values of four inputs, in less than the time of two pairs.
+/// Returns the chaining values of four inputs, computed as two interleaved pairs.
 #[inline(always)]
 pub fn cv_two_pairs(a: &Input, b: &Input, c: &Input, d: &Input) -> [[u32; 8]; 4]
     ensures { result ≡ cv a.now ∷ cv b.now ∷ cv c.now ∷ cv d.now ∷ [] }

@@ -1,4 +1,4 @@
--- What an audit of a piece against a blob says.
+-- The meaning of an audit of an accepted slice against a blob.
 use Rattle.std.specs.Prelude.{◌≡◌, ◌≢◌, ℕ, ◌+◌, ◌<◌, List, length, Option, None, Some, slice_index_or}
 use Rattle.b3word.specs.declared.input.Input.{Input}
 use Rattle.b3tree.specs.Hashing.{hash}
@@ -14,50 +14,50 @@ use Rattle.bao_bind.specs.declared.verdict.ParentVerdict.TheVariants as parents
 use Rattle.bao_bind.specs.declared.verdict.Verdict.{Verdict}
 use Rattle.bao_bind.specs.declared.verdict.Verdict.TheVariants.{Agrees, Collision}
 
--- Each chunk of the piece is the blob's chunk of that number, and where it has the last chunk of the length
--- that it claims, that length is the blob's.
+-- Each chunk of the slice is the blob's chunk of that index, and if it has the last chunk of the length that it
+-- claims, that length is the blob's.
 pub record AgreesWith (blob : List ℕ) (piece : Checked) : Type 0 where
   pub chunks : (number : ℕ) (bytes : List ℕ) → chunk_in (piece_text piece) (piece_places piece) number ≡ Some bytes → chunk_of blob number ≡ Some bytes
   pub tail : HoldsLast piece → piece_claimed piece ≡ length blob
 
--- x is of the inputs of the blob in the piece's mode and y of those of the piece; they differ, and have one
+-- x is an input of the blob in the slice's mode, and y one of the slice; they differ, and have the same
 -- chaining value
 abbrev pub NamesFrom : List ℕ → Checked → Input → Input → Type 0
 NamesFrom blob piece x y =
     Names (blob_inputs (piece_mode piece) blob) (text_inputs (piece_mode piece) (piece_text piece) (piece_places piece)) x y
 
--- what a verdict says of a blob and a piece
+-- the meaning of a verdict about a blob and an accepted slice
 abbrev pub Says : List ℕ → Checked → Verdict → Type 0
 Says blob piece Agrees = AgreesWith blob piece
 Says blob piece (Collision ours theirs) = (¬ AgreesWith blob piece) × NamesFrom blob piece ours theirs
 
--- Each parent of the piece is the blob's parent at that boundary.
+-- Each parent of the slice is the blob's parent at that boundary.
 abbrev pub HasParentsOf : List ℕ → Checked → Type 0
 HasParentsOf blob piece = (m : ℕ) (bytes : List ℕ) → parent_in (piece_text piece) (piece_places piece) m ≡ Some bytes → parent_of (piece_mode piece) blob m ≡ Some bytes
 
--- what a verdict on its parents says of a blob and a piece
+-- the meaning of a verdict about a blob and the parents of an accepted slice
 abbrev pub SaysOfParents : List ℕ → Checked → ParentVerdict → Type 0
 SaysOfParents blob piece parents.Agrees = (piece_claimed piece ≡ length blob) × HasParentsOf blob piece
 SaysOfParents blob piece parents.OtherLength = piece_claimed piece ≢ length blob
 SaysOfParents blob piece (parents.Collision ours theirs) = (piece_claimed piece ≡ length blob) × (¬ HasParentsOf blob piece) × NamesFrom blob piece ours theirs
 
--- The bytes are the blob's chunk of that number, and end the blob where they end the length that the piece
+-- The bytes are the blob's chunk of that index, and they end the blob if they end the length that the slice
 -- claims.
 abbrev pub IsOurs : List ℕ → ℕ → ℕ → List ℕ → Type 0
 IsOurs blob claimed number bytes = (chunk_of blob number ≡ Some bytes) × (number + 1 ≡ chunk_count claimed → claimed ≡ length blob)
 
--- What comparing the chunks of the piece before number `to` found: that all are the blob's, or one that isn't.
+-- The result of comparing the slice's chunks before index `to`: all are the blob's, or this one isn't.
 abbrev pub Compared : List ℕ → Checked → ℕ → Option ChunkRun → Type 0
 Compared blob piece to None =
     (number : ℕ) (bytes : List ℕ) → number < to → chunk_in (piece_text piece) (piece_places piece) number ≡ Some bytes → IsOurs blob (piece_claimed piece) number bytes
 Compared blob piece to (Some chunk) =
     (chunk_in (piece_text piece) (piece_places piece) chunk.first ≡ Some chunk.bytes.now) × (¬ IsOurs blob (piece_claimed piece) chunk.first chunk.bytes.now)
 
--- The piece's root is the blob's hash in the piece's mode.
+-- The slice's root is the blob's hash in the slice's mode.
 abbrev pub HasRootOfPiece : List ℕ → Checked → Type 0
 HasRootOfPiece blob piece = hash (piece_mode piece) blob ≡ piece_root piece
 
--- An audit of the piece says that it agrees; that it is of another root; or exhibits a collision.
+-- The three results of an audit: the slice agrees with the blob, has another root, or exhibits a collision.
 abbrev pub IsOfBlob : List ℕ → Checked → Type 0
 IsOfBlob blob piece = HasRootOfPiece blob piece × AgreesWith blob piece
 
@@ -67,7 +67,7 @@ IsOfOther blob piece = ¬ HasRootOfPiece blob piece
 abbrev pub IsForged : List ℕ → Checked → Type 0
 IsForged blob piece = HasRootOfPiece blob piece × (¬ AgreesWith blob piece)
 
--- Piece i is the first that isn't of the blob, and this is so of it.
+-- All slices before index i agree with the blob, and P holds of slice i.
 abbrev pub IsFirst : (Checked → Type 0) → List ℕ → List Checked → ℕ → Type 0
 IsFirst P blob pieces i =
     (i < length pieces) × ((k : ℕ) (d : Checked) → k < i → IsOfBlob blob (slice_index_or pieces k d)) × ((d : Checked) → P (slice_index_or pieces i d))

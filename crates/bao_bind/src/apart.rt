@@ -52,14 +52,14 @@ fn parents_apart<P: Parents>(
     (value, right_pair)
 }
 
-/// Whether the parents of a piece that was accepted under a blob's root are the blob's; and if one isn't, two inputs of
-/// the compression function that collide, as `audit` hands them out. A store serves these parents, and `audit` speaks of
-/// the chunks and the length alone: so of a served slice that isn't the blob's, one of the two exhibits a collision.
+/// Compares the parents of an accepted slice with those of `blob`, and returns two colliding compression inputs
+/// if one differs. Together with `audit`, which covers the chunks and the length, it decides whether a slice
+/// that a store serves is the blob's.
 ///
-/// 601 `OtherRoot` exactly where the blob's hash in the piece's mode isn't the piece's root. Else `OtherLength` exactly
-/// where the piece claims another length than the blob's, and `Agrees` exactly where it claims that length and each
-/// parent of the piece is the blob's parent at that boundary. It takes no memory, and costs at most two hashes of the
-/// blob, the second a chunk at a time where the piece has parents.
+/// Refuses with 601 `OtherRoot` exactly if the blob's hash in the slice's mode isn't the slice's root.
+/// Otherwise it returns `OtherLength` exactly if the slice claims another length than the blob's, and `Agrees`
+/// exactly if it claims the blob's length and each of its parents is the blob's at that boundary. It doesn't
+/// allocate, and costs at most two hashes of the blob.
 pub fn audit_parents(blob: &[u8], piece: &Checked<'_>) -> Result<ParentVerdict, AuditFault>
     ensures other_root { IsErr result ↔ (hash (piece_mode piece.now) blob.now ≢ piece_root piece.now) }
     ensures says { IfOk result (λ verdict. SaysOfParents blob.now piece.now verdict) }

@@ -101,13 +101,14 @@ fn hash_and_compare<'a>(blob: &[u8], piece: &Checked<'a>) -> (Hash, Option<Chunk
     (hasher.finalize(), apart)
 }
 
-/// Whether a piece that was accepted under a blob's root is of that blob; and if it isn't, two inputs of the
-/// compression function that collide: they differ and have one chaining value, the one is of those that
-/// hashing the blob compresses, and the other of those that checking the piece compresses.
+/// Compares the chunks of an accepted slice with those of `blob`, and returns two colliding compression inputs
+/// if one differs: hashing the blob compresses `ours`, checking the slice compresses `theirs`, and both have
+/// the same chaining value.
 ///
-/// 601 `OtherRoot` exactly where the blob's hash in the piece's mode isn't the piece's root. Else `Agrees`
-/// exactly where each chunk of the piece is the blob's chunk of that number and, where the piece has a
-/// tail, its length is the blob's. It takes no memory, and costs a hash and a comparison.
+/// Refuses with 601 `OtherRoot` exactly if the blob's hash in the slice's mode isn't the slice's root.
+/// Otherwise it returns `Agrees` exactly if each chunk of the slice is the blob's chunk of that index and,
+/// where the slice has a tail, its length is the blob's. It doesn't allocate, and costs a hash of the blob and
+/// a comparison.
 pub fn audit(blob: &[u8], piece: &Checked<'_>) -> Result<Verdict, AuditFault>
     ensures other_root { IsErr result ↔ (hash (piece_mode piece.now) blob.now ≢ piece_root piece.now) }
     ensures says { IfOk result (λ verdict. Says blob.now piece.now verdict) }
@@ -136,11 +137,12 @@ pub fn audit(blob: &[u8], piece: &Checked<'_>) -> Result<Verdict, AuditFault>
     }
 }
 
-/// The pieces audited against a blob, in order, as `audit` does: none where all of them agree; else the index of the
-/// first that doesn't, from 0, with its two inputs that collide: the blob's, and then the piece's.
+/// Audits accepted slices against `blob` in order, as `audit` does. Returns `None` if all agree, else the index
+/// (from 0) of the first that doesn't, with the blob's and the slice's colliding input.
 ///
-/// 601 `OtherRoot` exactly where the first piece that doesn't agree is of another root; later ones aren't looked at.
-/// It takes no memory, and costs a hash and a comparison for each piece that it audits.
+/// Refuses with 601 `OtherRoot` exactly if the first slice that doesn't agree has another root; the later ones
+/// aren't examined. It doesn't allocate, and costs a hash of the blob and a comparison for each slice that it
+/// audits.
 pub fn audit_all(
     blob: &[u8],
     pieces: &[Checked<'_>],

@@ -3,7 +3,7 @@ ghost use Rattle.b3tree.specs.Tree.{left_len};
 
 use b3tree::{CHUNK_LEN, left_len};
 
-/// Bytes whose first chunk has the number `first`.
+/// Bytes that begin with chunk `first`.
 #[derive(Clone, Copy)]
 pub(crate) struct ChunkRun<'a> {
     pub(crate) first: u64,

@@ -1,6 +1,6 @@
-//! A piece bound to a blob: that they agree, or two inputs of compressions that collide.
+//! Binds accepted slices to a blob: either they agree, or two compression inputs collide.
 //!
-//! Nothing here takes memory.
+//! Nothing here allocates.
 #![tactic(auto)]
 
 pub use apart::audit_parents;

@@ -3,7 +3,7 @@ ghost use Rattle.bao_check.specs.Inputs.{marked};
 
 use b3tree::{Input, rooted};
 
-/// Two inputs: one of a blob's, and one of a piece's.
+/// Two compression inputs: one of a blob's, and one of an accepted slice's.
 #[derive(Clone, Copy, Debug, PartialEq, Eq)]
 pub(crate) struct Pair {
     pub(crate) ours: Input,

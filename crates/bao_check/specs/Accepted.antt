@@ -12,15 +12,15 @@ use Rattle.bao_text.specs.Choice.{of_outboard}
 use Rattle.bao_text.specs.Cut.{claimed}
 use Rattle.bao_text.specs.Nodes.{TreeNode, Side, chosen_nodes, left, nodes, placed_nodes, right, size}
 
--- where the node of a place ends: a place is an offset in the encoding, and the node that begins there
+-- the offset at which a node ends; a place is a node and the offset in the encoding at which it begins
 abbrev pub end_of : ℕ × TreeNode → ℕ
 end_of place = place.0 + size place.1
 
--- the bytes that the encoding has there
+-- the bytes of the encoding at a place
 abbrev pub bytes_at : List ℕ → ℕ × TreeNode → List ℕ
 bytes_at text place = take (size place.1) (drop place.0 text)
 
--- the chaining value that a parent's 64 bytes have for the part on a side
+-- the half of a parent's 64 bytes that is the chaining value of the child on a side
 unfoldable pub part_value : Side → List ℕ → List ℕ
 part_value left bytes = words_of 8 (take 32 bytes)
 part_value right bytes = words_of 8 (drop 32 bytes)
@@ -31,19 +31,19 @@ node_input mode node bytes =
     if node.is_chunk then last_chunk_input mode node.number bytes
     else parent_input mode (part_value left bytes) (part_value right bytes)
 
--- that of the node at a place
+-- the last compression of the node at a place
 abbrev pub input_at : Mode → List ℕ → ℕ × TreeNode → Input
 input_at mode text place = node_input mode place.1 (bytes_at text place)
 
--- The node at a place has the value that its place asks for: at the top, with ROOT, the root's words;
--- below a parent the half of it that the node's last side names.
+-- The node at a place has the value required there: at the top, with ROOT, the words of the root; below a
+-- parent the half of it that the node's last side names.
 abbrev pub IsAsked : Mode → List ℕ → List ℕ → List (ℕ × TreeNode) → ℕ × TreeNode → Type 0
 IsAsked mode root text places place =
     (place.1.sides ≡ [] → cv (rooted (input_at mode text place)) ≡ words_of 8 root)
     × ((above : ℕ × TreeNode) (side : Side) → Contains places above → place.1.sides ≡ above.1.sides ++ side ∷ []
     → cv (input_at mode text place) ≡ part_value side (bytes_at text above))
 
--- the node is there, and has its value
+-- the node is complete, and has the value required there
 abbrev pub IsGoodNode : Mode → List ℕ → List ℕ → List (ℕ × TreeNode) → ℕ × TreeNode → Type 0
 IsGoodNode mode root text places place = (end_of place ≤ length text) × IsAsked mode root text places place
 
@@ -51,7 +51,7 @@ IsGoodNode mode root text places place = (end_of place ≤ length text) × IsAsk
 abbrev pub places_of : List TreeNode → List (ℕ × TreeNode)
 places_of nodes = placed_nodes 8 nodes
 
--- where the last of them ends
+-- the offset at which the last node ends
 abbrev pub text_end : List TreeNode → ℕ
 text_end nodes = 8 + sum_by size nodes
 

@@ -11,7 +11,7 @@ abbrev pub text_of : Body → ℕ → ℕ → List ℕ
 text_of (Text text) start len = text.now
 text_of (Beside outline chunks) start len = beside_text (outline_text outline.now) start len chunks.now
 
--- the slice is whole chunks, where it is given as chunks
+-- if the slice is given as chunks, it consists of whole chunks
 abbrev pub IsOfWhole : Body → ℕ → ℕ → Type 0
 IsOfWhole (Text text) start len = Unit {0}
 IsOfWhole (Beside outline chunks) start len = IsOfChunks (outline_claimed outline.now) start len

@@ -1,4 +1,4 @@
--- What a checked piece is of.
+-- What an accepted slice is of.
 use Rattle.std.specs.Prelude.{◌≡◌, ℕ, ◌-◌, ◌≤◌, List, Some, is_some, length, true}
 use Rattle.std.proofs.Math.Bool.{Bool-set}
 use Rattle.b3tree.specs.declared.mode.Mode.{Mode}
@@ -22,7 +22,7 @@ piece_root piece = piece.root.0
 abbrev pub piece_text : Checked → List ℕ
 piece_text piece = text_of piece.body piece.start piece.len
 
--- the slice that it was accepted as
+-- the first position of the slice that it was accepted as
 abbrev pub piece_start : Checked → ℕ
 piece_start piece = piece.start
 
@@ -33,11 +33,11 @@ piece_len piece = piece.len
 abbrev pub piece_nodes : Checked → List TreeNode
 piece_nodes piece = slice_nodes (piece_text piece) piece.start piece.len
 
--- with their offsets
+-- the nodes with their offsets
 abbrev pub piece_places : Checked → List (ℕ × TreeNode)
 piece_places piece = places_of (piece_nodes piece)
 
--- the length that it claims
+-- the blob's length that its encoding claims
 abbrev pub piece_claimed : Checked → ℕ
 piece_claimed piece = claimed (piece_text piece)
 
@@ -45,25 +45,26 @@ piece_claimed piece = claimed (piece_text piece)
 abbrev pub HoldsLast : Checked → Type 0
 HoldsLast piece = is_some (chunk_in (piece_text piece) (piece_places piece) (chunk_count (piece_claimed piece) - 1)) ≡ true
 
--- at most one proof, as a ghost field that says it has to have
+-- has at most one proof, as a ghost field requires
 pub HoldsLast-prop : (piece : Checked) → IsProp (HoldsLast piece)
 HoldsLast-prop piece = Bool-set _ _
 
--- A certificate that the bytes, at most 1024 of them, are chunk `number`. Its steps are the parents that the piece's own
--- encoding has over that chunk: no others, and none left out.
+-- A certificate that the bytes, at most 1024, are chunk `number`. Its steps are exactly the parents that the
+-- slice's own encoding has above that chunk.
 pub record HasCertificate (piece : Checked) (number : ℕ) (bytes : List ℕ) : Type 0 where
   pub certificate : Certificate (piece_mode piece) (piece_root piece) number bytes
   pub steps_are : certificate.steps ≡ steps_to (piece_text piece) (piece_places piece) number
   pub size : length bytes ≤ 1024
 
--- the piece's encoding has the last chunk of a blob of `total` bytes, and a certificate of it that is last
+-- the encoding has the last chunk of a blob of `total` bytes, and a certificate of it whose path goes right at
+-- every parent
 pub record HasLastCertificate (piece : Checked) (total : ℕ) : Type 0 where
   pub bytes : List ℕ
   pub there : chunk_in (piece_text piece) (piece_places piece) (chunk_count total - 1) ≡ Some bytes
   pub own : HasCertificate piece (chunk_count total - 1) bytes
   pub last : IsLast own.certificate
 
--- the piece is this encoding, accepted as the slice (start, len) under the root in the mode
+-- the accepted slice is this encoding, accepted as the slice (start, len) under the root in the mode
 pub record IsPiece (piece : Checked) (mode : Mode) (root : List ℕ) (start len : ℕ) (text : List ℕ) : Type 0 where
   pub mode_is : piece.mode ≡ mode
   pub root_is : piece.root.0 ≡ root

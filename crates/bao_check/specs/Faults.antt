@@ -23,21 +23,21 @@ pub record IsFirstBad (mode : Mode) (root text : List ℕ) (places : List (ℕ �
   pub good : AllByRecursion (IsGoodNode mode root text places) earlier
   pub bad : ¬ IsGoodNode mode root text places place
 
--- That the encoding's first fault, by its nodes, is `Short`: it ends before its length's end, or before the
--- end of the first node that isn't good. The fault is where that begins.
+-- The encoding's first fault is `Short`: it ends within its length, or within the first node that isn't good.
+-- `at` is where that begins.
 abbrev pub IsShortAt : Mode → List ℕ → List ℕ → List TreeNode → ℕ → Type 0
 IsShortAt mode root text nodes at =
     ((length text < 8) × (at ≡ 0))
     ⊎ ((8 ≤ length text)
     × ((place : ℕ × TreeNode) × IsFirstBad mode root text (places_of nodes) place × (at ≡ place.0) × (length text < end_of place)))
 
--- the first node that isn't good is wholly there
+-- The encoding's first fault is `Mismatch`: the first node that isn't good is complete.
 abbrev pub IsMismatchAt : Mode → List ℕ → List ℕ → List TreeNode → ℕ → Type 0
 IsMismatchAt mode root text nodes at =
     (8 ≤ length text)
     × ((place : ℕ × TreeNode) × IsFirstBad mode root text (places_of nodes) place × (at ≡ place.0) × (end_of place ≤ length text))
 
--- all nodes are good, and something follows them
+-- The encoding's first fault is `Trailing`: all nodes are good, and something follows them.
 abbrev pub IsTrailingAt : Mode → List ℕ → List ℕ → List TreeNode → ℕ → Type 0
 IsTrailingAt mode root text nodes at =
     (8 ≤ length text) × AllByRecursion (IsGoodNode mode root text (places_of nodes)) (places_of nodes) × (at ≡ text_end nodes) × (at < length text)
@@ -50,7 +50,7 @@ IsFirstFault mode root text nodes (Trailing at) = IsTrailingAt mode root text no
 IsFirstFault mode root text nodes Memory = ⊥
 IsFirstFault mode root text nodes Reader = ⊥
 
--- where the fault of a node that isn't good is, and whether the node is there
+-- the fault of a node that isn't good: its offset, and whether the node is complete
 abbrev pub IsFaultAt : List ℕ → ℕ × TreeNode → CheckFault → Type 0
 IsFaultAt text place (Short at) = (at ≡ place.0) × (length text < end_of place)
 IsFaultAt text place (Mismatch at) = (at ≡ place.0) × (end_of place ≤ length text)

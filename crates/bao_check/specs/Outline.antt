@@ -1,4 +1,4 @@
--- What a checked outboard encoding is of.
+-- What an outline is of.
 use Rattle.std.specs.Prelude.{◌≡◌, ℕ, List}
 use Rattle.b3tree.specs.declared.mode.Mode.{Mode}
 use Rattle.bao_text.specs.Cut.{claimed}
@@ -14,7 +14,7 @@ outline_root outline = outline.root.0
 abbrev pub outline_text : Outline → List ℕ
 outline_text outline = outline.text.now
 
--- the length that it claims
+-- the blob's length that its encoding claims
 abbrev pub outline_claimed : Outline → ℕ
 outline_claimed outline = claimed outline.text.now
 

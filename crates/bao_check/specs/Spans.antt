@@ -3,7 +3,7 @@ use Rattle.std.specs.Prelude.{ℕ, ◌==◌, ◌&&◌, List, [], ◌∷◌, Opti
 use Rattle.bao_text.specs.Nodes.{TreeNode}
 use Rattle.bao_check.specs.declared.locate.Span.{Span}
 
--- where chunk `number` is among the places, if it is one of them
+-- where chunk `number` is in the encoding, if it is one of the places
 abbrev pub chunk_place : List (ℕ × TreeNode) → ℕ → Option Span
 chunk_place [] number = None
 chunk_place (place ∷ places) number =

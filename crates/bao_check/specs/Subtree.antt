@@ -1,4 +1,4 @@
--- What the check of a subtree of an encoding comes to, and how the checks of its two parts make it up.
+-- The result of checking a subtree of an encoding, and how it follows from the results for its two children.
 use Rattle.std.specs.Prelude.{◌≡◌, ℕ, ◌+◌, ◌-◌, ◌*◌, ◌<◌, ◌≤◌, List, length, min, true}
 use Rattle.b3tree.specs.declared.mode.Mode.{Mode}
 use Rattle.bao_text.specs.declared.choice.Choice.{Choice}
@@ -12,49 +12,49 @@ use Rattle.bao_check.specs.Accepted.{IsAccepted}
 use Rattle.bao_check.specs.Faults.{IsFirstFault}
 use Rattle.bao_check.specs.Walk.{Meets, Passes, Stops, parent_at}
 
--- The walk through the wanted nodes of the subtree over n bytes from chunk `number` on, which begin at the
--- encoding's place `at`, ends well, at the place `end`.
+-- The walk through the wanted nodes of the subtree over n bytes from chunk `number` on, which begin at offset
+-- `at` of the encoding, succeeds, and ends at offset `end`.
 pub record PassesIn (asked : Asked) (mode : Mode) (choice : Choice) (number n : ℕ) (text : List ℕ) (at end : ℕ) : Type 0 where
   pub within : end ≤ length text
   pub passes : (sides : List Side) (source : ℕ) → Passes asked sides mode text at end (subtree_nodes choice number n sides source)
 
--- It ends at a node that isn't there or isn't good, with this fault. The node ends at `end`.
+-- The walk stops with this fault at a node that is incomplete or isn't good and ends at `end`.
 abbrev pub StopsIn : Asked → Mode → Choice → ℕ → ℕ → List ℕ → ℕ → CheckFault → ℕ → Type 0
 StopsIn asked mode choice number n text at fault end =
     (sides : List Side) (source : ℕ) → Stops asked sides mode text (placed_nodes at (subtree_nodes choice number n sides source)) fault end
 
--- it begins in the encoding
+-- the subtree's nodes begin within the encoding
 abbrev pub BeginsIn : List ℕ → Subtree → Type 0
 BeginsIn text it = it.at ≤ length text
 
--- all nodes of the subtree are good, and the last of them ends at this place of the encoding
+-- all nodes of the subtree are good, and the last of them ends at this offset
 abbrev pub PassesTo : Subtree → List ℕ → ℕ → Type 0
 PassesTo it text end = PassesIn it.asked it.mode it.choice it.number it.len text it.at end
 
--- this is its first fault
+-- the subtree's first fault is this
 abbrev pub StopsWith : Subtree → List ℕ → CheckFault → Type 0
 StopsWith it text fault = (end : ℕ) × StopsIn it.asked it.mode it.choice it.number it.len text it.at fault end
 
--- how many bytes of the blob it has
+-- how many bytes of the blob the subtree covers
 abbrev pub subtree_len : Subtree → ℕ
 subtree_len it = it.len
 
--- chunk i is one of its own, and some byte of it is wanted
+-- chunk i belongs to the subtree, and some byte of it is wanted
 abbrev pub WantsChunk : Subtree → ℕ → Type 0
 WantsChunk it i =
     (it.number ≤ i) × (i < it.number + chunk_count it.len)
     × (wants it.choice (1024 * i) (min 1024 (1024 * it.number + it.len - 1024 * i)) ≡ true)
 
--- its top is a wanted parent
+-- the subtree's top is a wanted parent
 abbrev pub HasParent : Subtree → Type 0
 HasParent it = (wants it.choice (1024 * it.number) it.len ≡ true) × (1024 < it.len)
 
--- the parent at its top is there, and has the value that is asked for
+-- the parent at the subtree's top is complete, and has the value required of it
 abbrev pub HasGoodParent : Subtree → List ℕ → Type 0
 HasGoodParent it text = (it.at + 64 ≤ length text) × Meets it.asked (parent_at it.mode text it.at)
 
--- Two smaller subtrees, whose checks tell what that of the whole comes to: it passes where both pass, and
--- else a fault of the left one comes before those of the right one.
+-- Two smaller subtrees whose results give that of the whole: it succeeds if both do, and a fault of the left
+-- one comes before those of the right one.
 pub record IsSplit (whole left right : Subtree) (text : List ℕ) : Type 0 where
   pub left_less : left.len < whole.len
   pub right_less : right.len < whole.len
@@ -64,8 +64,8 @@ pub record IsSplit (whole left right : Subtree) (text : List ℕ) : Type 0 where
   pub left_stops : (fault : CheckFault) → StopsWith left text fault → StopsWith whole text fault
   pub right_stops : (middle : ℕ) (fault : CheckFault) → PassesTo left text middle → StopsWith right text fault → StopsWith whole text fault
 
--- A subtree that is all of an encoding but its length: its check tells whether the encoding is accepted, and else its
--- first fault.
+-- A subtree that is all of an encoding but its length: its result says whether the encoding is accepted, and
+-- else its first fault.
 pub record IsTopOf (top : Subtree) (mode : Mode) (root text : List ℕ) (nodes : List TreeNode) : Type 0 where
   pub begins : BeginsIn text top
   pub accepted : (end : ℕ) → PassesTo top text end → length text ≤ end → IsAccepted mode root text nodes

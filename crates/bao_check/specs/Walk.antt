@@ -1,4 +1,4 @@
--- What is known while an encoding is walked through, node by node.
+-- What is known during the walk through an encoding, node by node.
 use Rattle.std.specs.Prelude.{◌≡◌, ℕ, ◌+◌, ◌<◌, ◌≤◌, List, [], ◌∷◌, ◌++◌, length, take, drop, sum_by, true, Contains}
 use Rattle.std.specs.List.{AllByRecursion}
 use Rattle.b3word.specs.declared.input.Input.{Input}
@@ -14,39 +14,40 @@ use Rattle.bao_check.specs.declared.fault.CheckFault.TheVariants.{Short, Mismatc
 use Rattle.bao_check.specs.Accepted.{bytes_at, end_of, input_at, part_value}
 use Rattle.bao_check.specs.Inputs.{marked}
 
--- the input has the value that is asked for
+-- the input has the value required
 abbrev pub Meets : Asked → Input → Type 0
 Meets asked x = cv (marked asked.top x) ≡ asked.value.0
 
--- The node at a place of a subtree has the value that its place asks for: `asked` at the subtree's top,
--- which has these sides, and below a parent the half of it that the node's last side names.
+-- The node at a place of a subtree has the value required there: `asked` at the subtree's top, whose sides
+-- these are, and below a parent the half of it that the node's last side names.
 abbrev pub IsAskedIn : Asked → List Side → Mode → List ℕ → List (ℕ × TreeNode) → ℕ × TreeNode → Type 0
 IsAskedIn asked sides mode text places place =
     (place.1.sides ≡ sides → Meets asked (input_at mode text place))
     × ((above : ℕ × TreeNode) (side : Side) → Contains places above → place.1.sides ≡ above.1.sides ++ side ∷ []
     → cv (input_at mode text place) ≡ part_value side (bytes_at text above))
 
--- the node is there, and has its value
+-- the node at a place of a subtree is complete, and has the value required there
 abbrev pub IsGoodIn : Asked → List Side → Mode → List ℕ → List (ℕ × TreeNode) → ℕ × TreeNode → Type 0
 IsGoodIn asked sides mode text places place = (end_of place ≤ length text) × IsAskedIn asked sides mode text places place
 
--- a subtree's places, from `at` on, are all good
+-- all nodes of a subtree, which begin at `at`, are good
 abbrev pub AreGood : Asked → List Side → Mode → List ℕ → ℕ → List TreeNode → Type 0
 AreGood asked sides mode text at nodes = AllByRecursion (IsGoodIn asked sides mode text (placed_nodes at nodes)) (placed_nodes at nodes)
 
--- those before a place are
+-- all nodes of a subtree before a place are good
 pub record AreGoodUpTo (asked : Asked) (sides : List Side) (mode : Mode) (text : List ℕ) (places : List (ℕ × TreeNode)) (place : ℕ × TreeNode) : Type 0 where
   pub earlier : List (ℕ × TreeNode)
   pub later : List (ℕ × TreeNode)
   pub split : places ≡ earlier ++ place ∷ later
   pub good : AllByRecursion (IsGoodIn asked sides mode text places) earlier
 
--- The walk through a subtree's nodes, whose first place is `at`, ends well at `end`: all nodes are good, and the last ends there.
+-- The walk through a subtree's nodes, the first of which begins at `at`, succeeds: all nodes are good, and the
+-- last ends at `end`.
 pub record Passes (asked : Asked) (sides : List Side) (mode : Mode) (text : List ℕ) (at end : ℕ) (nodes : List TreeNode) : Type 0 where
   pub ends : end ≡ at + sum_by size nodes
   pub good : AreGood asked sides mode text at nodes
 
--- the fault of a node that isn't there, or hasn't the value that its place asks for
+-- the fault of a node that is incomplete, or doesn't have the value required there
 abbrev pub IsStop : Asked → List Side → Mode → List ℕ → List (ℕ × TreeNode) → ℕ × TreeNode → CheckFault → Type 0
 IsStop asked sides mode text places place (Short at) = (at ≡ place.0) × (length text < end_of place)
 IsStop asked sides mode text places place (Mismatch at) = (at ≡ place.0) × (end_of place ≤ length text) × ¬ IsAskedIn asked sides mode text places place
@@ -54,14 +55,16 @@ IsStop asked sides mode text places place (Trailing at) = ⊥
 IsStop asked sides mode text places place Memory = ⊥
 IsStop asked sides mode text places place Reader = ⊥
 
--- The walk through these places ends at such a node, with this fault, and all before it are good. The node ends at `end`.
+-- The walk through these places stops with this fault at a node that isn't good and ends at `end`; all before
+-- it are good.
 pub record Stops (asked : Asked) (sides : List Side) (mode : Mode) (text : List ℕ) (places : List (ℕ × TreeNode)) (fault : CheckFault) (end : ℕ) : Type 0 where
   pub place : ℕ × TreeNode
   pub good : AreGoodUpTo asked sides mode text places place
   pub ends : end ≡ end_of place
   pub is : IsStop asked sides mode text places place fault
 
--- the same of a node at `at`, which ends at `end`, by the input that it makes
+-- the fault of a node from `at` to `end` that makes this input, if it is incomplete or doesn't have the value
+-- required
 abbrev pub IsTopStop : Asked → Input → List ℕ → ℕ → ℕ → CheckFault → Type 0
 IsTopStop asked x text at end (Short from) = (from ≡ at) × (length text < end)
 IsTopStop asked x text at end (Mismatch from) = (from ≡ at) × (end ≤ length text) × ¬ Meets asked x
@@ -69,14 +72,14 @@ IsTopStop asked x text at end (Trailing from) = ⊥
 IsTopStop asked x text at end Memory = ⊥
 IsTopStop asked x text at end Reader = ⊥
 
--- the input that the 64 bytes at a place make as a parent
+-- the compression input of the 64 bytes at an offset, as a parent
 abbrev pub parent_at : Mode → List ℕ → ℕ → Input
 parent_at mode text at = parent_input mode (part_value left (take 64 (drop at text))) (part_value right (take 64 (drop at text)))
 
--- and that of a chunk
+-- the last compression input of the bytes at an offset, as a chunk
 abbrev pub chunk_at : Mode → ℕ → ℕ → List ℕ → ℕ → Input
 chunk_at mode number n text at = last_chunk_input mode number (take n (drop at text))
 
--- what the top of a whole encoding asks for: the words of the root
+-- what is required of the top of a complete encoding: the words of the root
 abbrev pub asked_root : List ℕ → Asked
 asked_root root = record { top = true; value = record { 0 = words_of 8 root } }

@@ -1,4 +1,4 @@
--- The way down to a chunk of an encoding, a parent at a time.
+-- The path down to a chunk of an encoding, one parent at a time.
 use Rattle.std.specs.Prelude.{◌≡◌, ℕ, ◌+◌, ◌<◌, ◌≤◌, List, Bool, Option, Some, Contains}
 use Rattle.b3word.specs.declared.input.Input.{Input}
 use Rattle.b3tree.specs.declared.mode.Mode.{Mode}
@@ -10,9 +10,9 @@ use Rattle.bao_check.specs.Inputs.{text_inputs}
 use Rattle.bao_check.specs.Parents.{parent_in}
 use Rattle.bao_check.specs.Pieces.{chunk_in}
 
--- The parents lead down to chunk `number`, which is `bytes`, in the subtree over n bytes from chunk `from`
--- on, at whose top `value` is asked for: they are those of an encoding whose nodes there are good, with that chunk,
--- and whose inputs are among `inputs`.
+-- The parents lead down to chunk `number` with these bytes, in the subtree over n bytes from chunk `from` on,
+-- of whose top `value` is required: they are those of an encoding whose nodes there are good and include that
+-- chunk, and whose inputs are among `inputs`.
 pub record LeadsTo (parents : ℕ → Option (List ℕ)) (inputs : List Input) (mode : Mode) (top : Bool) (value : List ℕ) (from n number : ℕ) (bytes : List ℕ) : Type 0 where
   pub choice : Choice
   pub text : List ℕ

@@ -3,7 +3,7 @@ ghost use Rattle.bao_check.specs.Walk.{Meets, asked_root};
 
 use b3tree::{Cv, Hash, Input, cv, rooted};
 
-/// What a node's place asks for: a chaining value, at the top that of the root.
+/// The chaining value that is required of a node; at the top, that of the root.
 #[derive(Clone, Copy)]
 pub(crate) struct Asked {
     pub(crate) top: bool,

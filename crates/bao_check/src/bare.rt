@@ -23,14 +23,14 @@ pub(crate) fn bare_chunk(chunks: &[u8], first: u64, k: u64, len: u64) -> &[u8]
     &rest[..len.min(rest.len() as u64) as usize]
 }
 
-/// The values of eight chunks, the first of which has the number `first`.
+/// The chaining values of eight chunks, the first of which has the index `first`.
 #[derive(Drop)]
 pub(crate) struct Eight {
     first: u64,
     values: [Cv; 8],
 }
 
-/// The chunks from chunk `first` on, up to and without chunk `after`, beside the encoding of an outline.
+/// The chunks from `first` up to and without `after` of a plain copy, beside the encoding of an outline.
 #[derive(Drop)]
 pub(crate) struct Bare<'a> {
     pub(crate) mode: Mode,

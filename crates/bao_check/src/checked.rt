@@ -17,10 +17,10 @@ use crate::tail::Tail;
 use b3tree::{CHUNK_LEN, Hash, Mode, bytes_are};
 use bao_text::{Choice, Nodes, chunk_count, claimed};
 
-/// What a slice is read from.
+/// Where the nodes of an accepted slice are read from.
 #[derive(Clone, Copy, Debug)]
 pub(crate) enum Body<'a> {
-    /// Its encoding, whole.
+    /// Its complete encoding.
     Text(&'a [u8]),
     /// An outline, and the chunks beside it.
     Beside {
@@ -29,9 +29,11 @@ pub(crate) enum Body<'a> {
     },
 }
 
-/// An encoding that was accepted as a slice under a root: it carries that it was, so whoever holds one needs
-/// no premise. It was given whole, or as chunks beside an outline, which make it together. All calls on it take
-/// no memory, and cost at most the height of the tree.
+/// An accepted slice: an encoding that was accepted as a slice under a root, or chunks accepted beside an
+/// outline.
+///
+/// The type is the evidence of acceptance, so its holder needs no further premise. It borrows the bytes. Its
+/// calls don't allocate, and cost at most the height of the tree.
 #[derive(Clone, Copy, Debug)]
 pub struct Checked<'a> {
     mode: Mode,
@@ -51,7 +53,7 @@ impl<'a> Checked<'a> {
     ghost use Rattle.bao_text.specs.NodeNames.{name};
     ghost use Rattle.bao_text.specs.Rest.{rest_of};
 
-    /// The piece that an accepted encoding is.
+    /// Returns the accepted slice for an encoding that is known to be accepted.
     pub fn new(mode: &Mode, root: &Hash, start: u64, len: u64, text: &'a [u8]) -> Checked<'a>
         requires { IsAccepted mode.now root.now.0 text.now (slice_nodes text.now start len) }
         ensures { IsPiece result mode.now root.now.0 start len text.now }
@@ -87,21 +89,21 @@ impl<'a> Checked<'a> {
         }
     }
 
-    /// The root under which the encoding was accepted.
+    /// Returns the root under which the slice was accepted.
     pub fn root(&self) -> Hash
         ensures { result.0 ≡ piece_root self.now }
     {
         self.root
     }
 
-    /// The mode in which it was.
+    /// Returns the mode in which it was accepted.
     pub fn mode(&self) -> Mode
         ensures { result ≡ piece_mode self.now }
     {
         self.mode
     }
 
-    /// The length in bytes that the encoding claims for the blob. It is certified only by the last chunk: see
+    /// Returns the blob's length in bytes that the encoding claims. Only the last chunk certifies it: see
     /// `tail`.
     pub fn claimed(&self) -> u64
         ensures { result ≡ piece_claimed self.now }
@@ -112,7 +114,7 @@ impl<'a> Checked<'a> {
         }
     }
 
-    /// How many bytes the accepted encoding has: its length's 8, and those of its nodes.
+    /// Returns the length of the accepted encoding in bytes: 8 for the blob's length, and those of its nodes.
     pub fn text_len(&self) -> u128
         ensures { result ≡ length (piece_text self.now) }
     {
@@ -132,8 +134,8 @@ impl<'a> Checked<'a> {
         }
     }
 
-    /// What a piece carries: its encoding is of bytes, and accepted under its root in its mode. A law, for proofs over
-    /// pieces. Nothing runs.
+    /// Lemma: the encoding consists of bytes and is accepted under the slice's root in its mode. No effect at
+    /// run time.
     pub fn is_accepted(&self)
         ensures bytes { AreBytes (piece_text self.now) }
         ensures accepted { IsAccepted (piece_mode self.now) (piece_root self.now) (piece_text self.now) (piece_nodes self.now) }
@@ -148,8 +150,8 @@ impl<'a> Checked<'a> {
         Choice::of_slice(self.claimed(), self.start, self.len)
     }
 
-    /// The number of the first chunk that the piece holds, and the number after the last. It holds those
-    /// between, at least one.
+    /// Returns the index of the first chunk that the slice has, and the index after its last: it has all of
+    /// these, at least one.
     #[tactic(auto, using(crate::proofs::Presence::chunks_present))]
     pub fn chunks(&self) -> (u64, u64)
         ensures some { result.0 < result.1 }
@@ -160,8 +162,8 @@ impl<'a> Checked<'a> {
         (choice.start() / chunk_len, choice.end().div_ceil(chunk_len))
     }
 
-    /// The nodes of its encoding by name, in their order: its chunks by their numbers, and its parents by the chunk with
-    /// which the right part begins.
+    /// Returns the nodes of its encoding in order: chunks by their index, and parents by the first chunk of
+    /// their right child.
     pub fn nodes(&self) -> Nodes
         ensures { rest_of result ≡ map name (piece_nodes self.now) }
     {
@@ -192,11 +194,12 @@ impl<'a> Checked<'a> {
         }
     }
 
-    /// The bytes of chunk `i`, where they stand: there exactly where the piece holds that chunk.
+    /// Returns the bytes of chunk `i`, at most 1,024, borrowed from the slice; `None` exactly if the slice
+    /// doesn't have it.
     ///
-    /// The root, the piece's own parents over the chunk and these bytes, at most 1,024, are its certificate.
-    /// So for each blob with the root they are the blob's chunk `i`, or a collision is exhibited, one
-    /// input of the blob's and one of the encoding's.
+    /// The root, the slice's parents above the chunk and these bytes are a certificate. For every blob with the
+    /// root they are the blob's chunk `i`; or the contract exhibits a collision, one input from the blob and
+    /// one from the encoding.
     pub fn chunk(&self, i: u64) -> Option<&'a [u8]>
         ensures value { option_copied result ≡ chunk_in (piece_text self.now) (piece_places self.now) i }
         ensures certificate { IfSome result (λ bytes. HasCertificate self.now i bytes.now) }
@@ -209,8 +212,8 @@ impl<'a> Checked<'a> {
         self.bytes(i)
     }
 
-    /// That the piece holds the last chunk of its claimed length, where it does: then that length is
-    /// certified, since the way to the last chunk goes to the right at each parent.
+    /// Returns the slice as a tail exactly if it has the last chunk of its claimed length, which is then
+    /// certified: the path to the last chunk goes right at each parent.
     pub fn tail(&self) -> Option<Tail<'a>>
         ensures there { IsSome result ↔ HoldsLast self.now }
         ensures piece { IfSome result (λ tail. tail_piece tail ≡ self.now) }

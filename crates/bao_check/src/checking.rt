@@ -46,17 +46,17 @@ pub(crate) fn begin(
     Ok((choice, waiting))
 }
 
-/// What a check took of bytes at once.
+/// What `Checking::decode` accepted.
 #[derive(Clone, Copy, Debug, PartialEq, Eq)]
 pub struct Decoded {
-    /// How many bytes: whole nodes.
+    /// How many bytes of the input: whole nodes.
     pub taken: usize,
-    /// How many bytes of the blob are among them, and fill the front of the room.
+    /// How many bytes of the blob are among them, at the front of the buffer.
     pub filled: usize,
 }
 
-/// An encoding that is checked as a slice while its bytes come, a node at a time: `check_slice` and `read_checked` for a
-/// caller that has no whole encoding and no reader. It takes no memory, and keeps none of the bytes.
+/// Checks an encoding as a slice while it arrives, node by node: `check_slice` and `read_checked` for a caller
+/// that has neither the whole encoding nor a reader. It doesn't allocate, and keeps none of the bytes.
 #[derive(Drop)]
 pub struct Checking {
     mode: Mode,
@@ -75,8 +75,8 @@ pub struct Checking {
 impl Checking {
     ghost use Rattle.bao_check.specs.Checking.{HasDecodedAs, HasTakenAs, IsNodeFault, chunk_wanted, wanted};
 
-    /// A check of an encoding as the slice of `len` bytes from byte `start` on of the blob with the hash `root` in `mode`. It
-    /// has taken nothing.
+    /// Returns a check of the slice of `len` bytes from byte `start` on of the blob with the hash `root` in
+    /// `mode`. Nothing has been accepted yet.
     pub fn of_slice(mode: &Mode, root: &Hash, start: u64, len: u64) -> Checking
         ensures taken { HasTakenAs result (record { mode = mode.now; root = root.now.0; start = start; len = len }) [] }
         ensures decoded { HasDecodedAs result (record { mode = mode.now; root = root.now.0; start = start; len = len }) [] [] }
@@ -92,7 +92,7 @@ impl Checking {
         }
     }
 
-    /// A check of an encoding as the combined encoding of the blob: as `of_slice` from byte 0 on with the length 2^64 - 1.
+    /// Returns a check of the blob's combined encoding: as `of_slice` from byte 0 on with the length 2^64 - 1.
     pub fn of_combined(mode: &Mode, root: &Hash) -> Checking
         ensures taken { HasTakenAs result (record { mode = mode.now; root = root.now.0; start = 0; len = 2 ^ 64 - 1 }) [] }
         ensures decoded { HasDecodedAs result (record { mode = mode.now; root = root.now.0; start = 0; len = 2 ^ 64 - 1 }) [] [] }
@@ -100,8 +100,9 @@ impl Checking {
         Checking::of_slice(mode, root, 0, u64::MAX)
     }
 
-    /// How many bytes `take` takes next: 8 for the length, 64 for a parent and 1 to 1,024 for a chunk. `None` exactly
-    /// where what was taken is an accepted encoding. An encoding that ends before so many more is short (501) at this place.
+    /// Returns how many bytes `take` needs next: 8 for the length, 64 for a parent, and 1 to 1,024 for a chunk.
+    /// `None` exactly if the bytes accepted so far are an accepted encoding. An encoding that ends within the
+    /// next node is short (501) there.
     pub fn wants(&self) -> Option<usize>
         ensures value { result ≡ wanted self.now }
         ensures size { IfSome result (λ size. (1 ≤ size) × (size ≤ 1024)) }
@@ -118,27 +119,28 @@ impl Checking {
         node_size(&self.waiting)
     }
 
-    /// Whether the node that comes next is a chunk: bytes of the blob, as `take` says of them. Its size alone doesn't
-    /// tell, since a last chunk may have 64 bytes, as a parent has.
+    /// Returns whether the next node is a chunk, so that `take` accepts bytes of the blob. Its size doesn't
+    /// tell: a last chunk may have 64 bytes, as a parent has.
     pub fn wants_chunk(&self) -> bool
         ensures { result ≡ chunk_wanted self.now }
     {
         self.at > 0 && is_chunk_next(&self.waiting)
     }
 
-    /// Whether what was taken is an accepted encoding.
+    /// Returns whether the bytes accepted so far are an accepted encoding.
     pub fn is_done(&self) -> bool
         ensures { (task : CheckTask) (taken : List ℕ) → HasTakenAs self.now task taken → IsTrue result ↔ IsAcceptedAs task taken }
     {
         self.wants().is_none()
     }
 
-    /// Takes the node that comes next, exactly as many bytes as `wants` says, and verifies it.
+    /// Verifies the next node, which has exactly as many bytes as `wants` returns.
     ///
-    /// Refused: 502 `Mismatch` where it hasn't the value that its place asks for, which is the first fault of every encoding
-    /// that begins with what was taken and these bytes, as `check_slice` answers it: at the place of the node, and at 8
-    /// for the chunk of a blob of no bytes, which is verified with the length. 504 `Memory` where 2^64 bytes or more
-    /// would have been taken. The check is unchanged then, and can take other bytes in their place.
+    /// Refuses with 502 `Mismatch` if the node doesn't have the value required there, and with 504 `Memory` if
+    /// 2^64 bytes or more would be accepted in all. The check is then unchanged, and other bytes can be tried.
+    /// The offset of a mismatch is that of the first fault that `check_slice` finds in every encoding that
+    /// begins with the bytes accepted and these: the node's, and 8 for the chunk of an empty blob, which is
+    /// verified with the length.
     pub fn take(&mut self, node: &[u8]) -> Result<(), CheckFault>
         requires { wanted self.old ≡ Some (length node.now) }
         ensures taken { (task : CheckTask) (taken : List ℕ) → HasTakenAs self.old task taken → OnOk result (HasTakenAs self.new task (taken ++ node.now)) }
@@ -173,14 +175,14 @@ impl Checking {
         Ok(())
     }
 
-    /// Takes as many whole nodes as `bytes` begins with, verifies them, many at once, and puts the bytes of the chunks among them, in
-    /// their order, to the front of `room`, which has room for as many bytes as are given. Answers how many bytes were taken,
-    /// and how many of the room are filled: bytes of the blob. Those that aren't taken are fewer than the next node has, or follow the
-    /// last one.
+    /// Verifies as many whole nodes as `bytes` begins with, and copies the bytes of their chunks, in order, to
+    /// the front of `room`, which is at least as long as `bytes`. Returns how many bytes were accepted, and how
+    /// many of `room` were filled: bytes of the blob. What is left of `bytes` is less than the next node, or
+    /// follows the last.
     ///
-    /// Refused: 502 `Mismatch` with the place of a node that hasn't the value that is asked for, which is the first fault of every
-    /// encoding that begins with what was taken and these bytes. What comes before that node has been taken then. 504 `Memory`
-    /// where 2^64 bytes or more would have been taken; nothing was.
+    /// Refuses with 502 `Mismatch` at a node that doesn't have the value required there: the first fault of
+    /// every encoding that begins with the bytes accepted and these. The nodes before it stay accepted. Refuses
+    /// with 504 `Memory` if 2^64 bytes or more would be accepted in all, and accepts none.
     pub fn decode(&mut self, bytes: &[u8], room: &mut [u8]) -> Result<Decoded, CheckFault>
         requires { length bytes.now ≤ length room.old }
         ensures size { length room.new ≡ length room.old }
@@ -244,11 +246,11 @@ impl Checking {
         })
     }
 
-    /// What the check of the whole encoding says, where the encoding is what was taken and then `rest`, which is less than the
-    /// next node.
+    /// Returns the verdict on the encoding that consists of the bytes accepted so far and then `rest`, which is
+    /// less than the next node.
     ///
-    /// Refused, its first fault: 501 `Short` at the place of that node, where there is one, and 503 `Trailing` at the
-    /// end of the last where `rest` follows it.
+    /// Refuses with its first fault: 501 `Short` at the next node, if one is missing, or 503 `Trailing` at the
+    /// end of the last, if `rest` follows it.
     pub fn finish(&self, rest: &[u8]) -> Result<(), CheckFault>
         requires { IfSome (wanted self.now) (λ size. length rest.now < size) }
         ensures { (task : CheckTask) (taken : List ℕ) → HasTakenAs self.now task taken

@@ -30,13 +30,15 @@ fn check_bytes(mode: &Mode, root: &Hash, form: &EncodingForm, text: &[u8]) -> Re
     Ok(())
 }
 
-/// Checks `text` as the slice of `len` bytes from byte `start` on of the blob with the hash `root` in `mode`.
+/// Checks `text` as the slice of `len` bytes from byte `start` on of the blob with the hash `root` in `mode`
+/// (Bao specification, on decoding).
 ///
-/// It is accepted exactly where it is the claimed length and the slice's nodes by that length, each with
-/// the value that its place asks for (the root's at the top, its half of the parent above it elsewhere),
-/// and nothing else. Otherwise its first fault is answered: a node is read whole, then verified, before
-/// the next. 501 `Short`, 502 `Mismatch`, 503 `Trailing`. No memory is taken, so 504 never comes, and no
-/// byte is copied. A claimed length is never refused for its size. (Bao specification, on decoding.)
+/// It is accepted exactly if it is the claimed length, followed by the slice's nodes for that length, each with
+/// the value required there (the root's at the top, else its half of the parent above), and nothing else. A
+/// claimed length is never refused for its size. The call doesn't allocate, and copies nothing.
+///
+/// Refuses with the first fault: 501 `Short`, 502 `Mismatch` or 503 `Trailing`, never 504. A node is read as a
+/// whole and verified before the next.
 #[tactic(auto, using(crate::proofs::Laws::apart))]
 pub fn check_slice<'a>(
     _alloc: Global,
@@ -54,8 +56,8 @@ pub fn check_slice<'a>(
     Ok(Checked::new(mode, root, start, len, text))
 }
 
-/// Checks `text` as the combined encoding of the blob with the hash `root` in `mode`: as `check_slice`
-/// from byte 0 on with the length 2^64 - 1.
+/// Checks `text` as the combined encoding of the blob with the hash `root` in `mode`: as `check_slice` from
+/// byte 0 on with the length 2^64 - 1.
 pub fn check_combined<'a>(
     alloc: Global,
     mode: &Mode,
@@ -69,14 +71,13 @@ pub fn check_combined<'a>(
     check_slice(alloc, mode, root, 0, u64::MAX, text)
 }
 
-/// Checks `text` as the outboard encoding of the blob with the hash `root` in `mode`: every parent is
-/// verified, and there is no chunk.
+/// Checks `text` as the outboard encoding of the blob with the hash `root` in `mode` (Bao specification, on
+/// outboard encodings).
 ///
-/// It is accepted exactly where it is the claimed length and the parents by that length, each with the
-/// value that its place asks for, and nothing else. A length of at most one chunk has no parent, so its
-/// eight bytes alone are accepted under every root. Otherwise the first fault is answered, as by
-/// `check_slice`. No memory is taken, so 504 never comes, and no byte is copied. (Bao specification, on
-/// outboard encodings.)
+/// It is accepted exactly if it is the claimed length, followed by the parents for that length, each with the
+/// value required there, and nothing else. A length of at most one chunk has no parent, so its 8 bytes alone
+/// are accepted under every root. The call doesn't allocate, and copies nothing. Refuses with the first fault,
+/// as `check_slice` does.
 #[tactic(auto, using(crate::proofs::Laws::apart))]
 pub fn check_outboard<'a>(
     _alloc: Global,
@@ -92,8 +93,8 @@ pub fn check_outboard<'a>(
     Ok(Outline::new(mode, root, text))
 }
 
-/// Whether chunk `first` and those after it, `count` in number, are chunks of the length that `outline` claims, at
-/// least one: `count` is at least 1, and `first + count` at most the number of its chunks.
+/// Returns whether `count` chunks from chunk `first` on are chunks of the length that `outline` claims: `count`
+/// is at least 1, and `first + count` at most the number of its chunks.
 pub fn bare_fits(outline: &Outline<'_>, first: u64, count: u64) -> bool
     ensures { IsTrue result ↔ AreChunksOf outline.now first count }
 {
@@ -133,17 +134,17 @@ fn check_chunks(
     Ok(())
 }
 
-/// Checks `chunks` as the bytes of the chunks from chunk `first` on, `count` in number, of the blob that `outline`
-/// is of: a part of a plain copy, which begins with byte `1,024 * first` of the blob. `bare_fits` tells which there
-/// are.
+/// Checks `chunks`, a range of a plain copy, as the `count` chunks from chunk `first` on of the blob that
+/// `outline` describes. `bare_fits` tells which ranges there are.
 ///
-/// They are accepted exactly where each chunk is wholly there and has the value that the outline has for it, a
-/// single chunk that of the root, and nothing follows the last: exactly where the slice encoding of these bytes,
-/// made of the outline's length and parents and of `chunks`, is accepted. The piece is of that slice: its chunks and
-/// parents are handed out where they stand, nothing is copied. Otherwise the first fault in the order of the chunks
-/// is answered: 501 `Short` at a chunk that isn't wholly there, 502 `Mismatch` at one that hasn't the outline's
-/// value, 503 `Trailing` at what follows the last. Their `at` is a place of `chunks`, where chunk k begins at
-/// `1,024 * (k - first)`. No memory is taken, so 504 never comes.
+/// They are accepted exactly if each chunk is complete and has the outline's value for it (a single chunk that
+/// of the root), and nothing follows the last. This is so exactly if the slice encoding made of the outline's
+/// length and parents and of `chunks` is accepted, and the result is that slice. The call doesn't allocate, and
+/// copies nothing.
+///
+/// Refuses with the first fault in the order of the chunks: 501 `Short` at a chunk that isn't complete, 502
+/// `Mismatch` at one that doesn't have the outline's value, 503 `Trailing` at what follows the last; never 504.
+/// `at` is an offset in `chunks`, where chunk k begins at `1,024 * (k - first)`.
 pub fn check_bare<'a>(
     outline: &'a Outline<'a>,
     first: u64,

@@ -2,13 +2,13 @@ ghost use Rattle.std.specs.Prelude.{◌≡◌};
 
 use thiserror::Error;
 
-/// Why an encoding was not accepted: its first fault, in the order of the encoding. `at` is a number of bytes.
+/// Why an encoding was not accepted: its first fault, in the order of the encoding. `at` is an offset in bytes.
 #[derive(Clone, Copy, Debug, PartialEq, Eq, Error)]
 pub enum CheckFault {
-    /// The encoding ends within the node that begins at `at`, or at 0 within its length. Number 501.
+    /// The encoding ends within the node that begins at `at`, or, if `at` is 0, within its length. Number 501.
     #[error("501 short at {at}")]
     Short { at: u64 },
-    /// The node that begins at `at` hasn't the value that its place asks for. Number 502.
+    /// The node that begins at `at` doesn't have the value required there. Number 502.
     #[error("502 mismatch at {at}")]
     Mismatch { at: u64 },
     /// All nodes are good, and something follows the last, which ends at `at`. Number 503.
@@ -17,7 +17,7 @@ pub enum CheckFault {
     /// Out of memory for an encoding that is read. Number 504.
     #[error("504 memory")]
     Memory,
-    /// A read answered a fault. Number 505.
+    /// A read failed. Number 505.
     #[error("505 reader")]
     Reader,
 }
@@ -25,7 +25,7 @@ pub enum CheckFault {
 impl CheckFault {
     ghost use Rattle.bao_check.specs.Faults.{number_of};
 
-    /// The fault's number: 501 to 505.
+    /// Returns the number of the fault: 501 to 505.
     pub fn code(&self) -> u16
         ensures { result ≡ number_of self.now }
     {

@@ -2,7 +2,7 @@ ghost use Rattle.std.specs.Prelude.{◌≡◌};
 
 use bao_text::Choice;
 
-/// Which encoding is checked.
+/// The format of the encoding that is checked.
 #[derive(Clone, Copy)]
 pub(crate) enum EncodingForm {
     /// The slice of `len` bytes from byte `start` on.

@@ -23,7 +23,7 @@ const NODES: usize = 64;
 
 type Places = ArrayVec<usize, LANES>;
 
-/// Values of chunks that follow one another in an encoding.
+/// Chaining values of consecutive chunks of an encoding.
 #[derive(Drop)]
 pub(crate) struct Known {
     // The number of the first.

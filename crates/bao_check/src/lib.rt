@@ -1,6 +1,8 @@
-//! Bao encodings checked: combined, outboard and slices, from bytes and from a reader (Bao specification).
-//! An accepted slice is a piece (`Checked`), one with the last chunk of the length that it claims a tail (`Tail`), and an
-//! accepted outboard encoding an outline (`Outline`).
+//! Bao encodings checked: combined, outboard and slices, in memory, from a reader or while they arrive (Bao
+//! specification).
+//!
+//! An accepted slice is a `Checked`, one with the last chunk of its claimed length is a `Tail`, and an accepted
+//! outboard encoding is an `Outline`.
 #![tactic(auto)]
 
 pub use checked::Checked;

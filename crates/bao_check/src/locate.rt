@@ -12,7 +12,7 @@ pub(crate) const LENGTH_LEN: u128 = bao_text::LENGTH_LEN as u128;
 // Bytes of a parent, for places.
 pub(crate) const PARENT_LEN: u128 = bao_text::PARENT_LEN as u128;
 
-/// Where an encoding has a chunk: the offset of its first byte, and how many bytes it has.
+/// Where a chunk is in an encoding: its offset and its length in bytes.
 #[derive(Clone, Copy)]
 pub(crate) struct Span {
     pub(crate) at: u128,

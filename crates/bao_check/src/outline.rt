@@ -9,8 +9,10 @@ use crate::leaves::leaf_below;
 use b3tree::{CHUNK_LEN, Cv, Hash, Mode, bytes_are};
 use bao_text::{LENGTH_LEN, claimed};
 
-/// An encoding that was accepted as an outboard encoding under a root: it carries that it was, so whoever holds
-/// one needs no premise. All calls on it take no memory, and cost at most the height of the tree.
+/// An outline: an encoding that was accepted as an outboard encoding under a root.
+///
+/// The type is the evidence of acceptance, so its holder needs no further premise. It borrows the bytes. Its
+/// calls don't allocate, and cost at most the height of the tree.
 #[derive(Clone, Copy, Debug)]
 pub struct Outline<'a> {
     mode: Mode,
@@ -22,7 +24,7 @@ pub struct Outline<'a> {
 impl<'a> Outline<'a> {
     ghost use Rattle.bao_check.specs.Outline.{IsOutline, outline_claimed, outline_mode, outline_root, outline_text};
 
-    /// The outline that an accepted outboard encoding is.
+    /// Returns the outline for an outboard encoding that is known to be accepted.
     pub fn new(mode: &Mode, root: &Hash, text: &'a [u8]) -> Outline<'a>
         requires { IsAccepted mode.now root.now.0 text.now (outboard_nodes text.now) }
         ensures { IsOutline result mode.now root.now.0 text.now }
@@ -41,32 +43,32 @@ impl<'a> Outline<'a> {
         bytes_are(self.text);
     }
 
-    /// The root under which the encoding was accepted.
+    /// Returns the root under which the encoding was accepted.
     pub fn root(&self) -> Hash
         ensures { result.0 ≡ outline_root self.now }
     {
         self.root
     }
 
-    /// The mode in which it was.
+    /// Returns the mode in which it was accepted.
     pub fn mode(&self) -> Mode
         ensures { result ≡ outline_mode self.now }
     {
         self.mode
     }
 
-    /// The length in bytes that the encoding claims for the blob. No outboard encoding certifies it: that takes
-    /// the last chunk.
+    /// Returns the blob's length in bytes that the encoding claims. Only the last chunk can certify it, and no
+    /// outboard encoding has one.
     pub fn claimed(&self) -> u64
         ensures { result ≡ outline_claimed self.now }
     {
         claimed(self.text)
     }
 
-    /// The chaining value that the encoding has for chunk `i`: the half of a parent that stands for it.
+    /// Returns the chaining value of chunk `i`: the half of a parent that stands for it.
     ///
-    /// There is one exactly where the claimed length is of more than one chunk and `i` is below their
-    /// number: a single chunk has no parent, and no value but the root.
+    /// `None` exactly if the claimed length has at most one chunk, whose only value is the root, or no chunk
+    /// `i`.
     pub fn leaf(&self, i: u64) -> Option<Cv>
         ensures there { IsSome result ↔ ((1 < chunk_count (outline_claimed self.now)) × (i < chunk_count (outline_claimed self.now))) }
         ensures value { IfSome result (λ v. IsLeafValue (outline_text self.now) (places_of (outboard_nodes (outline_text self.now))) i v.0) }

@@ -14,7 +14,7 @@ use bao_text::Choice;
 /// How many chunks a group has, and boundaries before them.
 pub const GROUP_LEN: u64 = 64;
 
-/// How many bytes a group's chunks have.
+/// The length of a group in bytes.
 pub const GROUP_BYTES: u64 = GROUP_LEN * CHUNK_LEN as u64;
 
 // Where the parent whose right part begins at chunk `m` is, one of the left part of a parent at `at`: `count` chunks from chunk
@@ -103,7 +103,8 @@ impl<'a> Checked<'a> {
         find_parent(&self.choice(), 0, self.claimed(), LENGTH_LEN, m)
     }
 
-    /// Whether the piece has a parent whose right part begins at chunk `m`: sooner told than `parent`.
+    /// Returns whether the slice has a parent whose right child begins at chunk `m`. It costs less than
+    /// `parent`.
     #[tactic(auto, using(crate::proofs::Parenting::parents_read))]
     pub fn has_parent(&self, m: u64) -> bool
         ensures { result ≡ is_some (parent_in (piece_text self.now) (piece_places self.now) m) }
@@ -111,8 +112,9 @@ impl<'a> Checked<'a> {
         self.parent_at(m).is_some()
     }
 
-    /// The mask of a group's boundaries at which the piece has a parent: bit i is set exactly where it has the parent whose
-    /// right part begins at chunk 64 * group + i. Sooner told than by `has_parent` of each. 0 for a group past the last.
+    /// Returns the mask of a group's boundaries at which the slice has a parent: bit i is set exactly if it has
+    /// the parent whose right child begins at chunk 64 * group + i. It costs less than `has_parent` for each,
+    /// and is 0 past the last group.
     #[tactic(auto, using(crate::proofs::Parenting::parents_read))]
     pub fn parents_of(&self, group: u64) -> u64
         ensures { IsParentMask (piece_text self.now) (piece_places self.now) group result }
@@ -120,9 +122,9 @@ impl<'a> Checked<'a> {
         parents_in(&self.choice(), 0, self.claimed(), group)
     }
 
-    /// The 64 bytes of the parent whose right part begins at chunk `m`, where they stand: the chaining
-    /// values of its left and of its right part, 32 bytes each. There exactly where the piece has such a
-    /// parent; no tree has two of them.
+    /// Returns the 64 bytes of the parent whose right child begins at chunk `m`, borrowed from the slice: the
+    /// chaining values of its left and of its right child. `None` exactly if the slice has no such parent; no
+    /// tree has two of them.
     #[tactic(auto, using(crate::proofs::Parenting::parents_read))]
     pub fn parent(&self, m: u64) -> Option<&'a [u8]>
         ensures value { option_copied result ≡ parent_in (piece_text self.now) (piece_places self.now) m }

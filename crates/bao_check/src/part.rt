@@ -3,7 +3,7 @@ ghost use Rattle.std.specs.Prelude.{◌<◌};
 use crate::asked::Asked;
 use b3tree::Cv;
 
-/// A part of an encoding that is still to come: the wanted nodes of a subtree that has bytes, and what its top asks for.
+/// A subtree whose wanted nodes are still to come, with the value that is required of its top.
 #[derive(Clone, Copy)]
 pub(crate) struct WaitingPart {
     pub(crate) asked: Asked,

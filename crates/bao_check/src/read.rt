@@ -41,17 +41,16 @@ fn read_nodes<R: Read>(
     Ok(())
 }
 
-/// Reads an encoding into `text`, which is empty, and checks it as the slice of `len` bytes from byte `start` on
-/// of the blob with the hash `root` in `mode`, as `check_slice` does.
+/// Reads an encoding from `reader` into `text`, which is empty, and checks it as the slice of `len` bytes from
+/// byte `start` on of the blob with the hash `root` in `mode`, as `check_slice` does.
 ///
-/// A node's bytes are read to the vector's end and verified before the next is read, and no byte after the
-/// encoding is read. It is accepted exactly where what the reader has left begins with an accepted encoding: the
-/// vector then holds that encoding, and the reader has the rest. Otherwise the first fault of what the reader
-/// had is answered, but that what follows an encoding is none, so 503 never comes: 501 `Short`, where a read
-/// gave no byte before a node's end, or 502 `Mismatch`. 504 `Memory` comes where there is no room for a
-/// node, and 505 `Reader` where a read answers a fault, of the kind `Interrupted` too. After each fault
-/// the vector holds what was read, at most up to the end of the node at which the check ended. No room is
-/// taken by the claimed length, but by the node that is read next.
+/// It is accepted exactly if what the reader has left begins with an accepted encoding. `text` then has that
+/// encoding, and the reader the rest: a node is verified before the next is read, and no byte after the
+/// encoding is read. `text` grows with the node that is read next, not with the claimed length.
+///
+/// Refuses with the first fault: 501 `Short` if a read returns no byte before a node's end, 502 `Mismatch`, 504
+/// `Memory`, or 505 `Reader` if a read fails (also with the kind `Interrupted`); never 503. `text` then has
+/// what was read, at most up to the end of the node at which the check ended.
 pub fn read_checked<R: Read>(
     mode: &Mode,
     root: &Hash,
@@ -71,9 +70,9 @@ pub fn read_checked<R: Read>(
     read_nodes(mode, root, start, len, reader, text)
 }
 
-/// Reads and checks as `read_checked` does, and answers the accepted encoding as a piece, which borrows the
-/// vector. Once nothing borrows it the vector holds that encoding, or after a fault what was read. Memory is taken
-/// by the vector's own allocator.
+/// Reads and checks as `read_checked` does, and returns the accepted slice, which borrows `text`.
+///
+/// `text` then has that encoding, or after a refusal what was read. Memory comes from its own allocator.
 pub fn read_piece<'a, R: Read>(
     text: &'a mut Vec<u8>,
     mode: &Mode,
@@ -99,8 +98,8 @@ pub fn read_piece<'a, R: Read>(
     Ok(Checked::new(mode, root, start, len, text.as_slice()))
 }
 
-/// Reads and checks as `read_piece` does. What the vector holds after a fault is a promise of `read_piece`
-/// alone. Memory is taken by the vector's own allocator.
+/// Reads and checks as `read_piece` does, but leaves the content of `text` after a refusal unspecified. Memory
+/// comes from its own allocator.
 pub fn check_stream<'a, R: Read>(
     _alloc: Global,
     mode: &Mode,

@@ -7,14 +7,14 @@ use crate::fault::CheckFault;
 use b3tree::CHUNK_LEN;
 use std::io::Read;
 
-/// How reading into a buffer ended.
+/// How filling a buffer ended.
 #[derive(Clone, Copy)]
 enum Filled {
     /// The buffer is full.
     Whole,
     /// The reader has no more.
     AtEnd,
-    /// A read answered a fault.
+    /// A read failed.
     Failed,
 }
 

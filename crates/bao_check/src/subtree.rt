@@ -12,9 +12,9 @@ use crate::walk::{check_parent, check_subtree};
 use b3tree::{CHUNK_LEN, Hash, Mode, left_len};
 use bao_text::{Choice, LENGTH_LEN, PARENT_LEN, claimed};
 
-/// A part of the check of an encoding: the wanted nodes of a subtree, the place at which they begin in the encoding, and
-/// the value that its top must have. The parts of an encoding can be checked in any order, and at once. None of the
-/// calls takes memory, and no byte is copied.
+/// A subtree of an encoding that is being checked: its wanted nodes, the offset of the first, and the value
+/// required of its top. The subtrees of an encoding can be checked in any order, and at the same time. No call
+/// allocates or copies bytes.
 #[derive(Clone, Copy)]
 pub struct Subtree {
     mode: Mode,
@@ -30,12 +30,12 @@ pub struct Subtree {
 impl Subtree {
     ghost use Rattle.bao_check.specs.Subtree.{BeginsIn, HasGoodParent, HasParent, IsSplit, IsTopOf, PassesTo, StopsWith, WantsChunk};
 
-    /// All nodes of `text`, as the slice of `len` bytes from byte `start` on of the blob with the hash `root` in
-    /// `mode`.
+    /// Returns all nodes of `text`, as the slice of `len` bytes from byte `start` on of the blob with the hash
+    /// `root` in `mode`.
     ///
-    /// The encoding is accepted where this subtree passes up to the encoding's end. Where it passes up to a place before
-    /// that, something is trailing there (503), and else its first fault is the encoding's. Refused: 501 `Short` at 0
-    /// exactly where the encoding ends within its length.
+    /// The encoding is accepted exactly if `check` of this subtree returns the encoding's end. If it returns a
+    /// lower offset, something trails there (503); if it refuses, that is the encoding's first fault. Refuses
+    /// with 501 `Short` at 0 exactly if the encoding ends within its length.
     #[tactic(auto, using(crate::proofs::Laws::apart))]
     pub fn of_slice(
         mode: &Mode,
@@ -80,8 +80,8 @@ impl Subtree {
         })
     }
 
-    /// The number of its first wanted chunk, and the number after the last: one number twice where none is wanted.
-    /// It can be split where there are two or more.
+    /// Returns the index of its first wanted chunk and the index after the last: equal if none is wanted. It
+    /// can be split if there are two or more.
     pub fn chunks(&self) -> (u64, u64)
         ensures order { result.0 ≤ result.1 }
         ensures spans { (i : ℕ) → WantsChunk self.now i ↔ ((result.0 ≤ i) × (i < result.1)) }
@@ -97,10 +97,10 @@ impl Subtree {
         (first, after.div_ceil(chunk_len).max(first))
     }
 
-    /// Verifies the parent at its top, and answers its left and its right part, which are checked apart.
+    /// Verifies the parent at its top, and returns its left and its right child, which are checked separately.
     ///
-    /// Refused exactly where that parent isn't there or isn't good: 501 `Short` where the encoding ends within it, 502
-    /// `Mismatch` where it hasn't the value that is asked for; both are the subtree's first fault.
+    /// Refuses exactly if that parent isn't complete or isn't good: 501 `Short` if the encoding ends within it,
+    /// 502 `Mismatch` if it doesn't have the required value. Either is the subtree's first fault.
     pub fn split(&self, text: &[u8]) -> Result<(Subtree, Subtree), CheckFault>
         requires begins { BeginsIn text.now self.now }
         requires parent { HasParent self.now }
@@ -132,9 +132,10 @@ impl Subtree {
         Ok((left, right))
     }
 
-    /// Checks all of it on one thread, and answers the place of the encoding at which its last node ends.
+    /// Checks all of it on the calling thread, and returns the offset in the encoding at which its last node
+    /// ends.
     ///
-    /// Refused: 501 `Short` and 502 `Mismatch`, its first fault in the order of the encoding.
+    /// Refuses with its first fault in the order of the encoding: 501 `Short` or 502 `Mismatch`.
     pub fn check(&self, text: &[u8]) -> Result<usize, CheckFault>
         requires { BeginsIn text.now self.now }
         ensures { MatchResult result (PassesTo self.now text.now) (StopsWith self.now text.now) }

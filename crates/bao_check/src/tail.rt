@@ -11,8 +11,8 @@ use crate::checked::Checked;
 use b3tree::{Hash, Mode};
 use bao_text::chunk_count;
 
-/// A piece that holds the last chunk of the length that it claims, so that the length is certified. It
-/// keeps the piece's encoding by reference.
+/// An accepted slice that has the last chunk of its claimed length, so that the length is certified. It borrows
+/// the slice's encoding.
 #[derive(Clone, Copy, Debug)]
 pub struct Tail<'a> {
     pub(crate) piece: Checked<'a>,
@@ -22,8 +22,8 @@ pub struct Tail<'a> {
 impl<'a> Tail<'a> {
     ghost use Rattle.bao_check.specs.Tail.{tail_piece};
 
-    /// What a tail carries: its piece's encoding is of bytes, accepted under its root in its mode, and has the last chunk
-    /// of the length that it claims. A law, for proofs over tails. Nothing runs.
+    /// Lemma: the encoding consists of bytes, is accepted under the slice's root in its mode, and has the last
+    /// chunk of its claimed length. No effect at run time.
     pub fn is_last(&self)
         ensures bytes { AreBytes (piece_text (tail_piece self.now)) }
         ensures accepted { IsAccepted (piece_mode (tail_piece self.now)) (piece_root (tail_piece self.now)) (piece_text (tail_piece self.now)) (piece_nodes (tail_piece self.now)) }
@@ -32,26 +32,25 @@ impl<'a> Tail<'a> {
         self.piece.is_accepted();
     }
 
-    /// The root under which the piece was accepted.
+    /// Returns the root under which the slice was accepted.
     pub fn root(&self) -> Hash
         ensures { result.0 ≡ piece_root (tail_piece self.now) }
     {
         self.piece.root()
     }
 
-    /// The mode in which it was.
+    /// Returns the mode in which it was accepted.
     pub fn mode(&self) -> Mode
         ensures { result ≡ piece_mode (tail_piece self.now) }
     {
         self.piece.mode()
     }
 
-    /// The length of the blob in bytes: 1,024 times the last chunk's number, and its size. The root, the piece's
-    /// own parents over that chunk and its bytes are a certificate that is last: the way goes to the right at each
-    /// parent.
+    /// Returns the blob's length in bytes: 1,024 times the index of the last chunk, and that chunk's length.
     ///
-    /// For each blob with the root it is the blob's length, or a collision is
-    /// exhibited, one input of the blob's and one of the encoding's.
+    /// The root, the slice's parents above that chunk and its bytes are a certificate of the last chunk: the
+    /// path to it goes right at each parent. For every blob with the root it is the blob's length; or the
+    /// contract exhibits a collision, one input from the blob and one from the encoding.
     pub fn length(&self) -> u64
         ensures value { result ≡ piece_claimed (tail_piece self.now) }
         ensures ends { (bytes : List ℕ) → chunk_in (piece_text (tail_piece self.now)) (piece_places (tail_piece self.now)) (chunk_count result - 1) ≡ Some bytes

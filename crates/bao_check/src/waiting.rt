@@ -16,7 +16,7 @@ use arrayvec::ArrayVec;
 use b3tree::{CHUNK_LEN, Cv, Mode, left_len, parent_input, top_input};
 use bao_text::{Choice, PARENT_LEN, WAITING_LEN};
 
-/// The parts of an encoding that are still to come. The last of them comes first.
+/// The subtrees of an encoding that are still to come, the next one last.
 pub(crate) type Waiting = ArrayVec<WaitingPart, WAITING_LEN>;
 
 // The part that comes first.

@@ -1,100 +1,80 @@
--- With fewer reasons fewer faults are due.
-use Rattle.std.proofs.Common.{◌≡◌, IfErr, IsErrAnd, Result, Ok, Err, sym, subst}
-use Rattle.bao_command.specs.declared.fault.Fault.{Fault}
-use Rattle.bao_command.specs.declared.fault.Fault.TheVariants.{Word, Root, Key, KeyAndContext, KeyFile, KeyFileAndOthers, OutputRange, TooManyFiles, OutIsOutput, OutLeadsToOutput, LongAndOthers, ListIsOut, ListIsRead, ListLeadsToOther, File, Decode, Gather, Replay}
-use Rattle.bao_command.specs.Tasks.{IsDue, IsOfFile, Reasons, mode_reasons_of, reasons_of, task_reasons_of}
+-- Why a fault is due.
+use Rattle.std.proofs.Common.{◌≡◌, ◌⊎◌, ◌≤◌, ◌<◌, ◌+◌, ◌-◌, ◌^◌, ◌∙◌, ℕ, List, IfErr, IsErrAnd, Result, Ok, Err, inl, inr, refl, sym, subst}
+use Rattle.bao_decode.specs.declared.decode_fault.DecodeFault.{DecodeFault}
+use Rattle.bao_files.specs.Disks.{FileState}
+use Rattle.bao_files.specs.Printed.{IsDigits}
+use Rattle.bao_tasks.specs.declared.gathered_fault.GatheredFault.{GatheredFault}
+use Rattle.bao_tasks.specs.declared.rerun_fault.RerunFault.{RerunFault}
 use Rattle.bao_request.specs.declared.tasks.Request.{Request}
+use Rattle.bao_request.specs.declared.tasks.Task.{Task}
+use Rattle.bao_command.specs.declared.fault.Fault.{Fault}
+use Rattle.bao_command.specs.declared.fault.Fault.TheVariants.{Root, OutputRange, TooManyFiles, Decode, Gather, Replay}
+use Rattle.bao_command.specs.Status.{gathered_status_of, rerun_status_of}
+use Rattle.bao_command.specs.Tasks.{Decodes, Gathers, HasBadScript, HasManyFiles, HasNoCapacity, HasRoot, IsDue, IsOfFile, IsPastOutput, Replays}
 
--- each reason of the one is one of the other
-record IsWithin (less more : Reasons) : Type 0 where
-  root : less.root → more.root
-  past : less.past → more.past
-  many : less.many → more.many
-  out : less.out → more.out
-  leads : less.leads → more.leads
-  mixed : less.mixed → more.mixed
-  list : less.list → more.list
-  read : less.read → more.read
-  listed : less.listed → more.listed
-  keys : less.keys → more.keys
-  key : less.key → more.key
-  both : less.both → more.both
-  key_file : less.key_file → more.key_file
-  decodes : less.decodes → more.decodes
-  gathers : less.gathers → more.gathers
-  replays : less.replays → more.replays
+-- one of a file is due whatever is asked for
+file_is_due : (at : List ℕ → FileState) (request : Request) (fault : Fault) → IsOfFile fault → IsDue at request fault
+file_is_due at request fault of = subst (IsDue at request) (sym of.1) tt
 
-due_within : (less more : Reasons) (fault : Fault) → IsWithin less more → IsDue less fault → IsDue more fault
-due_within less more Word within due = due
-due_within less more Root within due = within.root due
-due_within less more Key within due = within.key due
-due_within less more KeyAndContext within due = within.both due
-due_within less more KeyFile within due = within.key_file due
-due_within less more KeyFileAndOthers within due = within.keys due
-due_within less more OutputRange within due = within.past due
-due_within less more TooManyFiles within due = within.many due
-due_within less more OutIsOutput within due = within.out due
-due_within less more OutLeadsToOutput within due = within.leads due
-due_within less more LongAndOthers within due = within.mixed due
-due_within less more ListIsOut within due = within.list due
-due_within less more ListIsRead within due = within.read due
-due_within less more ListLeadsToOther within due = within.listed due
-due_within less more (File fault) within due = tt
-due_within less more (Decode fault) within due = within.decodes due
-due_within less more (Gather fault) within due = within.gathers due
-due_within less more (Replay fault) within due = within.replays due
+-- it is due for each request of the task
+abbrev pub IsDueFor : (List ℕ → FileState) → Task → Fault → Type 0
+IsDueFor at task fault = (request : Request) → request.task ≡ task → IsDue at request fault
 
--- a fault of a file is due whatever is asked for
-pub file_due : (reasons : Reasons) (result : Result Unit Fault) → IfErr result IsOfFile → IfErr result (IsDue reasons)
-file_due reasons (Ok done) is = tt
-file_due reasons (Err fault) is = subst (IsDue reasons) (sym is.1) tt
+pub file_due : (at : List ℕ → FileState) (task : Task) (result : Result Unit Fault) → IfErr result IsOfFile → IfErr result (IsDueFor at task)
+file_due at task (Ok done) of = tt
+file_due at task (Err fault) of = λ request same. file_is_due at request fault of
 
-task_within : (request : Request) → IsWithin (task_reasons_of request.task) (reasons_of request)
-task_within request = record {
-  root = λ is. is;
-  past = λ is. is;
-  many = λ is. is;
-  out = absurd;
-  leads = absurd;
-  mixed = absurd;
-  list = absurd;
-  read = absurd;
-  listed = absurd;
-  keys = absurd;
-  key = absurd;
-  both = absurd;
-  key_file = absurd;
-  decodes = λ is. is;
-  gathers = λ is. is;
-  replays = λ is. is;
-}
+pub hash_due : (at : List ℕ → FileState) (task : Task) (Past : Type 0) (result : Result Unit Fault) → (Past → IsPastOutput task)
+    → IfErr result (λ fault. IsOfFile fault ⊎ ((fault ≡ OutputRange) × Past)) → IfErr result (IsDueFor at task)
+hash_due at task Past (Ok done) past due = tt
+hash_due at task Past (Err fault) past (inl of) = λ request same. file_is_due at request fault of
+hash_due at task Past (Err fault) past (inr due) = λ request same. subst (IsDue at request) (sym due.0) (subst IsPastOutput (sym same) (past due.1))
 
--- as is what is due for the task
-pub task_due : (request : Request) (result : Result Unit Fault) → IfErr result (IsDue (task_reasons_of request.task)) → IfErr result (IsDue (reasons_of request))
-task_due request (Ok done) due = tt
-task_due request (Err fault) due = due_within _ _ fault (task_within request) due
+pub decode_due : (at : List ℕ → FileState) (task : Task) (NoRoot : Type 0) (result : Result Unit Fault) → (NoRoot → ¬ HasRoot task) → Decodes task
+    → IfErr result (λ fault. IsOfFile fault ⊎ ((fault ≡ Root) × NoRoot) ⊎ ((cause : DecodeFault) × (fault ≡ Decode cause))) → IfErr result (IsDueFor at task)
+decode_due at task NoRoot (Ok done) root decodes due = tt
+decode_due at task NoRoot (Err fault) root decodes (inl of) = λ request same. file_is_due at request fault of
+decode_due at task NoRoot (Err fault) root decodes (inr (inl due)) = λ request same.
+    subst (IsDue at request) (sym due.0) (subst (λ (t : Task). ¬ HasRoot t) (sym same) (root due.1))
+decode_due at task NoRoot (Err fault) root decodes (inr (inr due)) = λ request same. subst (IsDue at request) (sym due.1) (subst Decodes (sym same) decodes)
 
-mode_within : (request : Request) → IsWithin (mode_reasons_of request) (reasons_of request)
-mode_within request = record {
-  root = absurd;
-  past = absurd;
-  many = absurd;
-  out = absurd;
-  leads = absurd;
-  mixed = absurd;
-  list = absurd;
-  read = absurd;
-  listed = absurd;
-  keys = λ is. is;
-  key = λ is. is;
-  both = λ is. is;
-  key_file = λ is. is;
-  decodes = absurd;
-  gathers = absurd;
-  replays = absurd;
-}
+pub gather_due : (at : List ℕ → FileState) (task : Task) (NoRoot Many Bad : Type 0) (result : Result Unit Fault) → (NoRoot → ¬ HasRoot task) → (Many → HasManyFiles task) → Gathers task
+    → (Bad → HasNoCapacity task)
+    → IfErr result (λ fault. IsOfFile fault ⊎ ((fault ≡ Root) × NoRoot) ⊎ ((fault ≡ TooManyFiles) × Many)
+    ⊎ ((cause : GatheredFault) × (fault ≡ Gather cause) × (gathered_status_of cause ≡ 2 → Bad)))
+    → IfErr result (IsDueFor at task)
+gather_due at task NoRoot Many Bad (Ok done) root many gathers bad due = tt
+gather_due at task NoRoot Many Bad (Err fault) root many gathers bad (inl of) = λ request same. file_is_due at request fault of
+gather_due at task NoRoot Many Bad (Err fault) root many gathers bad (inr (inl due)) = λ request same.
+    subst (IsDue at request) (sym due.0) (subst (λ (t : Task). ¬ HasRoot t) (sym same) (root due.1))
+gather_due at task NoRoot Many Bad (Err fault) root many gathers bad (inr (inr (inl due))) = λ request same.
+    subst (IsDue at request) (sym due.0) (subst HasManyFiles (sym same) (many due.1))
+gather_due at task NoRoot Many Bad (Err fault) root many gathers bad (inr (inr (inr due))) = λ request same.
+    subst (IsDue at request) (sym due.1)
+    (subst (λ (t : Task). Gathers t × (gathered_status_of due.0 ≡ 2 → HasNoCapacity t)) (sym same) (gathers, λ two. bad (due.2 two)))
+
+pub replay_due : (at : List ℕ → FileState) (task : Task) (NoRoot Many Bad : Type 0) (result : Result Unit Fault) → (NoRoot → ¬ HasRoot task) → (Many → HasManyFiles task) → Replays task
+    → (Bad → HasNoCapacity task ⊎ HasBadScript at task)
+    → IfErr result (λ fault. IsOfFile fault ⊎ ((fault ≡ Root) × NoRoot) ⊎ ((fault ≡ TooManyFiles) × Many)
+    ⊎ ((cause : RerunFault) × (fault ≡ Replay cause) × (rerun_status_of cause ≡ 2 → Bad)))
+    → IfErr result (IsDueFor at task)
+replay_due at task NoRoot Many Bad (Ok done) root many replays bad due = tt
+replay_due at task NoRoot Many Bad (Err fault) root many replays bad (inl of) = λ request same. file_is_due at request fault of
+replay_due at task NoRoot Many Bad (Err fault) root many replays bad (inr (inl due)) = λ request same.
+    subst (IsDue at request) (sym due.0) (subst (λ (t : Task). ¬ HasRoot t) (sym same) (root due.1))
+replay_due at task NoRoot Many Bad (Err fault) root many replays bad (inr (inr (inl due))) = λ request same.
+    subst (IsDue at request) (sym due.0) (subst HasManyFiles (sym same) (many due.1))
+replay_due at task NoRoot Many Bad (Err fault) root many replays bad (inr (inr (inr due))) = λ request same.
+    subst (IsDue at request) (sym due.1)
+    (subst (λ (t : Task). Replays t × (rerun_status_of due.0 ≡ 2 → HasNoCapacity t ⊎ HasBadScript at t)) (sym same) (replays, λ two. bad (due.2 two)))
+
+-- what is due for the task is so for the request
+pub task_due : (at : List ℕ → FileState) (request : Request) (result : Result Unit Fault) → IfErr result (IsDueFor at request.task) → IfErr result (IsDue at request)
+task_due at request (Ok done) due = tt
+task_due at request (Err fault) due = due request refl
 
 -- and for the mode
-pub mode_due : (request : Request) (result : Result Unit Fault) (fault : Fault) → IsErrAnd result (λ e. e ≡ fault) → IsDue (mode_reasons_of request) fault → IfErr result (IsDue (reasons_of request))
-mode_due request (Ok done) fault is due = tt
-mode_due request (Err e) fault is due = subst (IsDue (reasons_of request)) (sym is) (due_within _ _ fault (mode_within request) due)
+pub mode_due : (at : List ℕ → FileState) (request : Request) (result : Result Unit Fault) (fault : Fault) → IsErrAnd result (λ e. e ≡ fault) → IsDue at request fault
+    → IfErr result (IsDue at request)
+mode_due at request (Ok done) fault is due = tt
+mode_due at request (Err e) fault is due = subst (IsDue at request) (sym is) due

@@ -1,7 +1,7 @@
 -- What was printed, as the program tells it, and what its faults leave.
-use Rattle.std.proofs.Common.{◌≡◌, ◌≢◌, ℕ, List, Option, Result, Ok, Err, IfErr, IsErrAnd, OnOk, inr, arith, sym, ap, ◌∙◌}
+use Rattle.std.proofs.Common.{◌≡◌, ◌≢◌, ◌⊎◌, ℕ, List, Option, Result, Ok, Err, IfErr, IsErrAnd, OnOk, inl, inr, arith, sym, ap, ◌∙◌}
 use Rattle.std.specs.Io.KnownBytes.{Appends}
-use Rattle.bao_files.specs.Disks.{FileState}
+use Rattle.bao_files.specs.Disks.{FileState, KeepsFiles}
 use Rattle.bao_files.specs.Printed as file
 use Rattle.bao_files.specs.declared.fault.FileFault.{FileFault}
 use Rattle.bao_files.specs.declared.fault.FileFault.TheVariants as files
@@ -57,6 +57,33 @@ of_file_refuses_none fault of is = file_refuses_none of.0 (ap status_of (sym of.
 pub no_refusal : (P : Type 0) (result : Result Unit Fault) → IfErr result IsOfFile → IfErr result (λ fault. status_of fault ≡ 1 → P)
 no_refusal P (Ok done) of = tt
 no_refusal P (Err fault) of = λ is. absurd (of_file_refuses_none fault of is)
+
+-- nor one of the arguments
+pub file_is_no_usage : (fault : FileFault) → file_status_of fault ≢ 2
+file_is_no_usage (files.Read path) is = let bad : 3 ≡ 2 = is in omega arith
+file_is_no_usage (files.Write path) is = let bad : 3 ≡ 2 = is in omega arith
+file_is_no_usage files.Output is = let bad : 3 ≡ 2 = is in omega arith
+file_is_no_usage files.Encoding is = let bad : 4 ≡ 2 = is in omega arith
+file_is_no_usage files.Memory is = let bad : 4 ≡ 2 = is in omega arith
+
+pub of_file_is_no_usage : (fault : Fault) → IsOfFile fault → status_of fault ≢ 2
+of_file_is_no_usage fault of is = file_is_no_usage of.0 (ap status_of (sym of.1) ∙ is)
+
+pub no_usage : (P : Type 0) (result : Result Unit Fault) → IfErr result IsOfFile → IfErr result (λ fault. status_of fault ≡ 2 → P)
+no_usage P (Ok done) of = tt
+no_usage P (Err fault) of = λ is. absurd (of_file_is_no_usage fault of is)
+
+-- so that one of the arguments came before anything was done
+pub usage_keeps : (at after : List ℕ → FileState) (Did : List ℕ → Type 0) (result : Result Unit Fault) → IfErr result (Leaves at after Did)
+    → IfErr result (λ fault. status_of fault ≡ 2 → KeepsFiles at after)
+usage_keeps at after Did (Ok done) leaves = tt
+usage_keeps at after Did (Err fault) (inl kept) = λ is. kept
+usage_keeps at after Did (Err fault) (inr did) = λ is. absurd (of_file_is_no_usage fault did.0 is)
+
+-- it is one of a file, whatever else it may be
+pub of_file_or : (P : Fault → Type 0) (result : Result Unit Fault) → IfErr result IsOfFile → IfErr result (λ fault. IsOfFile fault ⊎ P fault)
+of_file_or P (Ok done) of = tt
+of_file_or P (Err fault) of = inl of
 
 -- nor is one with another status
 pub other_status : (P : Type 0) (result : Result Unit Fault) (fault : Fault) → IsErrAnd result (λ e. e ≡ fault) → status_of fault ≢ 1 → IfErr result (λ e. status_of e ≡ 1 → P)

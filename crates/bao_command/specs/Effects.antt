@@ -13,13 +13,8 @@ use Rattle.bao_request.specs.declared.tasks.Task.TheVariants.{Hash, Encode, CutS
 
 -- the path of the task's list, where it has one
 abbrev pub list_of : Task → Option (Bor (List ℕ))
-list_of (Hash at length file) = None
-list_of (Encode encoding file out) = None
-list_of (CutSlice root start len outboard verbose file out) = None
-list_of (Decode root part verbose file out) = None
-list_of (DecodeCopy root outboard verbose copy out) = None
 list_of (Gather root workers capacity long outboard salvage encode verbose missing files out) = missing
-list_of (Replay root capacity script files) = None
+list_of task = None
 
 -- a list of these lines is at its path, where one is named, and nothing else has changed that was known
 abbrev pub Lists : (List ℕ → FileState) → (List ℕ → FileState) → Option (Bor (List ℕ)) → List ℕ → Type 0

@@ -3,7 +3,7 @@ use Rattle.std.specs.Prelude.{◌≡◌, ◌⊎◌, ℕ, List, Option, Some, Non
 use Rattle.hex.specs.Hex.{decode_of}
 use Rattle.std.specs.Borrow.{Bor}
 use Rattle.std.specs.Option.{option_copied}
-use Rattle.bao_files.specs.Disks.{AreOf, FileState}
+use Rattle.bao_files.specs.Disks.{Absent, AreOf, FileState, Stored, Unknown}
 use Rattle.bao_files.specs.Keys.{GivesKey}
 use Rattle.bao_files.specs.Printed.{IsDigits}
 use Rattle.bao_files.specs.declared.fault.FileFault.TheVariants as file
@@ -36,6 +36,12 @@ GivesFileMode path bytes answer =
 -- the file's bytes, as far as they are known, give the key of this mode
 abbrev pub IsKeyedIn : FileState → Mode → Type 0
 IsKeyedIn state mode = (bytes : List ℕ) × AreOf state bytes × IsKeyedBy bytes mode
+
+-- what is at a path, as far as that is known, is a file that gives no key
+abbrev pub GivesNoKey : FileState → Type 0
+GivesNoKey Unknown = Unit {0}
+GivesNoKey Absent = ⊥
+GivesNoKey (Stored bytes) = GivesKey bytes None
 
 -- the mode of a key's text, a path and a context's text, each there or not, where this is what is known of each path
 abbrev pub AsksForMode : (List ℕ → FileState) → Option (List ℕ) → Option (List ℕ) → Option (List ℕ) → Mode → Type 0

@@ -11,7 +11,7 @@ use Rattle.bao_request.specs.CommandLine.{AsksFor, AsksForHelp, program_app}
 use Rattle.bao_command.specs.declared.fault.Fault.{Fault}
 use Rattle.bao_command.specs.Status.{status_of}
 use Rattle.bao_command.specs.Refused.{IsBlobFor, IsRefusedFor}
-use Rattle.bao_command.specs.Tasks.{Decodes, Gathers, IsDue, LeavesFilesOf, PrintsBeginning, PrintsLine, Replays, reasons_of}
+use Rattle.bao_command.specs.Tasks.{Decodes, Gathers, IsDue, LeavesFilesOf, PrintsBeginning, PrintsLine, Replays}
 
 -- clap finds a fault with the arguments, and it isn't that they ask for help or the version
 abbrev pub AreRefused : List Text → Type 0
@@ -40,13 +40,14 @@ LeavesAt words at after status =
     KeepsFiles at after
     ⊎ ((request : Request) × AsksFor words request × ((fault : Fault) × (status_of fault ≡ status) × LeavesFilesOf at after request fault))
 
--- there is a fault with this status, and a reason for it in the request
-abbrev pub HasReason : Request → ℕ → Type 0
-HasReason request status = (fault : Fault) × (status_of fault ≡ status) × IsDue (reasons_of request) fault
+-- there is a fault with this status, and a reason for it in the request, as far as the files are known
+abbrev pub HasReason : (List ℕ → FileState) → Request → ℕ → Type 0
+HasReason at request status = (fault : Fault) × (status_of fault ≡ status) × IsDue at request fault
 
 -- At status 2: clap finds a fault with the arguments, or they make no request, or there is a reason to refuse the one that they make.
-abbrev pub IsUsage : List Text → Type 0
-IsUsage words = (fault_of program_app words ≢ []) ⊎ ((request : Request) → ¬ AsksFor words request) ⊎ ((request : Request) × AsksFor words request × HasReason request 2)
+abbrev pub IsUsage : List Text → (List ℕ → FileState) → Type 0
+IsUsage words at =
+    (fault_of program_app words ≢ []) ⊎ ((request : Request) → ¬ AsksFor words request) ⊎ ((request : Request) × AsksFor words request × HasReason at request 2)
 
 -- At status 1: they ask for a task that has a text or a blob to refuse, in the mode of the request, as far as the files are known.
 abbrev pub IsRefusable : List Text → Type 0 → (List ℕ → FileState) → Type 0
@@ -63,5 +64,5 @@ pub record Ends (words : List Text) (old new : Option (List ℕ)) (status : ℕ)
   pub file_fault : status ≡ 3 → Begun words (λ _. Unknown) (λ _. Unknown) old new
   pub fault : status ≢ 0 → status ≢ 3 → Keeps old new
   pub refused : AreRefused words → (status ≡ 2) ⊎ (status ≡ 4)
-  pub usage : status ≡ 2 → IsUsage words
+  pub usage : status ≡ 2 → IsUsage words (λ _. Unknown)
   pub refusal : status ≡ 1 → MayRefuse words

@@ -47,7 +47,7 @@ abbrev pub IsRefusedText : (List ℕ → FileState) → Mode → Part → List �
 IsRefusedText at mode part file out key =
     (at file ≢ Absent) × (IsKnown (at out) → (text : List ℕ) → at file ≡ Stored text → HasFault (IsTextFault (task_of_part mode key part) text))
 
--- so it is of the slice that is cut out of the file, or of the copy in it beside the outboard encoding that is named, where both are whole
+-- so it is of the slice that is cut out of the file, or of the copy in it beside the outboard encoding that is named, where both are whole; that is there, too
 abbrev pub IsRefusedCut : (List ℕ → FileState) → Mode → ℕ → ℕ → Option (Bor (List ℕ)) → List ℕ → List ℕ → List ℕ → Type 0
 IsRefusedCut at mode start len None file out key =
     (at file ≢ Absent) × (IsKnown (at out) → (text : List ℕ) → at file ≡ Stored text → length text < 2 ^ 63
@@ -55,13 +55,15 @@ IsRefusedCut at mode start len None file out key =
 IsRefusedCut at mode start len (Some outboard) file out key =
     (at outboard.now ≢ Absent) × (IsKnown (at out) → (outline bytes : List ℕ) → at outboard.now ≡ Stored outline → at file ≡ Stored bytes → are_whole (claimed outline) outline bytes ≡ true
     → HasFault (IsTextFault (task_of_part mode key (Slice start len)) (cut_text (woven_text (claimed outline) outline bytes) start len)))
+    × (at file ≢ Absent)
 
--- The one file is there, and its bytes aren't accepted as an outboard encoding, or the other's aren't beside it.
+-- The one file is there, and its bytes aren't accepted as an outboard encoding, or the other's aren't beside it; and where that isn't there, the one's aren't.
 abbrev pub IsRefusedCopy : (List ℕ → FileState) → Mode → List ℕ → List ℕ → List ℕ → List ℕ → Type 0
 IsRefusedCopy at mode outboard copy out key =
     (at outboard ≢ Absent) × (IsKnown (at out) → (outline bytes : List ℕ) → at outboard ≡ Stored outline → at copy ≡ Stored bytes
     → HasFault (λ fault. IsFirstFault mode key outline (outboard_nodes outline) fault
     ⊎ (IsAccepted mode key outline (outboard_nodes outline) × IsBareFault mode key outline 0 (chunk_count (claimed outline)) bytes fault)))
+    × (at copy ≡ Absent → (outline : List ℕ) → at outboard ≡ Stored outline → HasFault (IsFirstFault mode key outline (outboard_nodes outline)))
 
 -- it holds of the root that they give
 abbrev pub OfRoot : List ℕ → (Root32 → Type 0) → Type 0

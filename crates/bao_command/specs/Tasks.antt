@@ -1,5 +1,5 @@
 -- what a task prints, and what it does to the files
-use Rattle.std.specs.Prelude.{◌≡◌, ◌≢◌, ◌⊎◌, ◌<◌, ◌≤◌, ℕ, ◌+◌, ◌-◌, ◌^◌, true, List, length, Option, Some, None, Result, Ok, Err, IsSome, codes, HoldsAt}
+use Rattle.std.specs.Prelude.{◌≡◌, ◌≢◌, ◌⊎◌, ◌<◌, ◌≤◌, ℕ, ◌+◌, ◌-◌, ◌^◌, true, List, length, Option, Some, None, Result, Ok, Err, IsSome, IsSomeAnd, codes, HoldsAt}
 use Rattle.std.specs.Borrow.{Bor}
 use Rattle.std.specs.Io.KnownBytes.{Appends, Keeps}
 use Rattle.b3tree.specs.declared.mode.Mode.{Mode}
@@ -7,25 +7,27 @@ use Rattle.b3tree.specs.declared.values.Hash.{Hash as Root32}
 use Rattle.b3tree.specs.Hashing.{hash, stream}
 use Rattle.b3tree.specs.Valid.{AreBytes}
 use Rattle.bao_command.specs.declared.fault.Fault.{Fault}
-use Rattle.bao_command.specs.declared.fault.Fault.TheVariants.{Word, Root, Key, KeyAndContext, KeyFile, KeyFileAndOthers, OutputRange, TooManyFiles, OutIsOutput, OutLeadsToOutput, LongAndOthers, ListIsOut, ListIsRead, ListLeadsToOther, File, Decode as Undecoded, Gather as Ungathered, Replay as Unreplayed}
+use Rattle.bao_command.specs.declared.fault.Fault.TheVariants.{Word, Root, Key, KeyAndContext, KeyFile, KeyFileAndOthers, OutputRange, TooManyFiles, OutIsOutput, OutLeadsToOutput, OutIsRead, LongAndOthers, ListIsOut, ListIsRead, ListLeadsToOther, File, Decode as Undecoded, Gather as Ungathered, Replay as Unreplayed}
 use Rattle.bao_files.specs.declared.fault.FileFault.{FileFault}
 use Rattle.bao_files.specs.declared.fault.FileFault.TheVariants as file
 use Rattle.bao_text.specs.declared.kinds.Part.{Part}
 use Rattle.bao_text.specs.declared.kinds.Part.TheVariants.{Slice}
 use Rattle.bao_files.specs.Printed.{AppendsBeginning, IsDigits, digits_line, ok_line}
-use Rattle.bao_files.specs.Disks.{AreOf, FileState, KeepsFiles}
+use Rattle.bao_files.specs.Disks.{AreOf, FileState, IsKnown, KeepsFiles}
 use Rattle.bao_decode.specs.Copies.{IsCopyBeside}
 use Rattle.bao_decode.specs.Cutting.{IsCutOf}
 use Rattle.bao_decode.specs.Ranges.{IsVerifiedText, written_count}
 use Rattle.bao_decode.specs.Weaving.{IsCutBeside}
 use Rattle.bao_tasks.specs.Gathered.{Fits, HasOutlineIn}
 use Rattle.bao_tasks.specs.Replayed.{IsRun, OfFiles}
+use Rattle.bao_script.specs.Scripts.{IsFirstRefused}
 use Rattle.bao_request.specs.declared.tasks.Request.{Request}
 use Rattle.bao_request.specs.declared.tasks.Task.{Task}
 use Rattle.bao_request.specs.declared.tasks.Task.TheVariants.{Hash, Encode, CutSlice, Decode, DecodeCopy, Gather, Replay}
 use Rattle.hex.specs.Hex.{decode_of}
 use Rattle.bao_command.specs.Effects.{KeepsButList, Writes, list_of}
-use Rattle.bao_command.specs.ModeWords.{HasBadKey, HasKeyAndContext, HasMode, MixesKeys}
+use Rattle.bao_command.specs.ModeWords.{GivesNoKey, HasBadKey, HasKeyAndContext, HasMode, MixesKeys}
+use Rattle.bao_command.specs.Status.{gathered_status_of, rerun_status_of, status_of}
 
 -- that of a part of a text
 abbrev pub part_line : Part → List ℕ → List ℕ
@@ -44,13 +46,12 @@ line_of mode (Replay root capacity script files) bytes = bytes
 
 -- the task's root, where it has one, is 64 hexadecimal digits
 abbrev pub HasRoot : Task → Type 0
-HasRoot (Hash at length file) = Unit {0}
-HasRoot (Encode encoding file out) = Unit {0}
 HasRoot (CutSlice root start len outboard verbose file out) = IsDigits root.now
 HasRoot (Decode root part verbose file out) = IsDigits root.now
 HasRoot (DecodeCopy root outboard verbose copy out) = IsDigits root.now
 HasRoot (Gather root workers capacity long outboard salvage encode verbose missing files out) = IsDigits root.now
 HasRoot (Replay root capacity script files) = IsDigits root.now
+HasRoot task = Unit {0}
 
 -- the path isn't one of the four names of standard output
 abbrev pub IsNoOutput : List ℕ → Type 0
@@ -62,13 +63,8 @@ IsListAt out None = ⊥
 IsListAt out (Some list) = (list.now ≡ out) ⊎ (¬ IsNoOutput list.now)
 
 abbrev pub ListClashes : Task → Type 0
-ListClashes (Hash at length file) = ⊥
-ListClashes (Encode encoding file out) = ⊥
-ListClashes (CutSlice root start len outboard verbose file out) = ⊥
-ListClashes (Decode root part verbose file out) = ⊥
-ListClashes (DecodeCopy root outboard verbose copy out) = ⊥
 ListClashes (Gather root workers capacity long outboard salvage encode verbose missing files out) = IsListAt out.now missing
-ListClashes (Replay root capacity script files) = ⊥
+ListClashes task = ⊥
 
 -- a file is named, by this path
 abbrev pub IsNamed : List ℕ → Option (Bor (List ℕ)) → Type 0
@@ -85,197 +81,142 @@ IsListRead key_file outboard files None = ⊥
 IsListRead key_file outboard files (Some list) = IsPathAmong list.now files ⊎ IsNamed list.now outboard ⊎ IsNamed list.now key_file
 
 abbrev pub ReadsListOf : Option (Bor (List ℕ)) → Task → Type 0
-ReadsListOf key_file (Hash at length file) = ⊥
-ReadsListOf key_file (Encode encoding file out) = ⊥
-ReadsListOf key_file (CutSlice root start len outboard verbose file out) = ⊥
-ReadsListOf key_file (Decode root part verbose file out) = ⊥
-ReadsListOf key_file (DecodeCopy root outboard verbose copy out) = ⊥
 ReadsListOf key_file (Gather root workers capacity long outboard salvage encode verbose missing files out) = IsListRead key_file outboard files.items missing
-ReadsListOf key_file (Replay root capacity script files) = ⊥
+ReadsListOf key_file task = ⊥
 
 abbrev pub ReadsList : Request → Type 0
 ReadsList request = ReadsListOf request.key_file request.task
 
+-- one of the files that are named is such a file: the one with the key, the one with the outboard encoding, or the third
+abbrev pub ReadsOne : (List ℕ → Type 0) → Option (Bor (List ℕ)) → Option (Bor (List ℕ)) → Option (Bor (List ℕ)) → Type 0
+ReadsOne such key_file outboard file =
+    IsSomeAnd key_file (λ path. such path.now) ⊎ IsSomeAnd outboard (λ path. such path.now) ⊎ IsSomeAnd file (λ path. such path.now)
+
+-- OUT is so related to a file that the task reads, but for the files that are gathered: one of them may be repaired.
+abbrev pub ReadsOutAs : (List ℕ → List ℕ → Type 0) → Option (Bor (List ℕ)) → Task → Type 0
+ReadsOutAs related key_file (Encode encoding file out) = ReadsOne (related out.now) key_file None (Some file)
+ReadsOutAs related key_file (CutSlice root start len outboard verbose file out) = ReadsOne (related out.now) key_file outboard (Some file)
+ReadsOutAs related key_file (Decode root part verbose file out) = ReadsOne (related out.now) key_file None (Some file)
+ReadsOutAs related key_file (DecodeCopy root outboard verbose copy out) = ReadsOne (related out.now) key_file (Some outboard) (Some copy)
+ReadsOutAs related key_file (Gather root workers capacity long outboard salvage encode verbose missing files out) = ReadsOne (related out.now) key_file outboard None
+ReadsOutAs related key_file task = ⊥
+
+-- OUT has the name of such a file
+abbrev pub ReadsOut : Request → Type 0
+ReadsOut request = ReadsOutAs (λ ours theirs. ours ≡ theirs) request.key_file request.task
+
 -- what the task writes to a file doesn't go where its line is printed
 abbrev pub WritesApart : Task → Type 0
-WritesApart (Hash at length file) = Unit {0}
 WritesApart (Encode encoding file out) = IsNoOutput out.now
 WritesApart (CutSlice root start len outboard verbose file out) = IsNoOutput out.now
 WritesApart (Decode root part verbose file out) = IsNoOutput out.now
 WritesApart (DecodeCopy root outboard verbose copy out) = IsNoOutput out.now
 WritesApart (Gather root workers capacity long outboard salvage encode verbose missing files out) = IsNoOutput out.now
-WritesApart (Replay root capacity script files) = Unit {0}
+WritesApart task = Unit {0}
 
--- nor to the file that the list goes to, which isn't where the line is printed either, and isn't read
+-- nor to the file that the list goes to, which isn't where the line is printed either, and isn't read; nor to one that is read
 abbrev pub GoesApart : Request → Type 0
-GoesApart request = WritesApart request.task × (¬ ListClashes request.task) × (¬ ReadsList request)
+GoesApart request = WritesApart request.task × (¬ ListClashes request.task) × (¬ ReadsList request) × (¬ ReadsOut request)
 
 -- the output that the task asks for ends after 2^64 - 1
 abbrev pub IsPastOutput : Task → Type 0
 IsPastOutput (Hash at length file) = ¬ (at + length ≤ 2 ^ 64 - 1)
-IsPastOutput (Encode encoding file out) = ⊥
-IsPastOutput (CutSlice root start len outboard verbose file out) = ⊥
-IsPastOutput (Decode root part verbose file out) = ⊥
-IsPastOutput (DecodeCopy root outboard verbose copy out) = ⊥
-IsPastOutput (Gather root workers capacity long outboard salvage encode verbose missing files out) = ⊥
-IsPastOutput (Replay root capacity script files) = ⊥
+IsPastOutput task = ⊥
 
 -- A blob of any length is asked for, and a capacity that isn't the one that counts where none is given, or an encoding in its place.
 abbrev pub IsMixed : Task → Type 0
-IsMixed (Hash at length file) = ⊥
-IsMixed (Encode encoding file out) = ⊥
-IsMixed (CutSlice root start len outboard verbose file out) = ⊥
-IsMixed (Decode root part verbose file out) = ⊥
-IsMixed (DecodeCopy root outboard verbose copy out) = ⊥
 IsMixed (Gather root workers capacity long outboard salvage encode verbose missing files out) = (long ≡ true) × ((capacity ≢ 65536) ⊎ (encode ≡ true))
-IsMixed (Replay root capacity script files) = ⊥
+IsMixed task = ⊥
 
 -- the task has more than 64 files
 abbrev pub HasManyFiles : Task → Type 0
-HasManyFiles (Hash at length file) = ⊥
-HasManyFiles (Encode encoding file out) = ⊥
-HasManyFiles (CutSlice root start len outboard verbose file out) = ⊥
-HasManyFiles (Decode root part verbose file out) = ⊥
-HasManyFiles (DecodeCopy root outboard verbose copy out) = ⊥
 HasManyFiles (Gather root workers capacity long outboard salvage encode verbose missing files out) = 64 < length files.items
 HasManyFiles (Replay root capacity script files) = 64 < length files.items
+HasManyFiles task = ⊥
 
--- the task writes to a file OUT
-abbrev pub HasOut : Task → Type 0
-HasOut (Hash at length file) = ⊥
-HasOut (Encode encoding file out) = Unit {0}
-HasOut (CutSlice root start len outboard verbose file out) = Unit {0}
-HasOut (Decode root part verbose file out) = Unit {0}
-HasOut (DecodeCopy root outboard verbose copy out) = Unit {0}
-HasOut (Gather root workers capacity long outboard salvage encode verbose missing files out) = Unit {0}
-HasOut (Replay root capacity script files) = ⊥
+-- the file OUT that a task writes to, if it has one
+abbrev pub out_of : Task → Option (Bor (List ℕ))
+out_of (Encode encoding file out) = Some out
+out_of (CutSlice root start len outboard verbose file out) = Some out
+out_of (Decode root part verbose file out) = Some out
+out_of (DecodeCopy root outboard verbose copy out) = Some out
+out_of (Gather root workers capacity long outboard salvage encode verbose missing files out) = Some out
+out_of task = None
 
--- it has a file LIST
-abbrev pub HasList : Task → Type 0
-HasList (Hash at length file) = ⊥
-HasList (Encode encoding file out) = ⊥
-HasList (CutSlice root start len outboard verbose file out) = ⊥
-HasList (Decode root part verbose file out) = ⊥
-HasList (DecodeCopy root outboard verbose copy out) = ⊥
-HasList (Gather root workers capacity long outboard salvage encode verbose missing files out) = IsSome missing
-HasList (Replay root capacity script files) = ⊥
+-- two names lead to one file: where it is known what is at both, they are the same
+abbrev pub IsLedTo : (List ℕ → FileState) → List ℕ → List ℕ → Type 0
+IsLedTo at ours theirs = IsKnown (at ours) → IsKnown (at theirs) → ours ≡ theirs
+
+-- the list leads to standard output, to OUT, or to a file that is read
+abbrev pub LeadsToOther : (List ℕ → FileState) → List ℕ → Option (Bor (List ℕ)) → Option (Bor (List ℕ)) → List (Bor (List ℕ)) → Option (Bor (List ℕ)) → Type 0
+LeadsToOther at out outboard key_file files None = ⊥
+LeadsToOther at out outboard key_file files (Some list) =
+    IsLedTo at list.now (codes "/dev/stdout") ⊎ IsLedTo at list.now out ⊎ IsSomeAnd outboard (λ named. IsLedTo at list.now named.now)
+    ⊎ IsSomeAnd key_file (λ named. IsLedTo at list.now named.now) ⊎ ((k : ℕ) × (k < length files) × HoldsAt (λ file. IsLedTo at list.now file.now) files k)
+
+abbrev pub LeadsListTo : (List ℕ → FileState) → Option (Bor (List ℕ)) → Task → Type 0
+LeadsListTo at key_file (Gather root workers capacity long outboard salvage encode verbose missing files out) =
+    LeadsToOther at out.now outboard key_file files.items missing
+LeadsListTo at key_file task = ⊥
+
+-- no store has this capacity
+abbrev pub IsNoCapacity : ℕ → Type 0
+IsNoCapacity capacity = (capacity ≡ 0) ⊎ (65536 < capacity)
+
+-- the task's capacity is such a one
+abbrev pub HasNoCapacity : Task → Type 0
+HasNoCapacity (Gather root workers capacity long outboard salvage encode verbose missing files out) = IsNoCapacity capacity
+HasNoCapacity (Replay root capacity script files) = IsNoCapacity capacity
+HasNoCapacity task = ⊥
+
+-- the script has a line without a form, as far as it is known
+abbrev pub HasBadLine : (List ℕ → FileState) → List ℕ → List (Bor (List ℕ)) → Type 0
+HasBadLine at script files = (number : ℕ) × OfFiles at script files (λ lines pieces. IsFirstRefused (length pieces) lines number)
+
+-- so it is of the task's script
+abbrev pub HasBadScript : (List ℕ → FileState) → Task → Type 0
+HasBadScript at (Replay root capacity script files) = HasBadLine at script.now files.items
+HasBadScript at task = ⊥
 
 -- it decodes an encoding, a slice of one, or a plain copy
 abbrev pub Decodes : Task → Type 0
-Decodes (Hash at length file) = ⊥
-Decodes (Encode encoding file out) = ⊥
 Decodes (CutSlice root start len outboard verbose file out) = Unit {0}
 Decodes (Decode root part verbose file out) = Unit {0}
 Decodes (DecodeCopy root outboard verbose copy out) = Unit {0}
-Decodes (Gather root workers capacity long outboard salvage encode verbose missing files out) = ⊥
-Decodes (Replay root capacity script files) = ⊥
+Decodes task = ⊥
 
 -- it gathers
 abbrev pub Gathers : Task → Type 0
-Gathers (Hash at length file) = ⊥
-Gathers (Encode encoding file out) = ⊥
-Gathers (CutSlice root start len outboard verbose file out) = ⊥
-Gathers (Decode root part verbose file out) = ⊥
-Gathers (DecodeCopy root outboard verbose copy out) = ⊥
 Gathers (Gather root workers capacity long outboard salvage encode verbose missing files out) = Unit {0}
-Gathers (Replay root capacity script files) = ⊥
+Gathers task = ⊥
 
 -- it runs a schedule
 abbrev pub Replays : Task → Type 0
-Replays (Hash at length file) = ⊥
-Replays (Encode encoding file out) = ⊥
-Replays (CutSlice root start len outboard verbose file out) = ⊥
-Replays (Decode root part verbose file out) = ⊥
-Replays (DecodeCopy root outboard verbose copy out) = ⊥
-Replays (Gather root workers capacity long outboard salvage encode verbose missing files out) = ⊥
 Replays (Replay root capacity script files) = Unit {0}
+Replays task = ⊥
 
--- What a fault may come of: of the arguments, the root, where the output ends, how many files there are, that OUT is standard output or is there at
--- all, what excludes each other in the task, that LIST is OUT, is read, or is there at all; of the mode, that keys exclude each other, a key, a key
--- beside a context, and that a key's file is there; and of the task, that it decodes, gathers or runs a schedule.
-pub record Reasons : Type 1 where
-  pub root : Type 0
-  pub past : Type 0
-  pub many : Type 0
-  pub out : Type 0
-  pub leads : Type 0
-  pub mixed : Type 0
-  pub list : Type 0
-  pub read : Type 0
-  pub listed : Type 0
-  pub keys : Type 0
-  pub key : Type 0
-  pub both : Type 0
-  pub key_file : Type 0
-  pub decodes : Type 0
-  pub gathers : Type 0
-  pub replays : Type 0
-
--- none of these
-abbrev pub no_reasons : Reasons
-no_reasons = record { root = ⊥; past = ⊥; many = ⊥; out = ⊥; leads = ⊥; mixed = ⊥; list = ⊥; read = ⊥; listed = ⊥; keys = ⊥; key = ⊥; both = ⊥; key_file = ⊥; decodes = ⊥; gathers = ⊥; replays = ⊥ }
-
--- those of a request's mode
-abbrev pub mode_reasons_of : Request → Reasons
-mode_reasons_of request = record no_reasons {
-  keys = MixesKeys request;
-  key = HasBadKey request;
-  both = HasKeyAndContext request;
-  key_file = IsSome request.key_file;
-}
-
--- those of what a task does
-abbrev pub task_reasons_of : Task → Reasons
-task_reasons_of task = record no_reasons {
-  root = ¬ HasRoot task;
-  past = IsPastOutput task;
-  many = HasManyFiles task;
-  decodes = Decodes task;
-  gathers = Gathers task;
-  replays = Replays task;
-}
-
--- those of a request
-abbrev pub reasons_of : Request → Reasons
-reasons_of request = record {
-  root = ¬ HasRoot request.task;
-  past = IsPastOutput request.task;
-  many = HasManyFiles request.task;
-  out = ¬ WritesApart request.task;
-  leads = HasOut request.task;
-  mixed = IsMixed request.task;
-  list = ListClashes request.task;
-  read = ReadsList request;
-  listed = HasList request.task;
-  keys = MixesKeys request;
-  key = HasBadKey request;
-  both = HasKeyAndContext request;
-  key_file = IsSome request.key_file;
-  decodes = Decodes request.task;
-  gathers = Gathers request.task;
-  replays = Replays request.task;
-}
-
--- The fault comes only with its reason. Whether two names lead to one file, and what a file has, nobody knows: so it is enough that there is one.
-abbrev pub IsDue : Reasons → Fault → Type 0
-IsDue reasons Word = ⊥
-IsDue reasons Root = reasons.root
-IsDue reasons Key = reasons.key
-IsDue reasons KeyAndContext = reasons.both
-IsDue reasons KeyFile = reasons.key_file
-IsDue reasons KeyFileAndOthers = reasons.keys
-IsDue reasons OutputRange = reasons.past
-IsDue reasons TooManyFiles = reasons.many
-IsDue reasons OutIsOutput = reasons.out
-IsDue reasons OutLeadsToOutput = reasons.leads
-IsDue reasons LongAndOthers = reasons.mixed
-IsDue reasons ListIsOut = reasons.list
-IsDue reasons ListIsRead = reasons.read
-IsDue reasons ListLeadsToOther = reasons.listed
-IsDue reasons (File fault) = Unit {0}
-IsDue reasons (Undecoded fault) = reasons.decodes
-IsDue reasons (Ungathered fault) = reasons.gathers
-IsDue reasons (Unreplayed fault) = reasons.replays
+-- The fault comes only with its reason in the request, as far as the files are known. Where these are all known, one with status 2 comes of the
+-- arguments, of the key's file, or of the script.
+abbrev pub IsDue : (List ℕ → FileState) → Request → Fault → Type 0
+IsDue at request Word = ⊥
+IsDue at request Root = ¬ HasRoot request.task
+IsDue at request Key = HasBadKey request
+IsDue at request KeyAndContext = HasKeyAndContext request
+IsDue at request KeyFile = IsSomeAnd request.key_file (λ path. GivesNoKey (at path.now))
+IsDue at request KeyFileAndOthers = MixesKeys request
+IsDue at request OutputRange = IsPastOutput request.task
+IsDue at request TooManyFiles = HasManyFiles request.task
+IsDue at request OutIsOutput = ¬ WritesApart request.task
+IsDue at request OutLeadsToOutput = IsSomeAnd (out_of request.task) (λ out. IsLedTo at out.now (codes "/dev/stdout"))
+IsDue at request OutIsRead = ReadsOutAs (IsLedTo at) request.key_file request.task
+IsDue at request LongAndOthers = IsMixed request.task
+IsDue at request ListIsOut = ListClashes request.task
+IsDue at request ListIsRead = ReadsList request
+IsDue at request ListLeadsToOther = LeadsListTo at request.key_file request.task
+IsDue at request (File fault) = Unit {0}
+IsDue at request (Undecoded fault) = Decodes request.task
+IsDue at request (Ungathered fault) = Gathers request.task × (gathered_status_of fault ≡ 2 → HasNoCapacity request.task)
+IsDue at request (Unreplayed fault) = Replays request.task × (rerun_status_of fault ≡ 2 → HasNoCapacity request.task ⊎ HasBadScript at request.task)
 
 -- the text, made of bytes, is accepted as that of a part of the blob with this root, in hexadecimal digits
 abbrev pub IsRightPart : Mode → List ℕ → Part → List ℕ → Type 0
@@ -351,6 +292,7 @@ LeavesOf request at after old new OutputRange = Keeps old new
 LeavesOf request at after old new TooManyFiles = Keeps old new
 LeavesOf request at after old new OutIsOutput = Keeps old new
 LeavesOf request at after old new OutLeadsToOutput = Keeps old new
+LeavesOf request at after old new OutIsRead = Keeps old new
 LeavesOf request at after old new LongAndOthers = Keeps old new
 LeavesOf request at after old new ListIsOut = Keeps old new
 LeavesOf request at after old new ListIsRead = Keeps old new
@@ -376,6 +318,7 @@ LeavesFiles at after mode task fault =
     KeepsButList at after (list_of task)
     ⊎ (IsOfFile fault × ((bytes : List ℕ) × IsRight at mode task bytes × (Writes at after mode task (list_of task) bytes ⊎ Writes at after mode task None bytes)))
 
--- the same of a request, in its mode
+-- the same of a request, in its mode, whose files OUT and LIST go apart; but after wrong arguments all files are as they were
 abbrev pub LeavesFilesOf : (List ℕ → FileState) → (List ℕ → FileState) → Request → Fault → Type 0
-LeavesFilesOf at after request fault = KeepsFiles at after ⊎ ((mode : Mode) × HasMode at request mode × LeavesFiles at after mode request.task fault)
+LeavesFilesOf at after request fault =
+    KeepsFiles at after ⊎ ((status_of fault ≢ 2) × GoesApart request × ((mode : Mode) × HasMode at request mode × LeavesFiles at after mode request.task fault))

@@ -16,11 +16,13 @@ ghost use Rattle.bao_decode.specs.declared.decode_fault.DecodeFault.{DecodeFault
 ghost use Rattle.bao_command.specs.Effects.{Writes, list_of};
 ghost use Rattle.bao_command.specs.Works.{CopiesRight, CutsRight, DecodesRight, EncodesRight, Leaves};
 ghost use Rattle.bao_command.specs.ModeWords.{MixesKeys};
+ghost use Rattle.bao_request.specs.declared.tasks.Request.{Request};
+ghost use Rattle.bao_tasks.specs.declared.rerun_fault.RerunFault.{RerunFault};
 ghost use Rattle.bao_command.specs.Outcome.{AreRefused, Begun, Done, IsEachFor, IsRefusable, IsUsage, LeavesAt};
 ghost use Rattle.bao_command.specs.Printed.{CommandPrints, OnPrinted, told_of};
 ghost use Rattle.bao_command.specs.Refused.{IsBlobFor, IsBlobOf, IsRefused, IsRefusedCopy, IsRefusedCut, IsRefusedFor, IsRefusedReplay, IsRefusedText, OfDigits};
-ghost use Rattle.bao_command.specs.Status.{decode_status_of, status_of};
-ghost use Rattle.bao_command.specs.Tasks.{Answers, HasManyFiles, HasRoot, IsCutFrom, IsDue, IsMixed, IsNoOutput, IsOfFile, IsPastOutput, IsReplay, IsRight, IsRightCopy, IsRightPart, LeavesFiles, LeavesFilesOf, ListClashes, ReadsList, WritesApart, line_of, no_reasons, part_line, reasons_of, task_reasons_of};
+ghost use Rattle.bao_command.specs.Status.{decode_status_of, rerun_status_of, status_of};
+ghost use Rattle.bao_command.specs.Tasks.{Answers, HasBadLine, HasManyFiles, HasRoot, IsCutFrom, IsDue, IsNoCapacity, IsMixed, IsNoOutput, IsOfFile, IsPastOutput, IsReplay, IsRight, IsRightCopy, IsRightPart, LeavesFiles, LeavesFilesOf, ListClashes, ReadsList, ReadsOut, WritesApart, line_of, part_line};
 
 use crate::fault::Fault;
 use crate::gathering::{MOST_FILES, Paths, gather, grain_of, parts_asked};
@@ -58,14 +60,17 @@ const MOST_CHUNKS: u32 = 65_536;
 /// beginning of that where its reader closed the pipe.
 ///
 /// At 3 `out` has a beginning at most, and after other faults nothing. After each status but 0 all files are as they were, but
-/// LIST; or at 3 and 4 OUT is as at 0, where what came after it failed: LIST, or printing the line.
+/// LIST; or at 3 and 4 OUT is as at 0, where what came after it failed: LIST, or printing the line. At 2 LIST is as it was, too,
+/// and wherever OUT's name, or LIST's, is one of standard output, or LIST's is OUT's, or one of the two is that of a file that is read;
+/// but OUT may be one of the files that are gathered.
 ///
 /// On a disk without faults, where it is known what is at OUT, a gathering has put there at status 0 each blob with ROOT, or
 /// its encoding; or two different inputs with one chaining value are exhibited, one of the blob's and one that is made of a
 /// FILE.
 ///
-/// Arguments that `clap` refuses give 2, or 4 out of memory. 2 comes only where there is a reason to refuse the arguments, and
-/// 1 only of a task that may refuse a text or a blob: `hash` and the encoders don't.
+/// Arguments that `clap` refuses give 2, or 4 out of memory. 2 comes only where there is a reason to refuse the arguments, the file
+/// with the key, or the script, as far as the files are known: two names of which it is known what is there lead to one file only where they
+/// are the same. 1 comes only of a task that may refuse a text or a blob: `hash` and the encoders don't.
 ///
 /// Where the files are known, 1 comes of decoding, of cutting a slice out, and of a schedule only where there is such a fault
 /// of these very bytes. It comes of none of them where the file, or the outboard encoding, isn't there. On a disk without
@@ -85,7 +90,7 @@ pub fn command<R: AllocGlobal + Threads + Sync, D: Disk, O: Write, E: Write, P: 
     ensures fault { result ≢ 0 → result ≢ 3 → Keeps (O.contents out.old) (O.contents out.new) }
     ensures files { result ≢ 0 → LeavesAt (map string_bytes words.now) (D.at disk.old) (D.at disk.new) result }
     ensures refused { AreRefused (map string_bytes words.now) → (result ≡ 2) ⊎ (result ≡ 4) }
-    ensures usage { result ≡ 2 → IsUsage (map string_bytes words.now) }
+    ensures usage { result ≡ 2 → IsUsage (map string_bytes words.now) (D.at disk.old) }
     ensures blob { result ≡ 0 → IsEachFor (map string_bytes words.now) (D.faultless disk.old) (D.at disk.old) (D.at disk.new) (O.contents out.old) (O.contents out.new) }
     ensures refusal { result ≡ 1 → IsRefusable (map string_bytes words.now) (D.faultless disk.old) (D.at disk.old) }
 {
@@ -119,7 +124,8 @@ fn serve<'a, R: AllocGlobal + Threads + Sync, D: Disk, O: Write, E: Write, P: Pr
     ensures keys { HasRoot request.now.task → ¬ IsMixed request.now.task → MixesKeys request.now → IsErrAnd result (λ fault. fault ≡ Fault.KeyFileAndOthers) }
     ensures list { ListClashes request.now.task → IsErr result }
     ensures read { ReadsList request.now → IsErr result }
-    ensures due { IfErr result (IsDue (reasons_of request.now)) }
+    ensures out { ReadsOut request.now → IsErr result }
+    ensures due { IfErr result (IsDue (D.at disk.old) request.now) }
 {
     check_root(&request.task)?;
     check_long(&request.task)?;
@@ -168,7 +174,7 @@ fn hash<'a, R: AllocGlobal + Threads + Sync, D: Disk, O: Write, P: Progress + Sy
 ) -> Result<(), Fault<'a>>
     ensures prints { (bytes : List ℕ) × OnPrinted result (AreOf (D.at disk.now file.now) bytes)
         × CommandPrints (digits_line (stream mode.now bytes at len)) (O.contents out.old) (O.contents out.new) result }
-    ensures due { IfErr result (IsDue (record no_reasons { past = ¬ (at + len ≤ 2 ^ 64 - 1) })) }
+    ensures due { IfErr result (λ fault. IsOfFile fault ⊎ ((fault ≡ Fault.OutputRange) × ¬ (at + len ≤ 2 ^ 64 - 1))) }
     ensures refused { IfErr result (λ fault. status_of fault ≢ 1) }
 {
     if !xof_fits(at, u64::from(len)) {
@@ -243,7 +249,7 @@ fn cut_slice<'a, D: Disk, O: Write, E: Write>(
         × CommandPrints (part_line (Part.Slice start len) bytes) (O.contents out.old) (O.contents out.new) result }
     ensures files { IfErr result (Leaves (D.at disk.old) (D.at disk.new) (CutsRight (D.at disk.old) (D.at disk.new) mode.now digits.now start len outboard.entry file.now path.now)) }
     ensures refused { IfErr result (λ fault. status_of fault ≡ 1 → OfDigits digits.now (IsRefusedCut (D.at disk.old) mode.now start len outboard.entry file.now path.now)) }
-    ensures due { IfErr result (IsDue (record no_reasons { root = ¬ IsDigits digits.now; decodes = ⊤ })) }
+    ensures due { IfErr result (λ fault. IsOfFile fault ⊎ ((fault ≡ Fault.Root) × ¬ IsDigits digits.now) ⊎ ((cause : DecodeFault) × (fault ≡ Fault.Decode cause))) }
 {
     let root = root_of(digits)?;
     match slice_of(alloc, disk, mode, &root, start, len, outboard, file, path) {
@@ -278,7 +284,7 @@ fn decode<'a, D: Disk, O: Write, E: Write, P: Progress>(
         × CommandPrints (part_line part.now bytes) (O.contents out.old) (O.contents out.new) result }
     ensures files { IfErr result (Leaves (D.at disk.old) (D.at disk.new) (DecodesRight (D.at disk.old) (D.at disk.new) mode.now digits.now part.now file.now path.now)) }
     ensures refused { IfErr result (λ fault. status_of fault ≡ 1 → OfDigits digits.now (IsRefusedText (D.at disk.old) mode.now part.now file.now path.now)) }
-    ensures due { IfErr result (IsDue (record no_reasons { root = ¬ IsDigits digits.now; decodes = ⊤ })) }
+    ensures due { IfErr result (λ fault. IsOfFile fault ⊎ ((fault ≡ Fault.Root) × ¬ IsDigits digits.now) ⊎ ((cause : DecodeFault) × (fault ≡ Fault.Decode cause))) }
 {
     let root = root_of(digits)?;
     match decode_on(alloc, disk, mode, &root, part, file, path, progress) {
@@ -312,7 +318,7 @@ fn decode_beside<'a, D: Disk, O: Write, E: Write, P: Progress>(
         × CommandPrints (ok_line (length bytes)) (O.contents out.old) (O.contents out.new) result }
     ensures files { IfErr result (Leaves (D.at disk.old) (D.at disk.new) (CopiesRight (D.at disk.old) (D.at disk.new) mode.now digits.now outboard.now copy.now path.now)) }
     ensures refused { IfErr result (λ fault. status_of fault ≡ 1 → OfDigits digits.now (IsRefusedCopy (D.at disk.old) mode.now outboard.now copy.now path.now)) }
-    ensures due { IfErr result (IsDue (record no_reasons { root = ¬ IsDigits digits.now; decodes = ⊤ })) }
+    ensures due { IfErr result (λ fault. IsOfFile fault ⊎ ((fault ≡ Fault.Root) × ¬ IsDigits digits.now) ⊎ ((cause : DecodeFault) × (fault ≡ Fault.Decode cause))) }
 {
     let root = root_of(digits)?;
     match decode_copy_on(alloc, disk, mode, &root, outboard, copy, path, progress) {
@@ -345,7 +351,8 @@ fn replay<'a, D: Disk, O: Write>(
     ensures few { OnPrinted result (length files.now ≤ 64) }
     ensures many { 64 < length files.now → IsErrAnd result (λ fault. fault ≡ Fault.TooManyFiles) }
     ensures refused { IfErr result (λ fault. status_of fault ≡ 1 → IsRefusedReplay (D.at disk.now) mode.now digits.now capacity script.now files.now) }
-    ensures due { IfErr result (IsDue (record no_reasons { root = ¬ IsDigits digits.now; many = 64 < length files.now; replays = ⊤ })) }
+    ensures due { IfErr result (λ fault. IsOfFile fault ⊎ ((fault ≡ Fault.Root) × ¬ IsDigits digits.now) ⊎ ((fault ≡ Fault.TooManyFiles) × (64 < length files.now))
+        ⊎ ((cause : RerunFault) × (fault ≡ Fault.Replay cause) × (rerun_status_of cause ≡ 2 → IsNoCapacity capacity ⊎ HasBadLine (D.at disk.now) script.now files.now))) }
 {
     if files.len() > MOST_FILES {
         return Err(Fault::TooManyFiles);
@@ -370,9 +377,10 @@ fn serve_task<'a, R: AllocGlobal + Threads + Sync, D: Disk, O: Write, E: Write, 
     ensures prints { (bytes : List ℕ) × OnPrinted result (IsRight (D.at disk.old) mode.now task.now bytes × Writes (D.at disk.old) (D.at disk.new) mode.now task.now (list_of task.now) bytes)
         × CommandPrints (line_of mode.now task.now bytes) (O.contents out.old) (O.contents out.new) result }
     ensures files { IfErr result (LeavesFiles (D.at disk.old) (D.at disk.new) mode.now task.now) }
+    ensures usage { IfErr result (λ fault. status_of fault ≡ 2 → KeepsFiles (D.at disk.old) (D.at disk.new)) }
     ensures refused { IfErr result (λ fault. status_of fault ≡ 1 → IsRefused (D.faultless disk.old) (D.at disk.old) mode.now task.now) }
     ensures blob { OnOk result (IsBlobOf (D.faultless disk.old) (D.at disk.old) (D.at disk.new) mode.now task.now (O.contents out.old) (O.contents out.new)) }
-    ensures due { IfErr result (IsDue (task_reasons_of task.now)) }
+    ensures due { IfErr result (λ fault. (request : Request) → request.task ≡ task.now → IsDue (D.at disk.old) request fault) }
 {
     let alloc = rt.alloc();
     match task {
@@ -470,7 +478,8 @@ fn check_root<'a>(task: &Task<'a>) -> Result<(), Fault<'a>>
     }
 }
 
-// A blob of any length goes without a capacity and without its encoding.
+// A blob of any length goes without a capacity and without its encoding. The default capacity is let in, since `clap` doesn't tell a default
+// from an argument.
 fn check_long<'a>(task: &Task<'a>) -> Result<(), Fault<'a>>
     ensures ok { OnOk result (¬ IsMixed task.now) }
     ensures err { IfErr result (λ fault. (fault ≡ Fault.LongAndOthers) × IsMixed task.now) }

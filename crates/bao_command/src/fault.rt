@@ -45,6 +45,9 @@ pub enum Fault<'a> {
     /// OUT leads to the file that standard output is open on, by another name. Status 2.
     #[error("usage: OUT leads to standard output")]
     OutLeadsToOutput,
+    /// OUT leads to a file that is read, which isn't one of those that are gathered. Status 2.
+    #[error("usage: OUT is a file that is read")]
+    OutIsRead,
     /// `--long` is given, and `--encode` or a `--capacity` other than 65536 with it. Status 2.
     #[error("usage: long excludes capacity and encode")]
     LongAndOthers,
@@ -164,6 +167,7 @@ impl Fault<'_> {
             | Fault::TooManyFiles
             | Fault::OutIsOutput
             | Fault::OutLeadsToOutput
+            | Fault::OutIsRead
             | Fault::LongAndOthers
             | Fault::ListIsOut
             | Fault::ListIsRead
@@ -190,6 +194,7 @@ impl Fault<'_> {
             | Fault::TooManyFiles
             | Fault::OutIsOutput
             | Fault::OutLeadsToOutput
+            | Fault::OutIsRead
             | Fault::LongAndOthers
             | Fault::ListIsOut
             | Fault::ListIsRead

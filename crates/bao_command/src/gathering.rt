@@ -1,29 +1,35 @@
 // Gathering, as the program does it: what it tells beside its line, and the list of what is missing.
 
-ghost use Rattle.std.specs.Prelude.{◌≡◌, ⊤, if◌then◌else◌, ◌-◌, ◌<◌, ◌≤◌, ℕ, List, [], length, take, IfErr, IsErrAnd, OnErr, OnOk};
+ghost use Rattle.std.specs.Prelude.{◌≡◌, ◌⊎◌, ⊤, if◌then◌else◌, ◌-◌, ◌<◌, ◌≤◌, ℕ, List, [], length, take, IfErr, IsErrAnd, OnErr, OnOk};
 ghost use Rattle.bao_command.specs.declared.fault.Fault.TheVariants as Fault;
 ghost use Rattle.gather.specs.declared.grain.Grain.TheVariants as Grain;
 ghost use Rattle.std.specs.Io.KnownBytes.{Appends};
 ghost use Rattle.bao_files.specs.Disks.{KeepsFiles};
 ghost use Rattle.bao_files.specs.Printed.{IsDigits, IsQuiet, ok_line};
 ghost use Rattle.bao_files.specs.declared.fault.FileFault.{FileFault};
-ghost use Rattle.bao_command.specs.Effects.{KeepsButList, Lists};
+ghost use Rattle.bao_command.specs.Effects.{Lists};
+ghost use Rattle.bao_tasks.specs.Listed.{lines_of_parts};
+ghost use Rattle.bao_tasks.specs.declared.missing.Lack.TheVariants as Lack;
+ghost use Rattle.bao_tasks.specs.declared.missing.MissingParts.{MissingParts};
 ghost use Rattle.bao_command.specs.Printed.{CommandPrints, OnPrinted};
 ghost use Rattle.bao_command.specs.Refused.{IsEachBlob, IsRefusedGathering, OfRoot};
-ghost use Rattle.bao_command.specs.Status.{status_of};
-ghost use Rattle.bao_command.specs.Tasks.{IsBeside, IsDue, no_reasons};
+ghost use Rattle.bao_command.specs.Status.{gathered_status_of, status_of};
+ghost use Rattle.bao_command.specs.Tasks.{IsBeside, IsNoCapacity, IsOfFile};
+ghost use Rattle.bao_tasks.specs.declared.gathered_fault.GatheredFault.{GatheredFault};
 ghost use Rattle.bao_command.specs.ReportLines.{part_line as missing_line, parts_line, unlooked_line, worth_line};
 ghost use Rattle.bao_command.specs.Works.{GathersRight, LeavesGathered};
 
 use crate::commands::{root_of, told};
 use crate::fault::Fault;
+use crate::refused::{is_no_encoding, tell_no_encoding, tell_outboard};
 use crate::unread::tell_left_out;
 use b3tree::Mode;
 use bao_files::{Disk, FileFault, Once, Progress, print_count};
 use bao_tasks::{
-    Fate, Form, Gathering, Grain, Lack, MissingParts, Notes, Span, Worth, gather_beside_on,
-    gather_on, list_parts,
+    Fate, Form, GatheredFault, Gathering, Grain, Lack, MissingParts, Notes, Span, Worth,
+    gather_beside_on, gather_on, list_parts,
 };
+use gather::GatherFault;
 use std::io;
 use std::io::Write;
 use std::thread::Threads;
@@ -45,11 +51,21 @@ fn tell_worth<W: Write>(file: &str, worth: Worth, out: &mut W) -> io::Result<()>
     )
 }
 
-// Says why a file was left out, or what it is worth, or that there was no memory to count that.
-fn tell_fate<D: Disk, E: Write>(disk: &D, file: &str, fate: Fate, err: &mut E) -> io::Result<()> {
+// Says why a file was left out, or what it is worth, or that there was no memory to count that. Beside an outboard encoding it is a plain copy.
+fn tell_fate<D: Disk, E: Write>(
+    disk: &D,
+    is_beside: bool,
+    file: &str,
+    fate: Fate,
+    err: &mut E,
+) -> io::Result<()> {
     match (fate.reason(), fate) {
         (Some(reason), Fate::Unread) => tell_left_out(disk, file, reason, err),
         (Some(reason), _) => writeln!(Once(err), "bao_gather: left out {file}: {reason}"),
+        (None, Fate::Taken(Some(worth)))
+            if !is_beside && worth.refused == worth.groups && is_no_encoding(disk, file) => {
+            tell_no_encoding(file, err)
+        }
         (None, Fate::Taken(Some(worth))) => tell_worth(file, worth, &mut Once(err)),
         (None, _) => writeln!(Once(err), "bao_gather: {file}: not counted: no memory"),
     }
@@ -112,13 +128,13 @@ fn fits_none(fates: &[Fate]) -> bool {
     some
 }
 
-// Says that no file has the end of the blob, and where none fits the root at all what that may come of.
-fn tell_no_end<E: Write>(fates: &[Fate], err: &mut E) -> io::Result<()> {
+// Says that no file has the end of the blob, and where none fits the root at all what that may come of. With `--salvage` chunks of refused groups may fit.
+fn tell_no_end<E: Write>(grain: Grain, fates: &[Fate], err: &mut E) -> io::Result<()> {
     writeln!(
         Once(err),
         "bao_gather: missing: the end, so that the length isn't known"
     )?;
-    if !fits_none(fates) {
+    if matches!(grain, Grain::Chunk) || !fits_none(fates) {
         return Ok(());
     }
     writeln!(
@@ -128,11 +144,11 @@ fn tell_no_end<E: Write>(fates: &[Fate], err: &mut E) -> io::Result<()> {
 }
 
 // Says what no file has of a blob that stayed unfinished.
-fn tell_lack<E: Write>(notes: &Notes, err: &mut E) -> io::Result<()> {
+fn tell_lack<E: Write>(grain: Grain, notes: &Notes, err: &mut E) -> io::Result<()> {
     match &notes.lack {
         Lack::Unasked => Ok(()),
         Lack::Starved => writeln!(Once(err), "bao_gather: missing: not looked for: no memory"),
-        Lack::End => tell_no_end(notes.fates.as_slice(), err),
+        Lack::End => tell_no_end(grain, notes.fates.as_slice(), err),
         Lack::Missing(parts) if parts.count == 0 && parts.looked == parts.total => {
             writeln!(
                 Once(err),
@@ -152,17 +168,49 @@ fn tell_lack<E: Write>(notes: &Notes, err: &mut E) -> io::Result<()> {
     }
 }
 
-// Says so of each file, and what none of them has, where that is asked. A write that fails is the last, and changes nothing.
-fn tell<D: Disk, E: Write>(disk: &D, verbose: bool, files: &[&str], notes: &Notes, err: &mut E) {
-    if !verbose {
-        return;
-    }
+// Says so of each file, and what none of them has. A write that fails is the last, and changes nothing.
+fn tell_files<D: Disk, E: Write>(
+    disk: &D,
+    how: Gathering,
+    is_beside: bool,
+    files: &[&str],
+    notes: &Notes,
+    err: &mut E,
+) {
     for (file, fate) in files.iter().zip(notes.fates.as_slice()) {
-        if tell_fate(disk, file, *fate, err).is_err() {
+        if tell_fate(disk, is_beside, file, *fate, err).is_err() {
             return;
         }
     }
-    let _ = tell_lack(notes, err);
+    let _ = tell_lack(how.grain, notes, err);
+}
+
+// Says, where that is asked, what came of the files: of the outboard encoding where that was refused, so that none was opened, or of each.
+fn tell<D: Disk, E: Write>(
+    disk: &D,
+    how: Gathering,
+    outboard: Option<&str>,
+    files: &[&str],
+    notes: &Notes,
+    gathered: &Result<u64, GatheredFault<'_>>,
+    err: &mut E,
+) {
+    if !how.count {
+        return;
+    }
+    match (gathered, outboard) {
+        (Err(GatheredFault::Outboard(fault)), Some(outboard)) => {
+            tell_outboard(disk, outboard, *fault, err);
+        }
+        (Err(GatheredFault::Gather(GatherFault::TooLarge)), _) if !how.long => {
+            tell_files(disk, how, outboard.is_some(), files, notes, err);
+            let _ = writeln!(
+                Once(err),
+                "bao_gather: the blob is longer than --capacity allows: --long lifts that limit"
+            );
+        }
+        _ => tell_files(disk, how, outboard.is_some(), files, notes, err),
+    }
 }
 
 // The files that a gathering names beside those that it gathers from.
@@ -209,7 +257,8 @@ fn list_nothing<'a, D: Disk>(disk: &mut D, paths: Paths<'a>) -> Result<(), Fault
 
 // Writes what no file has to the list, where there is one and that is known. It says why not, where it doesn't: what gathering met stands.
 fn list_lack<D: Disk, E: Write>(disk: &mut D, list: Option<&str>, lack: &Lack, err: &mut E)
-    ensures { KeepsButList (D.at disk.old) (D.at disk.new) list.entry }
+    ensures { KeepsFiles (D.at disk.old) (D.at disk.new)
+        ⊎ ((parts : MissingParts) × (lack.now ≡ Lack.Missing parts) × Lists (D.at disk.old) (D.at disk.new) list.entry (lines_of_parts parts.shown.items)) }
 {
     let Some(path) = list else {
         return;
@@ -257,9 +306,11 @@ pub(crate) fn gather<
         → OfRoot digits.now (IsRefusedGathering (D.faultless disk.old) (D.at disk.old) mode.now how.grain how.encode how.long how.capacity paths.entry.outboard files.now paths.entry.out.now)) }
     ensures blob { OnOk result (OfRoot digits.now (IsEachBlob (D.faultless disk.old) (D.at disk.old) (D.at disk.new) mode.now how.encode how.capacity paths.entry.outboard files.now paths.entry.out.now
         paths.entry.list (O.contents out.old) (O.contents out.new))) }
+    ensures usage { IfErr result (λ fault. status_of fault ≡ 2 → KeepsFiles (D.at disk.old) (D.at disk.new)) }
     ensures few { OnPrinted result (length files.now ≤ 64) }
     ensures many { 64 < length files.now → IsErrAnd result (λ fault. fault ≡ Fault.TooManyFiles) }
-    ensures due { IfErr result (IsDue (record no_reasons { root = ¬ IsDigits digits.now; many = 64 < length files.now; gathers = ⊤ })) }
+    ensures due { IfErr result (λ fault. IsOfFile fault ⊎ ((fault ≡ Fault.Root) × ¬ IsDigits digits.now) ⊎ ((fault ≡ Fault.TooManyFiles) × (64 < length files.now))
+        ⊎ ((cause : GatheredFault) × (fault ≡ Fault.Gather cause) × (gathered_status_of cause ≡ 2 → IsNoCapacity how.capacity))) }
 {
     if files.len() > MOST_FILES {
         return Err(Fault::TooManyFiles);
@@ -280,7 +331,7 @@ pub(crate) fn gather<
             )
         }
     };
-    tell(disk, how.count, files, &notes, err);
+    tell(disk, how, paths.outboard, files, &notes, &gathered, err);
     match gathered {
         Ok(count) => {
             list_nothing(disk, paths)?;

@@ -2,8 +2,8 @@ ghost use Rattle.std.specs.Borrow.{Bor};
 ghost use Rattle.std.specs.Option.{option_copied};
 ghost use Rattle.std.specs.Prelude.{◌≡◌, ◌⊎◌, ℕ, List, IfErr, IfOk, IfSome, IsErrAnd};
 ghost use Rattle.b3tree.specs.Valid.{AreBytes};
-ghost use Rattle.bao_command.specs.ModeWords.{GivesFileMode, GivesMode, HasMode, IsKeyedBy, IsKeyedIn, IsModeFault, MixesKeys};
-ghost use Rattle.bao_command.specs.Tasks.{IsDue, mode_reasons_of};
+ghost use Rattle.bao_command.specs.ModeWords.{GivesFileMode, GivesMode, GivesNoKey, HasMode, IsKeyedBy, IsKeyedIn, IsModeFault, MixesKeys};
+ghost use Rattle.bao_command.specs.Tasks.{IsDue};
 ghost use Rattle.bao_command.specs.declared.fault.Fault.TheVariants as Fault;
 ghost use Rattle.bao_files.specs.declared.fault.FileFault.TheVariants as FileFault;
 
@@ -52,6 +52,7 @@ pub fn mode_of_input<'a, I: Read>(input: &mut I, path: &'a str) -> Result<Mode, 
 fn mode_of_file<'a, D: Disk>(disk: &D, path: &'a str) -> Result<Mode, Fault<'a>>
     ensures some { IfOk result (IsKeyedIn (D.at disk.now path.now)) }
     ensures fault { IfErr result (λ fault. (fault ≡ Fault.KeyFile) ⊎ (fault ≡ Fault.File FileFault.Memory) ⊎ (fault ≡ Fault.File (FileFault.Read path.entry))) }
+    ensures none { IfErr result (λ fault. fault ≡ Fault.KeyFile → GivesNoKey (D.at disk.now path.now)) }
 {
     match disk.open(path) {
         Ok(mut input) => mode_of_input(&mut input, path),
@@ -66,7 +67,7 @@ pub(crate) fn asked_mode<'a, D: Disk>(disk: &D, request: &Request<'a>) -> Result
     ensures mode { IfOk result (HasMode (D.at disk.now) request.now) }
     ensures mixed { MixesKeys request.now → IsErrAnd result (λ fault. fault ≡ Fault.KeyFileAndOthers) }
     ensures fault { IfErr result (IsModeFault request.now.key_file) }
-    ensures due { IfErr result (IsDue (mode_reasons_of request.now)) }
+    ensures due { IfErr result (IsDue (D.at disk.now) request.now) }
 {
     match (request.key_file, request.key, request.context) {
         (None, key, context) => mode_of(key, context),

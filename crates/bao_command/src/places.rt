@@ -1,8 +1,8 @@
 // Which names of a request lead to one file.
 
-ghost use Rattle.std.specs.Prelude.{◌≡◌, ◌⊎◌, IfErr, IsSome, true};
+ghost use Rattle.std.specs.Prelude.{◌≡◌, ◌⊎◌, ◌<◌, ℕ, HoldsAt, IfErr, IsSomeAnd, OnOk, codes, false, length, true};
 ghost use Rattle.bao_command.specs.declared.fault.Fault.TheVariants as Fault;
-ghost use Rattle.bao_command.specs.Tasks.{HasList, HasOut};
+ghost use Rattle.bao_command.specs.Tasks.{IsLedTo, LeadsListTo, LeadsToOther, ReadsOne, ReadsOut, ReadsOutAs, out_of};
 
 use crate::fault::Fault;
 use bao_files::Disk;
@@ -11,16 +11,21 @@ use bao_request::{Request, Task};
 // A name of the file that standard output is open on.
 const OUTPUT: &str = "/dev/stdout";
 
-// Whether a path leads to the same file as the one that is named, if one is.
-fn is_named_file<D: Disk>(disk: &D, path: &str, named: Option<&str>) -> bool {
+// Whether a path leads to the file that is named, if one is.
+fn is_named_file<D: Disk>(disk: &D, path: &str, named: Option<&str>) -> bool
+    ensures yes { result ≡ true → IsSomeAnd named.entry (λ other. IsLedTo (D.at disk.now) path.now other.now) }
+    ensures no { result ≡ false → ¬ IsSomeAnd named.entry (λ other. path.now ≡ other.now) }
+{
     match named {
-        Some(named) => disk.is_one(path, named),
+        Some(named) => path == named || disk.is_one(path, named),
         None => false,
     }
 }
 
 // Whether it leads to one of the files.
-fn is_one_of<D: Disk>(disk: &D, path: &str, files: &[&str]) -> bool {
+fn is_one_of<D: Disk>(disk: &D, path: &str, files: &[&str]) -> bool
+    ensures { result ≡ true → (k : ℕ) × (k < length files.now) × HoldsAt (λ file. IsLedTo (D.at disk.now) path.now file.now) files.now k }
+{
     for file in files {
         if disk.is_one(path, file) {
             return true;
@@ -31,7 +36,7 @@ fn is_one_of<D: Disk>(disk: &D, path: &str, files: &[&str]) -> bool {
 
 // The file that a task writes to, if there is one.
 fn out_of<'a>(task: &Task<'a>) -> Option<&'a str>
-    ensures { IsSome result → HasOut task.now }
+    ensures { result ≡ out_of task.now }
 {
     match task {
         Task::Encode { out, .. } | Task::CutSlice { out, .. } => Some(out),
@@ -41,36 +46,113 @@ fn out_of<'a>(task: &Task<'a>) -> Option<&'a str>
     }
 }
 
+// Whether the list, if there is one, leads to standard output, to OUT, or to a file that is read.
+fn leads_to_other<D: Disk>(
+    disk: &D,
+    list: Option<&str>,
+    out: &str,
+    outboard: Option<&str>,
+    key_file: Option<&str>,
+    files: &[&str],
+) -> bool
+    ensures { result ≡ true → LeadsToOther (D.at disk.now) out.now outboard.entry key_file.entry files.now list.entry }
+{
+    let Some(list) = list else {
+        return false;
+    };
+    if disk.is_one(list, OUTPUT) {
+        return true;
+    }
+    if disk.is_one(list, out) {
+        return true;
+    }
+    if is_named_file(disk, list, outboard) {
+        return true;
+    }
+    if is_named_file(disk, list, key_file) {
+        return true;
+    }
+    is_one_of(disk, list, files)
+}
+
 // Whether the list of what is missing leads to another file of the request.
 fn is_list_other<D: Disk>(disk: &D, request: &Request<'_>) -> bool
-    ensures { result ≡ true → HasList request.now.task }
+    ensures { result ≡ true → LeadsListTo (D.at disk.now) request.now.key_file request.now.task }
 {
     match &request.task {
         Task::Gather {
-            missing: Some(list),
+            missing,
             outboard,
             files,
             out,
             ..
         } => {
-            disk.is_one(list, OUTPUT)
-                || disk.is_one(list, out)
-                || is_named_file(disk, list, *outboard)
-                || is_named_file(disk, list, request.key_file)
-                || is_one_of(disk, list, files.as_slice())
+            let files = files.as_slice();
+            leads_to_other(disk, *missing, out, *outboard, request.key_file, files)
         }
         _ => false,
     }
 }
 
-/// Refuses names that lead to one file where that would be lost, or get two things: OUT to the file that standard output is open on, and the
-/// list of what is missing to OUT, to that file, or to a file that is read.
+// Whether OUT leads to one of the files that are named.
+fn reads_one<D: Disk>(
+    disk: &D,
+    out: &str,
+    key_file: Option<&str>,
+    outboard: Option<&str>,
+    file: Option<&str>,
+) -> bool
+    ensures yes { result ≡ true → ReadsOne (IsLedTo (D.at disk.now) out.now) key_file.entry outboard.entry file.entry }
+    ensures no { result ≡ false → ¬ ReadsOne (λ path. out.now ≡ path) key_file.entry outboard.entry file.entry }
+{
+    if is_named_file(disk, out, key_file) {
+        return true;
+    }
+    if is_named_file(disk, out, outboard) {
+        return true;
+    }
+    is_named_file(disk, out, file)
+}
+
+// Whether OUT leads to a file that is read, but for those that are gathered.
+fn is_out_read<D: Disk>(disk: &D, key_file: Option<&str>, task: &Task<'_>) -> bool
+    ensures yes { result ≡ true → ReadsOutAs (IsLedTo (D.at disk.now)) key_file.entry task.now }
+    ensures no { result ≡ false → ¬ ReadsOutAs (λ ours theirs. ours ≡ theirs) key_file.entry task.now }
+{
+    match task {
+        Task::Encode { file, out, .. } => reads_one(disk, out, key_file, None, Some(file)),
+        Task::CutSlice {
+            outboard,
+            file,
+            out,
+            ..
+        } => reads_one(disk, out, key_file, *outboard, Some(file)),
+        Task::Decode { file, out, .. } => reads_one(disk, out, key_file, None, Some(file)),
+        Task::DecodeCopy {
+            outboard,
+            copy,
+            out,
+            ..
+        } => reads_one(disk, out, key_file, Some(outboard), Some(copy)),
+        Task::Gather { outboard, out, .. } => reads_one(disk, out, key_file, *outboard, None),
+        Task::Hash { .. } | Task::Replay { .. } => false,
+    }
+}
+
+/// Refuses names that lead to one file where that would be lost, or get two things: OUT to the file that standard output is open on, or to one
+/// that is read and isn't among those that are gathered; and the list of what is missing to OUT, to standard output, or to a file that is read.
 pub(crate) fn check_places<'a, D: Disk>(disk: &D, request: &Request<'a>) -> Result<(), Fault<'a>>
-    ensures { IfErr result (λ fault. ((fault ≡ Fault.OutLeadsToOutput) × HasOut request.now.task) ⊎ ((fault ≡ Fault.ListLeadsToOther) × HasList request.now.task)) }
+    ensures apart { OnOk result (¬ ReadsOut request.now) }
+    ensures err { IfErr result (λ fault. ((fault ≡ Fault.OutLeadsToOutput) × IsSomeAnd (out_of request.now.task) (λ out. IsLedTo (D.at disk.now) out.now (codes "/dev/stdout")))
+        ⊎ ((fault ≡ Fault.OutIsRead) × ReadsOutAs (IsLedTo (D.at disk.now)) request.now.key_file request.now.task)
+        ⊎ ((fault ≡ Fault.ListLeadsToOther) × LeadsListTo (D.at disk.now) request.now.key_file request.now.task)) }
 {
     match out_of(&request.task) {
         Some(out) if disk.is_one(out, OUTPUT) => return Err(Fault::OutLeadsToOutput),
         _ => {}
+    }
+    if is_out_read(disk, request.key_file, &request.task) {
+        return Err(Fault::OutIsRead);
     }
     if is_list_other(disk, request) {
         return Err(Fault::ListLeadsToOther);

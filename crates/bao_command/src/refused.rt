@@ -10,7 +10,7 @@ use bao_check::{CheckFault, check_outboard};
 use bao_decode::read_outboard_on;
 use bao_files::{Disk, Once};
 use bao_tasks::{Span, Spot, spot_in_outboard, spot_in_slice};
-use bao_text::Part;
+use bao_text::{Part, outboard_len};
 use std::alloc::Global;
 use std::io;
 use std::io::{Read, Write};
@@ -138,6 +138,28 @@ fn damaged_at(fault: CheckFault) -> Option<u64> {
     }
 }
 
+// Where the first node of an encoding begins, after the length.
+const FIRST_NODE: u64 = 8;
+
+// Whether a regular file is no combined encoding, whatever the root: one of the length that it claims has another size.
+pub(crate) fn is_no_encoding<D: Disk>(disk: &D, path: &str) -> bool {
+    let Some(total) = claimed_again(disk, path) else {
+        return false;
+    };
+    match disk.look(path) {
+        Some(extent) => u128::from(extent.len) != outboard_len(total) + u128::from(total),
+        None => false,
+    }
+}
+
+// Says so of it.
+pub(crate) fn tell_no_encoding<E: Write>(file: &str, err: &mut E) -> io::Result<()> {
+    writeln!(
+        Once(err),
+        "bao_gather: {file}: no combined encoding of ROOT; a plain copy goes with --outboard"
+    )
+}
+
 // Says where the encoding of a part is at fault. A write that fails changes nothing.
 pub(crate) fn tell_encoding<D: Disk, E: Write>(
     disk: &D,
@@ -147,6 +169,10 @@ pub(crate) fn tell_encoding<D: Disk, E: Write>(
     err: &mut E,
 ) {
     let spot = match damaged_at(fault) {
+        Some(FIRST_NODE) if matches!(part, Part::Whole) && is_no_encoding(disk, file) => {
+            let _ = tell_no_encoding(file, err);
+            return;
+        }
         Some(at) => spot_of_part(disk, part, file, at),
         None => None,
     };
@@ -154,8 +180,20 @@ pub(crate) fn tell_encoding<D: Disk, E: Write>(
 }
 
 // Says where an outboard encoding is at fault.
-fn tell_outboard<D: Disk, E: Write>(disk: &D, file: &str, fault: CheckFault, err: &mut E) {
+pub(crate) fn tell_outboard<D: Disk, E: Write>(
+    disk: &D,
+    file: &str,
+    fault: CheckFault,
+    err: &mut E,
+) {
     let spot = match damaged_at(fault) {
+        Some(FIRST_NODE) => {
+            let _ = writeln!(
+                Once(err),
+                "bao_gather: {file}: no outboard encoding of ROOT: look at ROOT, the key and --context"
+            );
+            return;
+        }
         Some(at) => spot_of_outboard(disk, file, at),
         None => None,
     };

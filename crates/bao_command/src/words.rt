@@ -16,6 +16,7 @@ pub fn own_words<R: Env + AllocGlobal>(rt: &R) -> Result<Vec<String>, Fault<'sta
     let memory = Fault::File(FileFault::Memory);
     let words = match env::args(rt) {
         Ok(words) => words,
+        // `clap` takes text, and has no kind for this.
         Err(error) if error.kind() == ErrorKind::InvalidData => return Err(Fault::Word),
         Err(_) => return Err(memory),
     };

@@ -1,6 +1,6 @@
 -- A plain copy that is verified in one pass, and written in a second.
 use Rattle.std.specs.Borrow.{Bor}
-use Rattle.std.proofs.Common.{◌≡◌, ℕ, ◌+◌, ◌-◌, ◌^◌, ◌<◌, min, List, length, take, Option, Some, None, Result, Ok, Err, IfErr, IfOk, IfSome, inl, inr, refl, sym, subst, ◌∙◌, ap, arith}
+use Rattle.std.proofs.Common.{◌≡◌, ◌⊎◌, ℕ, ◌+◌, ◌-◌, ◌^◌, ◌<◌, min, List, length, take, Option, Some, None, Result, Ok, Err, IfErr, IfOk, IfSome, inl, inr, refl, sym, subst, ◌∙◌, ap, arith}
 use Rattle.std.proofs.KnownBytes.{Appends-kept, Appends-nil, Keeps-refl}
 use Rattle.std.proofs.lemmas.List.{length-take, take_all}
 use Rattle.std.specs.Io.KnownBytes.{Appends, Keeps}
@@ -15,7 +15,8 @@ use Rattle.bao_files.specs.Disks.{FileState, Unknown, Absent, Stored, AreOf}
 use Rattle.bao_check.specs.declared.fault.CheckFault.{CheckFault}
 use Rattle.bao_check.specs.declared.fault.CheckFault.TheVariants as check
 use Rattle.bao_check.specs.declared.outline.Outline.{Outline}
-use Rattle.bao_files.specs.declared.fault.FileFault.TheVariants.{Write}
+use Rattle.bao_files.specs.declared.fault.FileFault.{FileFault}
+use Rattle.bao_files.specs.declared.fault.FileFault.TheVariants.{Memory, Write}
 use Rattle.bao_decode.specs.declared.decode_fault.DecodeFault.{DecodeFault}
 use Rattle.bao_decode.specs.declared.decode_fault.DecodeFault.TheVariants as decode
 use Rattle.bao_decode.specs.declared.copy_pass.PassFault.{PassFault}
@@ -150,9 +151,17 @@ pub beside_stops : (o : Outline) (mode : Mode) (root text outline bytes : List �
     → BesideStops mode root disk outline bytes outboard file path fault
 beside_stops o mode root text outline bytes input disk outboard file path (decode.File fault) is accepted same sure (inl memory) = inl memory
 beside_stops o mode root text outline bytes input disk outboard file path (decode.File fault) is accepted same sure (inr (inl read)) = inr (inr (inl (read.0, λ d. read.1 (sure d))))
-beside_stops o mode root text outline bytes input disk outboard file path (decode.File fault) is accepted same sure (inr (inr write)) = inr (inr (inr write))
+beside_stops o mode root text outline bytes input disk outboard file path (decode.File fault) is accepted same sure (inr (inr write)) =
+    inr (inr (inr (write.0, subst (λ (t : List ℕ). IsCopyBeside mode root t bytes) same (beside_of o mode root text bytes is accepted write.1))))
 beside_stops o mode root text outline bytes input disk outboard file path (decode.Check fault) is accepted same sure stops =
     inr (
       subst (λ (t : List ℕ). IsAccepted mode root t (outboard_nodes t)) same accepted,
       subst (λ (t : List ℕ). IsBareFault mode root t 0 (chunk_count (claimed t)) bytes fault) same (fault_beside o mode root text bytes fault is stops),
     )
+
+-- a copy that was accepted and written, but not put in its place
+pub beside_finish : (mode : Mode) (root o b outline bytes : List ℕ) (faultless : Type 0) (outboard file path : Bor (List ℕ)) (fault : FileFault) → (fault ≡ Memory) ⊎ (fault ≡ Write path)
+    → IsCopyBeside mode root o b → o ≡ outline → b ≡ bytes → BesideStops mode root faultless outline bytes outboard file path (decode.File fault)
+beside_finish mode root o b outline bytes faultless outboard file path fault (inl memory) good at_outboard at_copy = inl memory
+beside_finish mode root o b outline bytes faultless outboard file path fault (inr write) good at_outboard at_copy =
+    inr (inr (inr (write, subst (λ (t : List ℕ). IsCopyBeside mode root outline t) at_copy (subst (λ (t : List ℕ). IsCopyBeside mode root t b) at_outboard good))))

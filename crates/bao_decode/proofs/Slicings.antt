@@ -1,13 +1,15 @@
 -- A slice that is cut out of an encoding, and written.
 use Rattle.std.specs.Borrow.{Bor}
-use Rattle.std.proofs.Common.{◌≡◌, ◌^◌, ◌<◌, ◌≤◌, ℕ, zero, suc, List, [], ◌∷◌, length, Bool, true, if◌then◌else◌, Option, Some, None, Result, Ok, Err, IfSome, inl, inr, refl, sym, ap, subst, ◌∙◌, arith}
+use Rattle.std.proofs.Common.{◌≡◌, ◌⊎◌, ◌^◌, ◌<◌, ◌≤◌, ℕ, zero, suc, List, [], ◌∷◌, length, Bool, true, if◌then◌else◌, Option, Some, None, Result, Ok, Err, IfSome, inl, inr, refl, sym, ap, subst, ◌∙◌, arith}
 use Rattle.std.proofs.KnownBytes.{Appends-nil, Keeps-refl}
 use Rattle.std.proofs.lemmas.Bool.{both_ways, cases_Bool, cases_lt, lt-ltb}
 use Rattle.std.specs.Io.KnownBytes.{Appends}
 use Rattle.b3tree.specs.declared.mode.Mode.{Mode}
 use Rattle.b3tree.specs.Valid.{AreBytes}
 use Rattle.b3tree.proofs.BlockWords.{AreBytes-nil}
-use Rattle.bao_files.specs.Disks.{FileState, Unknown, Absent, Stored}
+use Rattle.bao_files.specs.Disks.{FileState, IsKnown, Unknown, Absent, Stored}
+use Rattle.bao_files.specs.declared.fault.FileFault.{FileFault}
+use Rattle.bao_files.specs.declared.fault.FileFault.TheVariants.{Memory, Read}
 use Rattle.bao_text.specs.declared.kinds.Part.TheVariants.{Slice}
 use Rattle.bao_text.specs.Cut.{claimed, cut_text}
 use Rattle.bao_decode.specs.declared.decode_fault.DecodeFault.{DecodeFault}
@@ -21,12 +23,35 @@ use Rattle.bao_decode.specs.Ranges.{IsVerifiedText, written_count}
 use Rattle.bao_decode.specs.TextPass.{DecodeStops, EncodesKnown, LeavesWritten}
 use Rattle.bao_decode.specs.Weaving.{CutBesideStops, IsCutBeside, are_whole, woven_contents, woven_text}
 use Rattle.bao_decode.proofs.Cuttings.{cut_known, cut_text-few}
+use Rattle.bao_decode.proofs.Openings.{stored_is}
 use Rattle.bao_decode.proofs.Weavings.{whole_fits, whole_parents, woven_len}
+
+-- what is cut out of a known encoding is one text
+pub cut_is : (state : FileState) (text xs : List ℕ) (start len : ℕ) → state ≡ Stored text → length text < 2 ^ 64 → IsCutOf state start len xs → xs ≡ cut_text text start len
+cut_is state text xs start len there fits cut =
+    let all : cut.0 ≡ text = stored_is state cut.0 text there cut.1 in
+    subst (λ (t : List ℕ). xs ≡ cut_text t start len) all (cut.2 (subst (λ (t : List ℕ). length t < 2 ^ 64) (sym all) fits))
+
+-- and out of a known copy beside a known outboard encoding
+pub known_of : (state : FileState) (text : List ℕ) → state ≡ Stored text → IsKnown state
+known_of state text there = subst IsKnown (sym there) tt
+
+pub cut_beside_is : (outboard copy : FileState) (outline bytes xs : List ℕ) (start len : ℕ) → outboard ≡ Stored outline → copy ≡ Stored bytes
+    → are_whole (claimed outline) outline bytes ≡ true → IsCutBeside outboard copy start len xs → xs ≡ cut_text (woven_text (claimed outline) outline bytes) start len
+cut_beside_is outboard copy outline bytes xs start len at_outboard at_copy whole cut =
+    let o : cut.0 ≡ outline = stored_is outboard cut.0 outline at_outboard cut.2 in
+    let b : cut.1 ≡ bytes = stored_is copy cut.1 bytes at_copy cut.3 in
+    let also : are_whole (claimed cut.0) cut.0 cut.1 ≡ true = (λ i. are_whole (claimed (o i)) (o i) (b i)) ∙ whole in
+    cut.4 (known_of outboard outline at_outboard) (known_of copy bytes at_copy) also ∙ (λ i. cut_text (woven_text (claimed (o i)) (o i) (b i)) start len)
 
 -- there are as many bytes as any number
 long_list : (n : ℕ) → (xs : List ℕ) × AreBytes xs × (n ≤ length xs)
 long_list zero = ([], AreBytes-nil, omega arith)
 long_list (suc n) = let less = long_list n in (0 ∷ less.0, record { at = elim [ zero ↦ omega arith | suc k ↦ less.1.at k ] }, omega (arith, less.2))
+
+abbrev IsMemory : FileFault → Type 0
+IsMemory Memory = Unit {0}
+IsMemory _ = ⊥
 
 module _ (mode : Mode) (root : List ℕ) (start len : ℕ) where
   -- the encoding ends before its length does
@@ -73,8 +98,14 @@ module _ (mode : Mode) (root : List ℕ) (start len : ℕ) where
   slice_leaves text input disk file path old new (decode.File fault) sure short (inl memory) = inl memory.0
   slice_leaves text input disk file path old new (decode.File fault) sure short (inr (inl (is, inl fails, began))) = inr (inl (is, λ d. fails (sure d)))
   slice_leaves text input disk file path old new (decode.File fault) sure short (inr (inl (is, inr long, began))) = absurd (omega (arith, long, short))
-  slice_leaves text input disk file path old new (decode.File fault) sure short (inr (inr write)) = inr (inr write.0)
+  slice_leaves text input disk file path old new (decode.File fault) sure short (inr (inr write)) = inr (inr (write.0, write.1))
   slice_leaves text input disk file path old new (decode.Check fault) sure short leaves = leaves.0
+
+  -- and of a file that wasn't opened
+  pub unopened_stops : (text : List ℕ) (disk : Type 0) (file path : Bor (List ℕ)) (fault : FileFault) → (fault ≡ Memory) ⊎ (fault ≡ Read file) → (disk → fault ≡ Memory)
+      → DecodeStops mode root (Slice start len) disk text file path (decode.File fault)
+  unopened_stops text disk file path fault (inl memory) sure = inl memory
+  unopened_stops text disk file path fault (inr read) sure = inr (inl (read, λ d. subst IsMemory (sym (sure d) ∙ read) tt))
 
   -- and of a short encoding
   pub slice_stops : (state : FileState) (contents : Option (List ℕ)) (encoding : List ℕ) (input disk : Type 0) (file path : Bor (List ℕ)) (old new : Option (List ℕ)) (fault : DecodeFault)

@@ -40,20 +40,25 @@ abbrev pub LeavesUnknown : Bor (List ℕ) → Bor (List ℕ) → Option (List �
 LeavesUnknown file path old new (File fault) = ((fault ≡ Memory) × Keeps old new) ⊎ (fault ≡ Read file) ⊎ (fault ≡ Write path)
 LeavesUnknown file path old new (Check fault) = Keeps old new
 
--- what a fault says of a copy of these bytes: there was no memory; or a read of it answered a fault, which one that never fails doesn't; or writing
--- to the other path failed; or this is the copy's first fault
+-- what a fault says of a copy of these bytes: there was no memory; or a read of it answered a fault, which one that never fails doesn't; or the copy
+-- is accepted, and writing to the other path failed; or this is the copy's first fault
 abbrev pub CopyStops : Outline → Type 0 → List ℕ → Bor (List ℕ) → Bor (List ℕ) → DecodeFault → Type 0
-CopyStops outline faultless copy file path (File fault) = (fault ≡ Memory) ⊎ ((fault ≡ Read file) × ¬ faultless) ⊎ (fault ≡ Write path)
+CopyStops outline faultless copy file path (File fault) = (fault ≡ Memory) ⊎ ((fault ≡ Read file) × ¬ faultless) ⊎ ((fault ≡ Write path) × IsGoodCopy outline copy)
 CopyStops outline faultless copy file path (Check fault) = IsCopyFault outline copy fault
 
--- what it says of an outboard encoding and of a copy in files, on a disk of which no read fails that is without faults: this is the first fault of the
--- encoding, or that is accepted, and this is the first fault of the copy beside it
+-- what it says of an outboard encoding and of a copy in files, on a disk of which no read fails that is without faults: writing failed, and both are
+-- accepted; or this is the first fault of the encoding; or that is accepted, and this is the first fault of the copy beside it
 abbrev pub BesideStops : Mode → List ℕ → Type 0 → List ℕ → List ℕ → Bor (List ℕ) → Bor (List ℕ) → Bor (List ℕ) → DecodeFault → Type 0
 BesideStops mode root faultless outline copy outboard file path (File fault) =
-    (fault ≡ Memory) ⊎ ((fault ≡ Read outboard) × ¬ faultless) ⊎ ((fault ≡ Read file) × ¬ faultless) ⊎ (fault ≡ Write path)
+    (fault ≡ Memory) ⊎ ((fault ≡ Read outboard) × ¬ faultless) ⊎ ((fault ≡ Read file) × ¬ faultless) ⊎ ((fault ≡ Write path) × IsCopyBeside mode root outline copy)
 BesideStops mode root faultless outline copy outboard file path (Check fault) =
     IsFirstFault mode root outline (outboard_nodes outline) fault
     ⊎ (IsAccepted mode root outline (outboard_nodes outline) × IsBareFault mode root outline 0 (chunk_count (claimed outline)) copy fault)
+
+-- it says that the outboard encoding can't be read, or it is the first fault of its bytes, as far as these are known
+abbrev pub IsOfOutboard : FileState → Mode → List ℕ → Bor (List ℕ) → DecodeFault → Type 0
+IsOfOutboard state mode root outboard (File fault) = fault ≡ Read outboard
+IsOfOutboard state mode root outboard (Check fault) = (outline : List ℕ) → state ≡ Stored outline → IsFirstFault mode root outline (outboard_nodes outline) fault
 
 -- What was read of an outboard encoding is enough to tell whether it is accepted, and its first fault.
 pub record IsEnough (mode : Mode) (root all text : List ℕ) : Type 0 where

@@ -77,12 +77,6 @@ second_fault_of file path (Check fault) = decode.File (Read file)
 second_fault_of file path Input = decode.File (Read file)
 second_fault_of file path Output = decode.File (Write path)
 
--- and one that is the only one
-abbrev pub only_fault_of : Bor (List ℕ) → Bor (List ℕ) → PassFault → DecodeFault
-only_fault_of file path (Check fault) = decode.Check fault
-only_fault_of file path Input = decode.File (Read file)
-only_fault_of file path Output = decode.File (Write path)
-
 -- why the length at an encoding's start wasn't read: it isn't wholly there, or a read answered a fault, as none of a faultless source does
 abbrev pub StopsShort : Option (List ℕ) → Type 0 → PassFault → Type 0
 StopsShort contents faultless (Check fault) = (fault ≡ check.Short 0) × IfSome contents (λ s. length s < 8)

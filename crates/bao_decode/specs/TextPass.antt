@@ -60,12 +60,12 @@ LeavesWritten what mode root part faultless text file path old new (decode.File 
 LeavesWritten what mode root part faultless text file path old new (decode.Check fault) = IsTextFault (task_of_part mode root part) text fault × Keeps old new
 
 -- what one pass leaves, each block of which is written once it was verified: the first fault of an encoding; or no memory, and nothing was
--- written; or a read answered a fault, which one that never fails doesn't; or writing to the other path failed
+-- written; or a read answered a fault, which one that never fails doesn't; or the encoding is accepted, and writing to the other path failed
 abbrev pub LeavesDraft : Mode → List ℕ → Part → Type 0 → List ℕ → Bor (List ℕ) → Bor (List ℕ) → Option (List ℕ) → Option (List ℕ) → DecodeFault → Type 0
 LeavesDraft mode root part faultless text file path old new (decode.File fault) =
     ((fault ≡ Memory) × Keeps old new)
     ⊎ ((fault ≡ Read file) × (¬ faultless) × AppendsBeginning old new (part_bytes part text))
-    ⊎ ((fault ≡ Write path) × AppendsBeginning old new (part_bytes part text))
+    ⊎ ((fault ≡ Write path) × IsPartText mode root part text × AppendsBeginning old new (part_bytes part text))
 LeavesDraft mode root part faultless text file path old new (decode.Check fault) =
     IsTextFault (task_of_part mode root part) text fault × AppendsBeginning old new (part_bytes part text)
 
@@ -95,9 +95,9 @@ DraftsKnown mode root part faultless text file path old new (Ok count) =
 DraftsKnown mode root part faultless text file path old new (Err fault) = LeavesDraft mode root part faultless text file path old new fault
 
 -- what a fault says of a file that holds these bytes: there was no memory; or a read of it answered a fault, which on a disk without faults none
--- does; or writing to the other path failed; or this is the encoding's first fault
+-- does; or the encoding is accepted, and writing to the other path failed; or this is the encoding's first fault
 abbrev pub DecodeStops : Mode → List ℕ → Part → Type 0 → List ℕ → Bor (List ℕ) → Bor (List ℕ) → DecodeFault → Type 0
-DecodeStops mode root part faultless text file path (decode.File fault) = (fault ≡ Memory) ⊎ ((fault ≡ Read file) × ¬ faultless) ⊎ (fault ≡ Write path)
+DecodeStops mode root part faultless text file path (decode.File fault) = (fault ≡ Memory) ⊎ ((fault ≡ Read file) × ¬ faultless) ⊎ ((fault ≡ Write path) × IsPartText mode root part text)
 DecodeStops mode root part faultless text file path (decode.Check fault) = IsTextFault (task_of_part mode root part) text fault
 
 -- an encoding of these bytes was accepted, and what it has of the part, so many bytes, written

@@ -1,4 +1,4 @@
-// One pass over a plain copy that is read by position, in pieces: each is verified beside the outline, and written.
+// One pass over a plain copy, which is read by position, 256 KiB at a time. Each piece is verified beside the outline, then written.
 
 ghost use Rattle.std.specs.Prelude.{◌≡◌, ℕ, ◌+◌, ◌*◌, ◌^◌, ◌<◌, ◌≤◌, List, length, take, IfErr, IfOk, IfSome};
 ghost use Rattle.std.specs.Io.KnownBytes.{Appends};
@@ -14,24 +14,24 @@ use bao_read::Source;
 use bao_text::{chunk_count, write_text};
 use std::io::Write;
 
-// The most chunks of a piece: few enough to stay in a processor's cache.
+// The most chunks that are read at once: few enough to stay in a processor's cache.
 const PIECE_CHUNKS: u64 = 256;
 
-/// The room for a piece, and for the byte that may come after the last one.
+/// The length of the buffer: for these chunks, and for a byte that may follow the last one.
 pub(crate) const ROOM_LEN: usize = PIECE_CHUNKS as usize * CHUNK_LEN + 1;
 
 /// Why a pass ended early.
 #[derive(Clone, Copy, Debug, PartialEq, Eq)]
 pub(crate) enum PassFault {
-    /// The copy's first fault.
+    /// The input isn't accepted: its first fault.
     Check(CheckFault),
-    /// A read answered a fault.
+    /// A read failed.
     Input,
-    /// A write answered a fault, or took no byte.
+    /// A write failed, or wrote no byte.
     Output,
 }
 
-// Puts the source's bytes from the place `at` on to the front of `buf`, as many as there are, and answers how many.
+// Reads the source's bytes from offset `at` on to the front of `buf`, until it is full or the source ends. Returns how many.
 pub(crate) fn fill_most<S: Source>(source: &S, at: u64, buf: &mut [u8]) -> Result<usize, PassFault>
     requires { at + length buf.old ≤ 2 ^ 64 }
     ensures size { length buf.new ≡ length buf.old }
@@ -51,7 +51,7 @@ pub(crate) fn fill_most<S: Source>(source: &S, at: u64, buf: &mut [u8]) -> Resul
     Ok(filled)
 }
 
-// A fault of a piece that begins at the place `start` of the copy, as one of the copy.
+// The fault of a piece that begins at offset `start` of the copy, with its offset in the copy.
 fn fault_of_copy(fault: CheckFault, start: u64) -> CheckFault
     ensures { result ≡ fault_from start fault }
 {
@@ -69,7 +69,7 @@ fn fault_of_copy(fault: CheckFault, start: u64) -> CheckFault
     }
 }
 
-// How many bytes are asked for of so many chunks from chunk `first` on: with the last one, one byte more.
+// How many bytes to ask for, of `count` chunks from chunk `first` on: one more than they have if they include the last chunk.
 fn asked_len(total: u64, first: u64, count: u64) -> usize
     requires chunks { (1 ≤ count) × (first + count ≤ chunk_count total) }
     requires fits { 1024 * count < 2 ^ 64 }
@@ -88,8 +88,8 @@ fn asked_len(total: u64, first: u64, count: u64) -> usize
     }
 }
 
-// Reads the chunks from chunk `first` on, so many, verifies them, and answers how many bytes they are. With the last chunk one
-// byte more is asked for, which must not come.
+// Reads `count` chunks from chunk `first` on, verifies them, and returns how many bytes they have. After the last chunk one byte
+// more is asked for, which must not exist.
 fn read_piece<S: Source>(
     outline: &Outline<'_>,
     copy: &S,
@@ -109,7 +109,7 @@ fn read_piece<S: Source>(
     let room = asked_len(total, first, count);
     let len = fill_most(copy, start, &mut buf[..room])?;
     let piece = &buf[..len];
-    // A law, so that the proof has what it says: nothing runs.
+    // A lemma for the proof: no code runs.
     bytes_are(piece);
     match check_bare(outline, first, count, piece) {
         Ok(_) => Ok(len),
@@ -117,11 +117,10 @@ fn read_piece<S: Source>(
     }
 }
 
-/// Reads the copy once, in pieces through `buf`, verifies each beside the outline and writes it to `out`. Answers how many bytes
-/// the copy has.
+/// Reads the copy once, through `buf`, verifies each piece beside the outline, writes it to `out`, and returns how many
+/// bytes the copy has.
 ///
-/// Ends with the copy's first fault, where a read answers a fault, and where a write does or takes no byte; a beginning may
-/// have been written.
+/// Refuses with the copy's first fault, or if a read or a write fails; a beginning may have been written.
 pub(crate) fn copy_pass<S: Source, W: Write>(
     outline: &Outline<'_>,
     copy: &S,

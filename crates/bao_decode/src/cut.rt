@@ -1,4 +1,4 @@
-// A slice as it is cut out of a combined encoding that is read by position.
+// The slice that is cut out of a combined encoding, read by position.
 
 ghost use Rattle.std.specs.Prelude.{◌≡◌, ℕ, true, List, ◌+◌, ◌-◌, ◌*◌, ◌^◌, ◌<◌, ◌≤◌, ◌++◌, length, sum_by, IfErr, IfNone, IfOk, IfSome};
 ghost use Rattle.bao_text.specs.Cut.{cut_nodes};
@@ -13,24 +13,24 @@ use bao_read::Source;
 use bao_text::{Choice, LENGTH_LEN, PARENT_LEN, claimed, subtree_size};
 use std::io;
 
-// Bytes of an encoding's length, and of a parent, for places.
+// The lengths of an encoding's first field and of a parent, as offsets are computed.
 pub(crate) const HEADER_LEN: u128 = LENGTH_LEN as u128;
 
 pub(crate) const NODE_LEN: u128 = PARENT_LEN as u128;
 
-// No source has a byte at this place or after it.
+// No source has a byte at this offset or past it.
 const END: u128 = u64::MAX as u128;
 
-// Bytes that stand side by side in a combined encoding: `len` of them, from the place `at` on.
+// `len` adjacent bytes of a combined encoding, from offset `at` on.
 #[derive(Clone, Copy)]
 struct Run {
     at: u128,
     len: u128,
 }
 
-// Where the byte `skip` stands of the wanted nodes of the subtree over `n` bytes from chunk `number` on, which begins at the place `at` of a
-// combined encoding, with those of them that follow it there; and else how much of `skip` is left after them. It goes down only where a
-// subtree is wanted in part, so along the two edges of the wanted positions.
+// Finds byte `skip` of the wanted nodes of a subtree, with the wanted bytes that follow it directly in the combined encoding. If they have
+// fewer bytes, returns how many are left to skip. The subtree is over `n` bytes from chunk `number` on, and begins at offset `at` of the
+// encoding. The search descends only where a subtree is partly wanted: along the two edges of the wanted positions.
 fn find(choice: &Choice, number: u64, n: u64, at: u128, skip: u128) -> Result<Run, u128>
     requires range { 1024 * number + n ≤ 2 ^ 64 - 1 }
     requires room { at + subtree_size n < 2 ^ 128 }
@@ -71,8 +71,10 @@ fn find(choice: &Choice, number: u64, n: u64, at: u128, skip: u128) -> Result<Ru
     find(choice, middle, n - left_len, right_at, left)
 }
 
-/// The slice (`start`, `len`) as it is cut out of a combined encoding, which nobody has checked. A read of it is one read of the encoding, and
-/// gives what stands side by side there. It takes no memory, and keeps the encoding by reference.
+/// The slice (`start`, `len`) of a combined encoding, neither of them checked, as a source.
+///
+/// A read is one read of the encoding, and returns bytes that are adjacent there. It takes no memory, and borrows the
+/// encoding.
 #[derive(Drop)]
 pub(crate) struct Cut<'a, S: Source> {
     encoding: &'a S,
@@ -82,7 +84,7 @@ pub(crate) struct Cut<'a, S: Source> {
     len: u64,
 }
 
-// The length that an encoding claims: its first 8 bytes. `Short` at 0 where they aren't all there.
+// The length that an encoding claims in its first 8 bytes. `Short` at 0 if it has fewer.
 pub(crate) fn claimed_length<S: Source>(encoding: &S) -> Result<u64, PassFault>
     ensures claims { IfOk result (ClaimsLength (S.contents encoding.now)) }
     ensures fault { IfErr result (λ fault. StopsShort (S.contents encoding.now) (S.faultless encoding.now) fault) }
@@ -96,7 +98,8 @@ pub(crate) fn claimed_length<S: Source>(encoding: &S) -> Result<u64, PassFault>
 }
 
 impl<'a, S: Source> Cut<'a, S> {
-    /// That slice. The length that the encoding claims is read, once. `Short` at 0 where it isn't wholly there.
+    /// Returns that slice, and reads the length that the encoding claims. Refuses with `Short` at 0 if the encoding
+    /// has fewer than 8 bytes, and if a read fails.
     pub(crate) fn of(encoding: &'a S, start: u64, len: u64) -> Result<Cut<'a, S>, PassFault>
         ensures same { IfOk result (λ cut. (cut.encoding.now ≡ encoding.now) × (cut.start ≡ start) × (cut.len ≡ len)) }
         ensures claims { IfOk result (λ cut. ClaimsLength (S.contents encoding.now) cut.total) }
@@ -111,7 +114,7 @@ impl<'a, S: Source> Cut<'a, S> {
         })
     }
 
-    // Where the slice's byte `at` stands in the encoding, with those that follow it there, if the slice has it.
+    // Finds the slice's byte `at` in the encoding, with the slice's bytes that follow it directly there, if the slice has it.
     fn run_at(&self, at: u64) -> Option<Run>
         ensures some { IfSome result (λ run. (s : List ℕ) → GoesOn s (cut_as self.now.total self.now.start self.now.len s) at run.at run.len) }
         ensures len { IfSome result (λ run. 0 < run.len) }

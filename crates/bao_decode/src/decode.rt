@@ -1,4 +1,4 @@
-// An encoding in a file.
+// Decoding an encoding that is read from a file.
 
 ghost use Rattle.std.specs.Prelude.{◌≡◌, ◌⊎◌, ◌^◌, ◌<◌, ℕ, List, [], IfErr, IfOk, IfSome, IsSome, OnErr, OnOk, Some, length, true, false};
 ghost use Rattle.std.specs.Borrow.{Bor};
@@ -13,19 +13,19 @@ ghost use Rattle.bao_decode.specs.DecodeFaults.{IsQuietDecode, NamesDecodePaths}
 ghost use Rattle.bao_decode.specs.Ranges.{IsFileFault, IsPartText, IsVerifiedText, part_bytes, written_count};
 ghost use Rattle.bao_decode.specs.TextPass.{DecodeStops, DecodesKnown, DraftsKnown, IsDecoded, NamesDraftPaths};
 
+use crate::copy_pass::PassFault;
 use crate::decode_fault::DecodeFault;
-use crate::plain_copy::{first_fault, flushed, only_fault, regular_len, second_fault, shown_len};
-use crate::text_pass::{BLOCK_LEN, slice_of, text_pass};
+use crate::plain_copy::{first_fault, flushed, regular_len, second_fault, shown_len};
+use crate::text_pass::{BLOCK_LEN, slice_of, text_pass, verify_pass};
 use b3tree::{Hash, Mode};
 use bao_check::{CheckFault, Checked, check_stream, read_checked};
 use bao_files::{Disk, FileFault, Progress, Shown};
 use bao_read::Source;
 use bao_text::Part;
 use std::alloc::Global;
-use std::io;
 use std::io::{BufReader, Read, Write};
 
-// Whether the reader has a byte left, which is then read.
+// Whether the reader has a byte left. It reads that byte.
 fn has_more<R: Read>(reader: &mut R) -> Result<bool, CheckFault>
     ensures more { IfOk result (λ more. more ≡ true → IfSome (R.remaining reader.old) (λ left. 0 < length left)) }
     ensures end { IfOk result (λ more. more ≡ false → IfSome (R.remaining reader.old) (λ left. left ≡ [])) }
@@ -38,7 +38,7 @@ fn has_more<R: Read>(reader: &mut R) -> Result<bool, CheckFault>
     }
 }
 
-// The accepted piece, unless a byte comes after its encoding.
+// The accepted slice, unless a byte follows its encoding.
 fn ended<'a>(piece: Checked<'a>, has_more: bool) -> Result<Checked<'a>, CheckFault>
     requires { length (piece_text piece) < 2 ^ 64 }
     ensures ok { IfOk result (λ whole. (whole ≡ piece.entry) × (has_more ≡ false)) }
@@ -51,13 +51,16 @@ fn ended<'a>(piece: Checked<'a>, has_more: bool) -> Result<Checked<'a>, CheckFau
     Ok(piece)
 }
 
-/// Reads all that `reader` has into `text`, which is empty, and checks it as the slice of `len` bytes from
-/// byte `start` on.
+/// Reads all that `reader` has into `text`, which must be empty, and returns it as the accepted slice of `len`
+/// bytes from byte `start` on.
 ///
-/// Refuses an encoding by its first fault: 501 `Short`, 502 `Mismatch`, each with the offset of its node. Where the
-/// encoding is accepted one more byte is asked for, and one that comes is 503 `Trailing` at the encoding's end. 504
-/// `Memory` comes where there is no room for a node, and 505 `Reader` where a read answers a fault. After
-/// each the vector has what was read of the encoding.
+/// The encoding is checked node by node while it is read, as the Bao specification says, so that `text` doesn't
+/// grow past its first fault. Once it is accepted, one more byte is read, which must not exist. `text` has what
+/// was read of the encoding, also after a refusal.
+///
+/// Refuses an encoding by its first fault: with `Short` (501) or `Mismatch` (502) and the offset of the node, and
+/// with `Trailing` (503) and the offset of the encoding's end if a byte follows it. Refuses with `Memory` (504) if
+/// there is none for a node, and with `Reader` (505) if a read fails.
 pub fn read_text<'a, R: Read>(
     alloc: Global,
     mode: &Mode,
@@ -76,7 +79,7 @@ pub fn read_text<'a, R: Read>(
     ended(piece, has_more(reader)?)
 }
 
-// Room for a block of an encoding, and for what it has of the blob.
+// Two buffers: for a block of an encoding, and for the blob's bytes in it.
 pub(crate) fn rooms(alloc: Global) -> Option<(Vec<u8>, Vec<u8>)>
     ensures { IfSome result (λ rooms. (length rooms.0.items ≡ 294912) × (length rooms.1.items ≡ 294912)) }
 {
@@ -89,7 +92,7 @@ pub(crate) fn rooms(alloc: Global) -> Option<(Vec<u8>, Vec<u8>)>
     Some((block, room))
 }
 
-// Writes what an encoding that was verified has of the part.
+// Writes the part's bytes of an encoding that was verified before. Each block is verified again before its bytes are written.
 fn write_verified<'a, S: Source, W: Write>(
     mode: &Mode,
     root: &Hash,
@@ -114,16 +117,19 @@ fn write_verified<'a, S: Source, W: Write>(
     }
 }
 
-/// Verifies all of an encoding of the part of the blob with this root, writes what it has of the part to `out`, the file at `path`,
-/// which is flushed, and answers how many bytes the part has. `source`, the file at `file`, is read twice by position, in blocks, so that the
-/// memory that this takes is that of two blocks: once to verify it, and once to write it, where each block is verified again before what it has is
-/// written.
+/// Verifies an encoding of this part of the blob with this root, then writes the part's bytes to `out`, and returns
+/// how many the part has.
 ///
-/// Nothing is written before all of it was verified. Refuses an encoding by its first fault (`Check`): 501 `Short`, 502 `Mismatch`, each
-/// with the offset of its node, 503 `Trailing` with the encoding's end, and 504 `Memory` where it is longer than any file;
-/// then nothing was written, nor after `File` with `Memory`. `File` with `Read` and the path comes where a read
-/// answers a fault, and where the encoding has changed between the two; after it, and after `File` with `Write` and the other
-/// path, a beginning may stand.
+/// `source` is the encoding, in the file at `file`, and `out` the file at `path`, which is flushed. The encoding is
+/// read twice by position, in blocks of 288 KiB: first to verify all of it, then to write it, where each block is
+/// verified again before its bytes are written. The memory is that of two blocks.
+///
+/// Refuses with `Check` and the encoding's first fault, as the Bao specification orders them: `Short` (501) or
+/// `Mismatch` (502) with the offset of the node, `Trailing` (503) with the offset of the encoding's end, or `Memory`
+/// (504) if the encoding is longer than any file. Refuses with `File` and `Memory` if there is none for the blocks.
+/// In these cases nothing was written. Refuses with `File`, `Read` and `file` if a read fails, or if the encoding
+/// has changed after the first pass; and with `File`, `Write` and `path` if writing fails, which happens only if the
+/// encoding was accepted. After these two a beginning of the part's bytes may have been written.
 pub fn write_decoded<'a, S: Source, W: Write>(
     alloc: Global,
     mode: &Mode,
@@ -142,17 +148,15 @@ pub fn write_decoded<'a, S: Source, W: Write>(
     let Some((mut block, mut room)) = rooms(alloc) else {
         return Err(DecodeFault::File(FileFault::Memory));
     };
-    let mut nowhere = io::sink();
-    match text_pass(
+    match verify_pass(
         mode,
         root,
         part,
         source,
         block.as_mut_slice(),
         room.as_mut_slice(),
-        &mut nowhere,
     ) {
-        Ok(_) => {}
+        Ok(()) => {}
         Err(fault) => return Err(first_fault(fault, file)),
     }
     write_verified(
@@ -168,11 +172,17 @@ pub fn write_decoded<'a, S: Source, W: Write>(
     )
 }
 
-/// As `write_decoded`, in one pass over the encoding: what a block has is written as soon as the block was verified. So it is for an
-/// output that nobody sees before the pass has ended well.
+/// Writes the part's bytes of an encoding to `out` while the encoding is verified, and returns how many the part has.
 ///
-/// Refuses an encoding by its first fault, as `write_decoded` does; after it, and after `File` with `Read` or with `Write`, a beginning may have
-/// been written. Nothing was after `File` with `Memory`.
+/// The parameters are those of [`write_decoded`]. The encoding is read once: a block's bytes are written as soon as
+/// the block is verified. So `out` must be an output that nobody reads before this has returned `Ok`, such as a draft
+/// that replaces a file later. If a write fails, the encoding is read once more from its start, to find out whether
+/// it is accepted: its own fault is returned rather than that of the output.
+///
+/// Refuses with `Check` and the encoding's first fault, as [`write_decoded`] does; with `File`, `Read` and `file` if a
+/// read fails; and with `File`, `Write` and `path` if writing fails and the encoding is accepted. After these three a
+/// beginning of the part's bytes may have been written. Refuses with `File` and `Memory` if there is none for the
+/// blocks; nothing was then written.
 pub fn write_draft<'a, S: Source, W: Write>(
     alloc: Global,
     mode: &Mode,
@@ -200,13 +210,27 @@ pub fn write_draft<'a, S: Source, W: Write>(
         room.as_mut_slice(),
         out,
     ) {
-        Ok(count) => flushed(count, path, out),
-        Err(fault) => Err(only_fault(fault, file, path)),
+        Ok(count) => return flushed(count, path, out),
+        Err(PassFault::Check(fault)) => return Err(DecodeFault::Check(fault)),
+        Err(PassFault::Input) => return Err(DecodeFault::File(FileFault::Read(file))),
+        Err(PassFault::Output) => {}
+    }
+    // A write failed. If the encoding isn't accepted, its fault is returned instead.
+    match verify_pass(
+        mode,
+        root,
+        part,
+        source,
+        block.as_mut_slice(),
+        room.as_mut_slice(),
+    ) {
+        Ok(()) => Err(DecodeFault::File(FileFault::Write(path))),
+        Err(fault) => Err(first_fault(fault, file)),
     }
 }
 
-// Reads the encoding in `input`, the file at `path`, into `text`, which is empty, and checks it node by node, since what isn't a
-// regular file may go on after a fault.
+// Reads the encoding in `input`, the file at `path`, into `text`, which is empty. It is checked node by node, because an input that
+// isn't a regular file may never end after a fault.
 fn read_input_text<'a, I: Read + Drop>(
     alloc: Global,
     mode: &Mode,
@@ -241,7 +265,7 @@ fn read_input_text<'a, I: Read + Drop>(
     }
 }
 
-// Writes what an encoding has of the part that can't be read twice: it is kept.
+// Writes the part's bytes of an encoding that can't be read twice: it is read into memory first.
 fn write_kept<'a, I: Read + Drop, W: Write>(
     alloc: Global,
     mode: &Mode,
@@ -277,8 +301,8 @@ fn write_kept<'a, I: Read + Drop, W: Write>(
     )
 }
 
-// Verifies the encoding in `input`, the file at `file`, from which nobody has read, and writes what it has of the part to `out`, the file at
-// `path`. How far a long regular one has been read is told to `progress`.
+// Verifies the encoding in `input`, the file at `file` as it was opened, and writes the part's bytes to `out`, the file at `path`. The
+// progress of reading a long regular file is reported to `progress`.
 fn write_input<'a, D: Disk, P: Progress>(
     alloc: Global,
     disk: &D,
@@ -313,17 +337,22 @@ fn write_input<'a, D: Disk, P: Progress>(
     }
 }
 
-/// Checks the encoding in the file at `file` as that of the part of the blob with this root, writes what it has of the part to the file at
-/// `path`, which it replaces once all was accepted, both on `disk`, and answers how many bytes the part has.
+/// Decodes the encoding in the file at `file` to the file at `path`, both on `disk`, and returns how many bytes the
+/// part has.
 ///
-/// A regular file is read once, as `write_draft` does, and twice, as `write_decoded` does, where the output can't be replaced
-/// ([`Disk::is_replaced`]). Any other, as a pipe, is read node by node, since it may go on after a fault, and kept; and so is a file that an output
-/// which can't be replaced is written over, under whatever name. How far a regular file of 4 MiB or more has been read is told to `progress`, which
-/// has no part in the answer: once, where it is read twice.
+/// The encoding is checked as that of this part of the blob with this root, and `path` gets the part's bytes, in
+/// place of what was there, once all of the encoding is accepted. A regular file is read once, as [`write_draft`]
+/// does, or twice, as [`write_decoded`] does, if the output can't be replaced atomically ([`Disk::is_replaced`]). Any
+/// other file, such as a pipe, is checked node by node and read into memory. So is a file that is the output itself,
+/// under any name, if that can't be replaced. The progress of a regular file of 4 MiB or more is reported to
+/// `progress`, for the first of two passes only, which doesn't affect the result.
 ///
-/// Refuses a file that can't be opened or read (`File` with `Read`), an encoding that is not accepted (`Check`), by its first fault, and an output
-/// that can't be made or written (`File` with `Write`). After each fault all files are as they were, but one that can't be
-/// replaced: there a beginning may stand after a fault of writing it, and of an encoding that changes while it is read, and can't be read so.
+/// Refuses with `File` and `Read` if the file can't be opened or read; with `Check` and the encoding's first fault, as
+/// [`write_decoded`] does; with `File` and `Write` if the output can't be created, written or replaced, which is found
+/// only if the encoding is accepted; and with `File` and `Memory`, or `Check` and `Memory` (504) for a file that is read
+/// into memory. After a refusal all files are unchanged, if the output can be replaced. If it can't, it may have a
+/// beginning of the part's bytes after `Write`, and after `Read` in the second pass, if the file can't be read again or
+/// has changed.
 pub fn decode_on<'a, D: Disk, P: Progress>(
     alloc: Global,
     disk: &mut D,

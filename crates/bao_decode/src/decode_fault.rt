@@ -2,13 +2,13 @@ use bao_check::CheckFault;
 use bao_files::FileFault;
 use thiserror::Error;
 
-/// Why a file was not decoded, with the text that the program prints of it.
+/// Why a file was not decoded. Displayed as the program prints it.
 #[derive(Clone, Copy, Debug, Error)]
 pub enum DecodeFault<'a> {
-    /// A file was not read or written.
+    /// A file can't be read or written, or memory ran out.
     #[error("{0}")]
     File(FileFault<'a>),
-    /// The encoding was not accepted: its first fault.
+    /// The encoding, or the plain copy, isn't accepted: its first fault.
     #[error("{0}")]
     Check(CheckFault),
 }
@@ -17,7 +17,7 @@ impl DecodeFault<'_> {
     ghost use Rattle.std.specs.Prelude.{◌≡◌};
     ghost use Rattle.bao_decode.specs.DecodeFaults.{decode_number_of};
 
-    /// The fault's number, where its text has one: 401, or 501 to 504.
+    /// Returns the number of the fault, if it has one: 401, or 501 to 504.
     pub fn code(&self) -> Option<u16>
         ensures { result ≡ decode_number_of self.now }
     {

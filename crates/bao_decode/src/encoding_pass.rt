@@ -1,4 +1,4 @@
-// One pass over an encoding that is read by position, in blocks: each is verified, and written as it stands.
+// One pass over an encoding, which is read by position, in blocks. Each block is verified, then written as it is.
 
 ghost use Rattle.std.specs.Prelude.{◌≡◌, ℕ, ◌≤◌, ◌^◌, List, length, IfErr, IfOk, IfSome};
 ghost use Rattle.std.specs.Io.KnownBytes.{Appends};
@@ -13,11 +13,10 @@ use bao_read::Source;
 use bao_text::{LENGTH_LEN, Part, claimed, write_text};
 use std::io::Write;
 
-/// Reads an encoding once, in blocks, verifies it as that of the part of the blob with this root, and writes each block's bytes to `out` once
-/// they are verified. Answers how many positions the part has, in the length that the encoding claims.
+/// Reads an encoding once, in blocks, verifies it as that of this part of the blob with this root, writes each block to
+/// `out` once it is verified, and returns how many bytes the part has.
 ///
-/// Ends with the encoding's first fault, where a read answers a fault, and where a write does or takes no byte; a beginning may
-/// have been written.
+/// Refuses with the encoding's first fault, or if a read or a write fails; a beginning may have been written.
 pub(crate) fn encoding_pass<S: Source, W: Write>(
     mode: &Mode,
     root: &Hash,
@@ -36,7 +35,7 @@ pub(crate) fn encoding_pass<S: Source, W: Write>(
         EncodingStops (task_of_part mode.now root.now.0 part.now) (S.faultless source.now) s (W.contents out.old) (W.contents out.new) fault)) }
 {
     let (mut checking, header) = begin(mode, root, part, source)?;
-    // A law, here and below, so that the proof has what it says: nothing runs.
+    // A lemma for the proof, here and below: no code runs.
     bytes_are(&header);
     let (first, last) = written_of(part, claimed(&header));
     match write_text(&header, out) {

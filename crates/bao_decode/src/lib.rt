@@ -1,4 +1,4 @@
-//! Encodings and plain copies in files, and what they have of a blob, or a slice of it, written once it was verified.
+//! Encodings and plain copies in files, decoded to files; slices cut out of them. Only verified bytes are written.
 #![tactic(auto)]
 
 pub use decode::{decode_on, read_text, write_decoded, write_draft};

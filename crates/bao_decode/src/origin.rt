@@ -1,4 +1,4 @@
-// What a slice is cut out of: a file.
+// The file that a slice is cut out of.
 
 ghost use Rattle.std.specs.Prelude.{◌≡◌, ◌⊎◌, IfErr, IfOk, IsSome};
 ghost use Rattle.bao_files.specs.Disks.{IsStored};
@@ -11,7 +11,7 @@ use bao_read::Source;
 use std::alloc::Global;
 use std::io;
 
-/// A regular file, which is read where it lies, or all that it had.
+/// A regular file, which is read by position, or all bytes that it had.
 #[derive(Drop)]
 pub(crate) enum Origin<I> {
     Placed(I),
@@ -31,9 +31,10 @@ impl<I: Source> Source for Origin<I> {
     }
 }
 
-/// The file at `path`, for what is written to `out`, the file at `out_path`. One that would be written over while it is read is read first, and held.
+/// Opens the file at `path`, to be read while `out`, the file at `out_path`, is written.
 ///
-/// What can't be opened, or isn't a regular file and so can't be read by position, can't be read (`Read`).
+/// If they are one file, which can't be replaced atomically, all of it is read into memory first. Refuses with `Read` and
+/// `path` if the file can't be opened or read, or isn't regular, and with `Memory`.
 pub(crate) fn origin_of<'a, D: Disk>(
     alloc: Global,
     disk: &D,

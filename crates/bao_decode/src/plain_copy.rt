@@ -1,4 +1,4 @@
-// A plain copy beside an outboard encoding.
+// Verifying a plain copy beside an outboard encoding.
 
 ghost use Rattle.std.specs.Borrow.{Bor};
 ghost use Rattle.std.specs.Prelude.{◌≡◌, ◌⊎◌, ◌+◌, ◌-◌, ◌*◌, ◌^◌, ◌<◌, ◌≤◌, ℕ, List, IfErr, IfOk, IfSome, IsSome, OnErr, Some, length, min, take};
@@ -12,9 +12,9 @@ ghost use Rattle.bao_text.specs.Choice.{chunk_count};
 ghost use Rattle.bao_text.specs.Cut.{claimed};
 ghost use Rattle.bao_files.specs.Disks.{AreOf, Absent, IsKnown, IsStored, KeepsFiles, Puts, Stored};
 ghost use Rattle.bao_files.specs.Extents.{extent_of};
-ghost use Rattle.bao_decode.specs.Copies.{BesideStops, CopiesKnown, CopyStops, IsCopyBeside, IsEnough, IsEnoughOf, LeavesUnknown};
+ghost use Rattle.bao_decode.specs.Copies.{BesideStops, CopiesKnown, CopyStops, IsCopyBeside, IsEnough, IsEnoughOf, IsOfOutboard, LeavesUnknown};
 ghost use Rattle.bao_decode.specs.Opened.{IsNotThere, IsUnread};
-ghost use Rattle.bao_decode.specs.CopyPass.{IsVerifiedCopy, first_fault_of, only_fault_of, second_fault_of};
+ghost use Rattle.bao_decode.specs.CopyPass.{IsVerifiedCopy, first_fault_of, second_fault_of};
 ghost use Rattle.bao_decode.specs.DecodeFaults.{IsQuietDecode, NamesDecodePaths, NamesEither};
 
 use crate::copy_pass::{PassFault, ROOM_LEN, copy_pass, fill_most};
@@ -28,13 +28,13 @@ use std::alloc::Global;
 use std::io;
 use std::io::{Read, Write};
 
-// So many bytes of an outboard encoding are looked at before more is read.
+// How many bytes of an outboard encoding are checked before more is read.
 const FIRST_LEN: u64 = 1 << 16;
 
-// How far a file of fewer bytes has been read isn't told.
+// The progress of reading a shorter file isn't reported.
 const LEAST_SHOWN_LEN: u64 = 4 << 20;
 
-// A fault of reading, as one of the program.
+// A fault of reading the file at `path`.
 fn read_fault<'a>(fault: InputFault, path: &'a str) -> FileFault<'a>
     ensures { (result ≡ FileFault.Memory) ⊎ (result ≡ FileFault.Read path.entry) }
 {
@@ -44,8 +44,8 @@ fn read_fault<'a>(fault: InputFault, path: &'a str) -> FileFault<'a>
     }
 }
 
-// How many bytes of an outboard encoding matter that begins so: as many as it claims to have, and one more, which it must not
-// have. No more matter where it is refused for its beginning.
+// How many bytes have to be read of an outboard encoding that begins with `text`: as many as it claims to have, and one more, which
+// must not exist. 0 if it is already refused for this beginning.
 fn outboard_limit(alloc: Global, mode: &Mode, root: &Hash, text: &[u8]) -> u64
     ensures accepted { IsAccepted mode.now root.now.0 text.now (outboard_nodes text.now) → length text.now < result }
     ensures claims { 0 < result → (8 ≤ length text.now) × (result ≡ 8 + 64 * (chunk_count (claimed text.now) - 1) + 1) }
@@ -62,7 +62,7 @@ fn outboard_limit(alloc: Global, mode: &Mode, root: &Hash, text: &[u8]) -> u64
     u64::try_from(outboard_len(claimed(text)) + 1).unwrap_or(u64::MAX)
 }
 
-// The first bytes of what is read by position, so many, or all where these are fewer.
+// The first `len` bytes of a source, or all of them if there are fewer.
 fn front_of<'a, S: Source>(
     alloc: Global,
     source: &S,
@@ -84,7 +84,7 @@ fn front_of<'a, S: Source>(
     }
 }
 
-// What matters of an outboard encoding in a regular file, which is said to have `size` bytes.
+// As much as has to be read of the outboard encoding in a regular file that is said to have `size` bytes.
 fn placed_outboard<'a, S: Source>(
     alloc: Global,
     mode: &Mode,
@@ -106,11 +106,11 @@ fn placed_outboard<'a, S: Source>(
     if more.len() as u64 <= size {
         return Ok(more);
     }
-    // It has more than it is said to have.
+    // The file has grown.
     front_of(alloc, source, limit, path)
 }
 
-// What matters of one that can't be read by position, as one from a pipe.
+// As much as has to be read of one that can't be read by position, such as a pipe.
 fn streamed_outboard<'a, I: Read + Drop>(
     alloc: Global,
     mode: &Mode,
@@ -134,8 +134,11 @@ fn streamed_outboard<'a, I: Read + Drop>(
     }
 }
 
-/// What matters of the outboard encoding in the file at `path` on `disk`: its first 64 KiB, and if these are good, as many bytes as it
-/// claims to have, and one. So it is all of the file, where it is accepted, and has the file's first fault, where it isn't.
+/// Returns as much of the outboard encoding in the file at `path` on `disk` as decides whether it is accepted.
+///
+/// The first 64 KiB are read, and if they have no fault, as many bytes as the encoding claims to have, and one more.
+/// If the result is accepted, it is the whole file. If not, its first fault is that of the file. Refuses with `Read`
+/// and `path` if the file can't be opened or read, and with `Memory`.
 pub fn read_outboard_on<'a, D: Disk>(
     alloc: Global,
     disk: &D,
@@ -154,7 +157,7 @@ pub fn read_outboard_on<'a, D: Disk>(
     }
 }
 
-// A copy that can't be read by position, as one from a pipe: at most so many bytes as the outline claims, and one.
+// The bytes of a copy that can't be read by position, such as a pipe: at most as many as the outline claims, and one more.
 fn read_copy<'a, I: Read + Drop>(
     alloc: Global,
     outline: &Outline<'_>,
@@ -172,7 +175,7 @@ fn read_copy<'a, I: Read + Drop>(
     }
 }
 
-// A fault of the first pass, which writes to a sink: that takes everything, and has no fault.
+// A fault of the first pass over `file`. That pass writes nothing, or to a sink, which never fails: `Output` can't come.
 pub(crate) fn first_fault<'a>(fault: PassFault, file: &'a str) -> DecodeFault<'a>
     ensures { result ≡ first_fault_of file.entry fault }
 {
@@ -183,7 +186,7 @@ pub(crate) fn first_fault<'a>(fault: PassFault, file: &'a str) -> DecodeFault<'a
     }
 }
 
-// A fault of the second: a copy that isn't accepted any more has changed, and can't be read.
+// A fault of the second pass: input that isn't accepted any more has changed, which counts as a failed read.
 pub(crate) fn second_fault<'a>(fault: PassFault, file: &'a str, path: &'a str) -> DecodeFault<'a>
     ensures { result ≡ second_fault_of file.entry path.entry fault }
 {
@@ -193,18 +196,7 @@ pub(crate) fn second_fault<'a>(fault: PassFault, file: &'a str, path: &'a str) -
     }
 }
 
-// A fault of a pass that is the only one.
-pub(crate) fn only_fault<'a>(fault: PassFault, file: &'a str, path: &'a str) -> DecodeFault<'a>
-    ensures { result ≡ only_fault_of file.entry path.entry fault }
-{
-    match fault {
-        PassFault::Check(fault) => DecodeFault::Check(fault),
-        PassFault::Input => DecodeFault::File(FileFault::Read(file)),
-        PassFault::Output => DecodeFault::File(FileFault::Write(path)),
-    }
-}
-
-// The count, once the writer was flushed.
+// Flushes the writer, the file at `path`, and returns the count.
 pub(crate) fn flushed<'a, W: Write>(
     count: u64,
     path: &'a str,
@@ -220,15 +212,18 @@ pub(crate) fn flushed<'a, W: Write>(
     }
 }
 
-/// Verifies all of a plain copy beside the outline, writes it to `out`, the file at `path`, which is flushed, and answers how many
-/// bytes it has. `copy`, the file at `file`, is read twice by position, in pieces of 256 KiB, so that the memory that this takes is
-/// that of a piece: once to verify it, and once to write it, where each piece is verified again before it is written.
+/// Verifies a plain copy beside the outline, then writes it to `out`, and returns how many bytes it has.
 ///
-/// Nothing is written before all of it was verified. Refuses a copy by its first fault (`Check`), at its place in the copy: 501
-/// `Short` at a chunk that isn't wholly there, 502 `Mismatch` at one that hasn't the outline's value, 503 `Trailing` at what
-/// follows the last; then nothing was written, nor after `File` with `Memory`. `File` with `Read` and the copy's path comes where
-/// a read answers a fault, and where the copy has changed between the two; after it, and after `File` with `Write`
-/// and the other path, a beginning may stand.
+/// `copy` is the file at `file`, and `out` the file at `path`, which is flushed. The copy is read twice by position,
+/// 256 KiB at a time: first to verify all of it, then to write it, where each 256 KiB are verified again before they
+/// are written. They are all the memory that is needed.
+///
+/// Refuses with `Check` and the first fault of the copy, with its offset there: `Short` (501) at a chunk that isn't
+/// complete, `Mismatch` (502) at a chunk that doesn't have the outline's chaining value, or `Trailing` (503) at the
+/// end that the outline claims, if bytes follow it. Refuses with `File` and `Memory` if there is none. In these cases
+/// nothing was written. Refuses with `File`, `Read` and `file` if a read fails, or if the copy has changed after the
+/// first pass; and with `File`, `Write` and `path` if writing fails, which happens only if the copy was accepted.
+/// After these two a beginning of the copy may have been written.
 pub fn write_copy<'a, S: Source, W: Write>(
     alloc: Global,
     outline: &Outline<'_>,
@@ -255,7 +250,7 @@ pub fn write_copy<'a, S: Source, W: Write>(
     }
 }
 
-// How many bytes a regular file is said to have: only such a one is read by position.
+// The length that is given for a regular file. Only regular files are read by position.
 pub(crate) fn regular_len(extent: Option<Extent>) -> Option<u64>
     ensures { (s : List ℕ) → extent ≡ Some (extent_of s) → result ≡ Some (length s) }
 {
@@ -265,13 +260,13 @@ pub(crate) fn regular_len(extent: Option<Extent>) -> Option<u64>
     }
 }
 
-// The length of a file of which it is told how far it has been read: only that of a long one.
+// The length of a file whose progress is reported, which is done only for a long one.
 pub(crate) fn shown_len(len: u64) -> Option<u64> {
     (len >= LEAST_SHOWN_LEN).then_some(len)
 }
 
-// Verifies the copy in `input`, the file at `file`, from which nobody has read, and writes it to `out`, the file at `path`. How far a long regular
-// one has been read is told to `progress`.
+// Verifies the copy in `input`, the file at `file` as it was opened, and writes it to `out`, the file at `path`. The progress of reading a
+// long regular file is reported to `progress`.
 fn write_input<'a, D: Disk, P: Progress>(
     alloc: Global,
     disk: &D,
@@ -299,18 +294,22 @@ fn write_input<'a, D: Disk, P: Progress>(
     write_copy(alloc, outline, &bytes.as_slice(), file, out, path)
 }
 
-/// Checks the encoding in the file at `outboard` as the outboard encoding of the blob with this root, verifies the plain copy at `copy` beside
-/// it, writes that to the file at `path`, which it replaces once all was accepted, all three on `disk`, and answers how many bytes it has.
+/// Verifies the plain copy at `copy` beside the outboard encoding at `outboard`, writes it to the file at `path`, all
+/// three on `disk`, and returns how many bytes it has.
 ///
-/// Of the outboard encoding no more is read than its first 64 KiB where these are refused, nor than one byte more than it claims to have.
-/// A copy that is a regular file is read twice, in pieces. Of any other, as a pipe, one byte more is read than the outboard encoding claims, and
-/// kept; and so it is of a copy that an output which can't be replaced ([`Disk::is_replaced`]) is written over, under whatever name. How far a
-/// regular copy of 4 MiB or more has been read, the first time, is told to `progress`, which has no part in the answer.
+/// The encoding is checked first, as the outboard encoding of the blob with this root, then the copy beside it; `path`
+/// gets the copy, in place of what was there, once all of both is accepted. No more is read of the encoding than
+/// [`read_outboard_on`] says. A regular copy is read twice, as [`write_copy`] does. Of any other copy, such as a pipe,
+/// at most one byte more than the encoding claims is read, into memory. The same is done with a copy that is the
+/// output itself, under any name, if that can't be replaced atomically ([`Disk::is_replaced`]). The progress of the
+/// first pass over a regular copy of 4 MiB or more is reported to `progress`, which doesn't affect the result.
 ///
-/// Refuses files that can't be opened or read (`File` with `Read`), the outboard encoding before the copy is opened, and the
-/// copy, each by its first fault (`Check`), and an output that can't be made or written (`File` with `Write`). A copy that
-/// changes while it is read can't be read. After each fault all files are as they were, but one that can't be replaced: there a
-/// beginning may stand after a fault of writing it, and of a copy that has changed.
+/// Refuses with `File` and `Read` if one of the two files can't be opened or read; with `Check` and the first fault of
+/// the encoding, before the copy is opened; with `Check` and the first fault of the copy, as [`write_copy`] does; with
+/// `File` and `Write` if the output can't be created, written or replaced, which is found only if both are accepted;
+/// and with `File` and `Memory`. After a refusal all files are unchanged, if the output can be replaced. If it can't,
+/// it may have a beginning of the copy after `Write`, and after `Read` in the second pass, if the copy can't be read
+/// again or has changed.
 pub fn decode_copy_on<'a, D: Disk, P: Progress>(
     alloc: Global,
     disk: &mut D,
@@ -327,11 +326,12 @@ pub fn decode_copy_on<'a, D: Disk, P: Progress>(
     ensures refused { IfErr result (λ fault. IsKnown (D.at disk.old path.now) → (outline bytes : List ℕ) → D.at disk.old outboard.now ≡ Stored outline
         → D.at disk.old copy.now ≡ Stored bytes → BesideStops mode.now root.now.0 (D.faultless disk.old) outline bytes outboard.entry copy.entry path.entry fault) }
     ensures absent { IfErr result (λ fault. D.at disk.old outboard.now ≡ Absent → IsNotThere outboard.entry fault) }
+    ensures no_copy { IfErr result (λ fault. D.at disk.old copy.now ≡ Absent → IsNotThere copy.entry fault ⊎ IsOfOutboard (D.at disk.old outboard.now) mode.now root.now.0 outboard.entry fault) }
     ensures err { IfErr result IsQuietDecode }
     ensures paths { IfErr result (NamesEither outboard.entry copy.entry path.entry) }
 {
     let text = read_outboard_on(alloc, disk, mode, root, outboard)?;
-    // A law, so that the proof has what it says: nothing runs.
+    // A lemma for the proof: no code runs.
     bytes_are(text.as_slice());
     let outline = match check_outboard(alloc, mode, root, text.as_slice()) {
         Ok(outline) => outline,

@@ -1,8 +1,10 @@
-// A slice that is cut out of a combined encoding, and verified.
+// Cutting a slice out of a combined encoding, or of an outboard encoding and a copy, and verifying it.
 
-ghost use Rattle.std.specs.Prelude.{◌≡◌, ◌^◌, ◌<◌, ℕ, List, length, IfErr, IfOk, IfSome, OnErr, OnOk, Some, true};
+ghost use Rattle.std.specs.Prelude.{◌≡◌, ◌⊎◌, ◌^◌, ◌<◌, ℕ, List, length, IfErr, IfOk, IfSome, OnErr, OnOk, Some, true};
 ghost use Rattle.std.specs.Io.KnownBytes.{Appends};
 ghost use Rattle.bao_files.specs.Disks.{Absent, IsKnown, KeepsFiles, Puts, Stored};
+ghost use Rattle.bao_files.specs.declared.fault.FileFault.TheVariants as FileFault;
+ghost use Rattle.bao_decode.specs.declared.decode_fault.DecodeFault.TheVariants as DecodeFault;
 ghost use Rattle.bao_text.specs.declared.kinds.Part.TheVariants as Part;
 ghost use Rattle.bao_text.specs.Cut.{claimed, cut_text};
 ghost use Rattle.bao_text.specs.Texts.{combined_text, outboard_text, slice_text};
@@ -20,16 +22,16 @@ use crate::decode_fault::DecodeFault;
 use crate::encoding_pass::encoding_pass;
 use crate::origin::origin_of;
 use crate::plain_copy::{first_fault, flushed, second_fault};
+use crate::text_pass::verify_pass;
 use crate::woven::Woven;
 use b3tree::{Hash, Mode};
 use bao_files::{Disk, FileFault};
 use bao_read::Source;
 use bao_text::Part;
 use std::alloc::Global;
-use std::io;
 use std::io::Write;
 
-// Verifies an encoding of the part, which is read twice, and writes it as it stands.
+// Verifies an encoding of the part in a first pass, and writes the encoding itself in a second.
 fn write_encoding<'a, S: Source, W: Write>(
     alloc: Global,
     mode: &Mode,
@@ -48,17 +50,15 @@ fn write_encoding<'a, S: Source, W: Write>(
     let Some((mut block, mut room)) = rooms(alloc) else {
         return Err(DecodeFault::File(FileFault::Memory));
     };
-    let mut nowhere = io::sink();
-    match encoding_pass(
+    match verify_pass(
         mode,
         root,
         part,
         source,
         block.as_mut_slice(),
         room.as_mut_slice(),
-        &mut nowhere,
     ) {
-        Ok(_) => {}
+        Ok(()) => {}
         Err(fault) => return Err(first_fault(fault, file)),
     }
     match encoding_pass(
@@ -75,15 +75,19 @@ fn write_encoding<'a, S: Source, W: Write>(
     }
 }
 
-/// Cuts the slice of `len` bytes from byte `start` on out of a combined encoding, verifies all of it under this root, writes it to `out`, the
-/// file at `path`, which is flushed, and answers how many bytes of the range the blob has. Of `encoding`, the file at `file`, the length and the
-/// slice's own nodes are read and nothing else, by position, in the memory of two blocks of 288 KiB: once to verify them, and once to write them,
-/// where each block is verified again before it is written.
+/// Cuts the slice of `len` bytes from byte `start` on out of a combined encoding, verifies it under this root, then
+/// writes it to `out`, and returns how many bytes of the range the blob has.
 ///
-/// Nothing is written before all of it was verified. Refuses a slice by its first fault (`Check`): 501 `Short`, where the encoding ends before
-/// one of these nodes does, 502 `Mismatch`, each with the offset that the node has in the slice, and 504 `Memory` where the slice is longer than any
-/// file; then nothing was written, nor after `File` with `Memory`. `File` with `Read` and the path comes where a read answers a fault,
-/// and where the encoding has changed between the two; after it, and after `File` with `Write` and the other path, a beginning may stand.
+/// `encoding` is the file at `file`, and `out` the file at `path`, which is flushed. Only the length and the slice's
+/// own nodes are read of the encoding, twice by position, in blocks of 288 KiB: first to verify all of them, then to
+/// write them, where each block is verified again before it is written. The memory is that of two blocks.
+///
+/// Refuses with `Check` and the slice's first fault, as the Bao specification orders them, with the offset of the node
+/// in the slice: `Short` (501) if the encoding ends before the node does, `Mismatch` (502), or `Memory` (504) if the slice
+/// is longer than any file. Refuses with `File` and `Memory` if there is none for the blocks. In these cases nothing
+/// was written. Refuses with `File`, `Read` and `file` if a read fails, or if the encoding has changed after the first
+/// pass; and with `File`, `Write` and `path` if writing fails, which happens only if the slice was accepted. After
+/// these two a beginning of the slice may have been written.
 pub fn write_slice<'a, S: Source, W: Write>(
     alloc: Global,
     mode: &Mode,
@@ -117,15 +121,18 @@ pub fn write_slice<'a, S: Source, W: Write>(
     )
 }
 
-/// Cuts the slice of `len` bytes from byte `start` on out of the combined encoding in the file at `file`, verifies it under this root as `write_slice`
-/// does, and writes it to the file at `path`, which it replaces once all was verified, both on `disk`. Answers how many bytes of the range the blob has.
+/// Cuts the slice of `len` bytes from byte `start` on out of the combined encoding in the file at `file`, writes it to
+/// the file at `path`, both on `disk`, and returns how many bytes of the range the blob has.
 ///
-/// Of the file, which has to be regular, the slice's own bytes are read, and nothing else. Where the output can't be replaced ([`Disk::is_replaced`]) and
-/// is this very file, under whatever name, it is read to its end first, and held.
+/// The slice is verified under this root and read as [`write_slice`] does; `path` gets it, in place of what was there,
+/// once all of it is accepted. The file must be regular. If it is the output itself, under any name, and that can't be
+/// replaced atomically ([`Disk::is_replaced`]), all of it is read into memory first.
 ///
-/// Refuses a file that can't be opened or read, or isn't regular (`File` with `Read`), a slice that is not accepted (`Check`), by its first fault, and an
-/// output that can't be made or written (`File` with `Write`). After each fault all files are as they were, but one that can't be replaced: there a
-/// beginning may stand after a fault of writing it, and of an encoding that changes while it is read, and can't be read so.
+/// Refuses with `File` and `Read` if the file can't be opened or read, or isn't regular; with `Check` and the slice's
+/// first fault, as [`write_slice`] does; with `File` and `Write` if the output can't be created, written or replaced,
+/// which is found only if the slice is accepted; and with `File` and `Memory`. After a refusal all files are
+/// unchanged, if the output can be replaced. If it can't, it may have a beginning of the slice after `Write`, and after
+/// `Read` in the second pass, if the file can't be read again or has changed.
 pub fn slice_on<'a, D: Disk>(
     alloc: Global,
     disk: &mut D,
@@ -158,12 +165,17 @@ pub fn slice_on<'a, D: Disk>(
     Ok(count)
 }
 
-/// As [`slice_on`], out of the plain copy at `copy` beside the outboard encoding at `outboard`: of that the length and the parents of the slice are read,
-/// and of the copy its chunks. So the outboard encoding is not checked as a whole, nor is the copy.
+/// Cuts the slice of `len` bytes from byte `start` on out of the plain copy at `copy` and the outboard encoding at
+/// `outboard`, writes it to the file at `path`, all three on `disk`, and returns how many bytes of the range the blob
+/// has.
 ///
-/// Refuses each of the two, the outboard encoding first, where it can't be opened or read, or isn't regular (`File` with `Read`). Where one of them ends too
-/// early, or is damaged, the slice is refused as one that is cut out of a combined encoding is (`Check`), and a read that answers a fault is told as one of
-/// the copy, but that of the outboard encoding's length. After each fault all files are as they are after one of `slice_on`.
+/// The slice is verified and written as by [`slice_on`]. Its length and parents are read from the outboard encoding,
+/// and its chunks from the copy. Neither file is checked as a whole. Both must be regular.
+///
+/// Refuses with `File` and `Read` if one of the two can't be opened or read, or isn't regular; the outboard encoding
+/// comes first. A failed read names the copy, except that of the encoding's length. Refuses with `Check` if the slice
+/// isn't accepted, also because one of the files ends too early: `Short` (501) or `Mismatch` (502) with the offset of
+/// the node in the slice. The other refusals, and what is in the files after each, are those of [`slice_on`].
 pub fn slice_beside_on<'a, D: Disk>(
     alloc: Global,
     disk: &mut D,
@@ -185,6 +197,7 @@ pub fn slice_beside_on<'a, D: Disk>(
         → D.at disk.old copy.now ≡ Stored bytes → are_whole (claimed outline) outline bytes ≡ true
         → CutBesideStops mode.now root.now.0 start len (D.faultless disk.old) outline bytes outboard.entry copy.entry path.entry fault) }
     ensures absent { IfErr result (λ fault. D.at disk.old outboard.now ≡ Absent → IsNotThere outboard.entry fault) }
+    ensures no_copy { IfErr result (λ fault. D.at disk.old copy.now ≡ Absent → IsNotThere copy.entry fault ⊎ (fault ≡ DecodeFault.File (FileFault.Read outboard.entry))) }
     ensures err { IfErr result IsQuietDecode }
     ensures paths { IfErr result (NamesEither outboard.entry copy.entry path.entry) }
 {

@@ -1,4 +1,4 @@
-// One pass over an encoding that is read by position, in blocks: each is verified, and what it has of a part of the blob is written.
+// One pass over an encoding, which is read by position, in blocks. Each block is verified, then its bytes of a part of the blob are written.
 
 ghost use Rattle.std.specs.Prelude.{◌≡◌, ℕ, ◌+◌, ◌-◌, ◌*◌, ◌/◌, ◌^◌, ◌<◌, ◌≤◌, List, [], ◌++◌, length, take, drop, None, IfErr, IfOk, IfSome};
 ghost use Rattle.std.specs.Io.KnownBytes.{Appends};
@@ -17,13 +17,13 @@ use bao_read::Source;
 use bao_text::{Choice, LENGTH_LEN, Part, claimed, write_text};
 use std::io::Write;
 
-/// How many bytes of an encoding are read at once: those of a subtree of 256 chunks, and of the parents above it.
+/// How many bytes of an encoding are read at once: a subtree of 256 chunks, and the parents above it.
 pub(crate) const BLOCK_LEN: usize = 288 << 10;
 
-// No encoding is read beyond this place: no file has a byte there.
+// No encoding is read past this offset: no file has a byte there.
 const LAST_PLACE: u64 = 1 << 63;
 
-// The slice that is checked: its first byte, and how many it has.
+// The slice that is checked: its first position and its length.
 pub(crate) fn slice_of(part: &Part) -> (u64, u64)
     ensures start { result.0 ≡ part_start part.now }
     ensures len { result.1 ≡ part_len part.now }
@@ -34,7 +34,7 @@ pub(crate) fn slice_of(part: &Part) -> (u64, u64)
     }
 }
 
-// The positions that are written, of a blob of `total` bytes: the first, and the one after the last.
+// The positions whose bytes are written, in a blob of `total` bytes: the first, and the one after the last.
 pub(crate) fn written_of(part: &Part, total: u64) -> (u64, u64)
     ensures first { result.0 ≡ first_written part.now total }
     ensures last { result.1 ≡ last_written part.now total }
@@ -46,7 +46,7 @@ pub(crate) fn written_of(part: &Part, total: u64) -> (u64, u64)
     }
 }
 
-// The position of the first byte of the first chunk that the encoding has, of a blob of `total` bytes.
+// The position where the first chunk in the encoding begins, in a blob of `total` bytes.
 fn decoded_from(part: &Part, total: u64) -> u64
     ensures { result ≡ first_decoded part.now total }
 {
@@ -55,7 +55,7 @@ fn decoded_from(part: &Part, total: u64) -> u64
     Choice::of_slice(total, start, len).start() / chunk_len * chunk_len
 }
 
-// What bytes have from the place `from` on, up to and without `to`, of which the first is at the place `at`.
+// Those of the bytes, which begin at position `at`, that are at the positions from `from` up to, but not including, `to`.
 fn between(bytes: &[u8], at: u64, from: u64, to: u64) -> &[u8]
     ensures { result.now ≡ positions at from to bytes.now }
 {
@@ -64,7 +64,7 @@ fn between(bytes: &[u8], at: u64, from: u64, to: u64) -> &[u8]
     &bytes[start as usize..end as usize]
 }
 
-// Reads and verifies the length that an encoding begins with, and answers its bytes and the check that has taken them.
+// Reads and verifies the length at the start of an encoding. Returns the check, which has taken it, and its bytes.
 pub(crate) fn begin<S: Source>(
     mode: &Mode,
     root: &Hash,
@@ -89,8 +89,8 @@ pub(crate) fn begin<S: Source>(
     }
 }
 
-// Reads the encoding's bytes from the place `at` on, verifies the nodes that they begin with, and puts their chunks' bytes to the
-// front of the room. There is no block after the encoding's end.
+// Reads the encoding's next block, from offset `at` on, verifies its complete nodes, and copies the bytes of their chunks to the
+// front of `room`. Returns `None` at the end of an accepted encoding.
 pub(crate) fn next_block<S: Source>(
     checking: &mut Checking,
     source: &S,
@@ -128,11 +128,44 @@ pub(crate) fn next_block<S: Source>(
     }
 }
 
-/// Reads an encoding once, in blocks, verifies it as that of the part of the blob with this root, and writes what each block has of
-/// the part to `out` once it is verified. Answers how many positions the part has, in the length that the encoding claims.
+/// Reads an encoding once, in blocks, and verifies it as that of this part of the blob with this root.
 ///
-/// Ends with the encoding's first fault, where a read answers a fault, and where a write does or takes no byte; a beginning may
-/// have been written.
+/// Refuses with the encoding's first fault, or if a read fails.
+pub(crate) fn verify_pass<S: Source>(
+    mode: &Mode,
+    root: &Hash,
+    part: &Part,
+    source: &S,
+    block: &mut [u8],
+    room: &mut [u8],
+) -> Result<(), PassFault>
+    requires block { (1024 ≤ length block.old) × (length block.old ≤ 2 ^ 32) }
+    requires room { length block.old ≤ length room.old }
+    ensures sizes { (length block.new ≡ length block.old) × (length room.new ≡ length room.old) }
+    ensures ok { IfOk result (λ _. (text : List ℕ) × IsWholeText (S.contents source.now) mode.now root.now.0 part.now text) }
+    ensures err { IfErr result (λ fault. IfSome (S.contents source.now) (λ s. StopsAs (task_of_part mode.now root.now.0 part.now) (S.faultless source.now) s fault)) }
+{
+    let (mut checking, header) = begin(mode, root, part, source)?;
+    // A lemma for the proof, here and below: no code runs.
+    bytes_are(&header);
+    let mut at = LENGTH_LEN as u64;
+    'blocks: while let Some(Decoded { taken, .. }) = next_block(
+        &mut checking,
+        source,
+        at,
+        block,
+        room,
+    )? {
+        bytes_are(block);
+        at += taken as u64;
+    }
+    Ok(())
+}
+
+/// Reads an encoding once, in blocks, verifies it as that of this part of the blob with this root, writes each block's
+/// bytes of the part to `out` once it is verified, and returns how many bytes the part has.
+///
+/// Refuses with the encoding's first fault, or if a read or a write fails; a beginning may have been written.
 pub(crate) fn text_pass<S: Source, W: Write>(
     mode: &Mode,
     root: &Hash,
@@ -151,7 +184,7 @@ pub(crate) fn text_pass<S: Source, W: Write>(
         TextStops (task_of_part mode.now root.now.0 part.now) (S.faultless source.now) part.now s (W.contents out.old) (W.contents out.new) fault)) }
 {
     let (mut checking, header) = begin(mode, root, part, source)?;
-    // A law, here and below, so that the proof has what it says: nothing runs.
+    // A lemma for the proof, here and below: no code runs.
     bytes_are(&header);
     let total = claimed(&header);
     let (first, last) = written_of(part, total);

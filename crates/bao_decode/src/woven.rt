@@ -1,4 +1,4 @@
-// The combined encoding that an outboard encoding and a plain copy make together, read by position.
+// The combined encoding that consists of an outboard encoding and a plain copy, read by position.
 
 ghost use Rattle.std.specs.Prelude.{◌≡◌, ◌+◌, ◌-◌, ◌*◌, ◌^◌, ◌<◌, ◌≤◌, ◌++◌, ℕ, List, true, length, if◌then◌else◌, IfErr, IfNone, IfOk, IfSome};
 ghost use Rattle.std.specs.List.{flat_map};
@@ -15,7 +15,7 @@ use bao_read::Source;
 use bao_text::subtree_size;
 use std::io;
 
-// Bytes that stand side by side in one of the two: `len` of them, from the place `at` on.
+// `len` adjacent bytes of one of the two, from offset `at` on.
 #[derive(Clone, Copy)]
 struct Stretch {
     is_in_copy: bool,
@@ -23,8 +23,8 @@ struct Stretch {
     len: u128,
 }
 
-// Where the byte `skip` stands of the subtree over `n` bytes from chunk `number` on, which begins at the place `at` of the combined encoding. A
-// parent's place in the outboard encoding is that one, without the bytes of the chunks before it.
+// Finds byte `skip` of the subtree over `n` bytes from chunk `number` on, which begins at offset `at` of the combined encoding, with the bytes
+// of its node that follow. A parent's offset in the outboard encoding is smaller by the bytes of the chunks before it.
 fn place_of(number: u64, n: u64, at: u128, skip: u128) -> Option<Stretch>
     requires range { 1024 * number + n ≤ 2 ^ 64 - 1 }
     requires room { at + subtree_size n < 2 ^ 128 }
@@ -65,8 +65,9 @@ fn place_of(number: u64, n: u64, at: u128, skip: u128) -> Option<Stretch>
     place_of(middle, n - left_len, left_at + left_size, below - left_size)
 }
 
-/// What an outboard encoding and a plain copy have of a combined encoding, neither of them checked. A read gives bytes of one node. It takes no
-/// memory, and keeps both by reference.
+/// The combined encoding that consists of an outboard encoding and a plain copy, neither of them checked, as a source.
+///
+/// A read returns bytes of one node. It takes no memory, and borrows both.
 #[derive(Drop)]
 pub(crate) struct Woven<'a, S: Source> {
     outboard: &'a S,
@@ -76,7 +77,8 @@ pub(crate) struct Woven<'a, S: Source> {
 }
 
 impl<'a, S: Source> Woven<'a, S> {
-    /// That encoding. The length that the outboard encoding claims is read, once. `Short` at 0 where it isn't wholly there.
+    /// Returns that encoding, and reads the length that the outboard encoding claims. Refuses with `Short` at 0 if that
+    /// encoding has fewer than 8 bytes, and if a read fails.
     pub(crate) fn of(outboard: &'a S, copy: &'a S) -> Result<Woven<'a, S>, PassFault>
         ensures same { IfOk result (λ woven. (woven.outboard.now ≡ outboard.now) × (woven.copy.now ≡ copy.now)) }
         ensures claims { IfOk result (λ woven. ClaimsLength (S.contents outboard.now) woven.total) }
@@ -90,7 +92,7 @@ impl<'a, S: Source> Woven<'a, S> {
         })
     }
 
-    // Where the combined encoding's byte `at` stands, with those that follow it there, if it has it.
+    // Finds the combined encoding's byte `at`, with the bytes of its node that follow, if the encoding has it.
     fn place_at(&self, at: u64) -> Option<Stretch>
         ensures some { IfSome result (λ place. (outline copy : List ℕ) → are_whole self.now.total outline copy ≡ true
             → GoesOn (if place.is_in_copy then copy else outline) (woven_text self.now.total outline copy) at place.at place.len) }

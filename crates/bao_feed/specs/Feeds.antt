@@ -1,4 +1,4 @@
--- What an outboard encoding that comes in pieces is checked as, and what has come of it.
+-- What an arriving outboard encoding is checked against, and the bytes so far.
 use Rattle.std.specs.Prelude.{◌≡◌, ℕ, List}
 use Rattle.b3tree.specs.declared.mode.Mode.{Mode}
 use Rattle.bao_feed.specs.declared.feed.OutboardFeed.{OutboardFeed}
@@ -14,7 +14,7 @@ feed_root feed = feed.root.0
 abbrev pub feed_text : OutboardFeed → List ℕ
 feed_text feed = feed.text.items
 
--- these bytes have come of an outboard encoding that is checked under the root in the mode
+-- these are the bytes so far of an outboard encoding that is checked under the root in the mode
 pub record IsFeed (feed : OutboardFeed) (mode : Mode) (root text : List ℕ) : Type 0 where
   pub mode_is : feed_mode feed ≡ mode
   pub root_is : feed_root feed ≡ root

@@ -1,4 +1,4 @@
--- How far an outboard encoding is known to be good while its bytes come.
+-- How much of an arriving outboard encoding is known to be good.
 use Rattle.std.specs.Prelude.{◌≡◌, ◌⊎◌, ℕ, ◌+◌, ◌-◌, ◌<◌, ◌≤◌, List, ◌++◌, length, take}
 use Rattle.std.specs.List.{AllByRecursion, AllByRecursion-prop}
 use Rattle.std.specs.Coded.{Π_prop, le_prop}
@@ -13,21 +13,21 @@ use Rattle.bao_check.specs.AcceptedProp.{IsGoodNode-prop}
 use Rattle.bao_check.specs.Faults.{IsFirstFault, IsShortAt}
 use Rattle.bao_feed.specs.Asking.{parent_at}
 
--- the parents of an outboard encoding by the length that it claims, and where they begin
+-- the parents of an outboard encoding by the length that it claims, with their offsets
 abbrev pub parents_of : List ℕ → List (ℕ × TreeNode)
 parents_of text = places_of (outboard_nodes text)
 
--- how many they are
+-- how many parents it has
 abbrev pub parent_count : List ℕ → ℕ
 parent_count text = chunk_count (claimed text) - 1
 
--- the first k of them are good, whatever follows them
+-- the first k parents are good, whatever follows them
 abbrev pub AreGoodFirst : Mode → List ℕ → List ℕ → ℕ → Type 0
 AreGoodFirst mode root text k =
     (more : List ℕ) → AllByRecursion (IsGoodNode mode root (take (parent_at k) text ++ more) (parents_of text)) (take k (parents_of text))
 
--- The first k parents are there and are good, and of what follows them there is less than the parent that comes next, and nothing where
--- none comes.
+-- The first k parents are complete and good. What follows them is less than the next parent, or nothing if they
+-- are all.
 pub record IsVerified (mode : Mode) (root text : List ℕ) (k : ℕ) : Type 0 where
   pub there : 0 < k → parent_at k ≤ length text
   pub few : 8 ≤ length text → k ≤ parent_count text
@@ -35,7 +35,7 @@ pub record IsVerified (mode : Mode) (root text : List ℕ) (k : ℕ) : Type 0 wh
   pub next : length text < parent_at (k + 1)
   pub end : 8 ≤ length text → k ≡ parent_count text → length text ≤ parent_at k
 
--- at most one proof, as a ghost field that says it has to have
+-- has at most one proof, as a ghost field requires
 pub IsVerified-prop : (mode : Mode) (root text : List ℕ) (k : ℕ) → IsProp (IsVerified mode root text k)
 IsVerified-prop mode root text k =
     let there : IsProp (0 < k → parent_at k ≤ length text) = Π_prop (λ _. le_prop) in
@@ -54,8 +54,8 @@ IsGoodSoFar mode root text = IsAccepted mode root text (outboard_nodes text) ⊎
 abbrev pub IsFaultFrom : Mode → List ℕ → List ℕ → CheckFault → Type 0
 IsFaultFrom mode root text fault = (more : List ℕ) → IsFirstFault mode root (text ++ more) (outboard_nodes (text ++ more)) fault
 
--- Why bytes aren't taken, where the encoding would be these with them: a parent that is wholly there isn't good, or something follows the
--- last, or out of memory.
+-- Why bytes are refused that would complete these: a complete parent isn't good, something follows the last, or
+-- memory is lacking.
 abbrev pub IsPieceFault : Mode → List ℕ → List ℕ → CheckFault → Type 0
 IsPieceFault mode root text (Short at) = ⊥
 IsPieceFault mode root text (Mismatch at) = IsFaultFrom mode root text (Mismatch at)

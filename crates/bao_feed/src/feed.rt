@@ -11,8 +11,8 @@ use bao_check::{CheckFault, Outline};
 use bao_text::{LENGTH_LEN, PARENT_LEN, chunk_count, claimed};
 use std::alloc::Global;
 
-/// An outboard encoding that is checked while its bytes come, in pieces of any size: `check_outboard` for a caller that hasn't the whole
-/// encoding. It keeps the bytes, so that at their end they are an outline.
+/// Checks an outboard encoding that arrives in parts of any size: `check_outboard` for a caller that doesn't
+/// have all of it yet. It keeps the bytes, which make an outline once all are there.
 #[derive(Drop)]
 pub struct OutboardFeed {
     mode: Mode,
@@ -26,8 +26,8 @@ pub struct OutboardFeed {
 impl OutboardFeed {
     ghost use Rattle.bao_feed.specs.Feeds.{IsFeed, feed_mode, feed_root, feed_text};
 
-    /// A check of an outboard encoding of the blob with the hash `root` in `mode`, of which no byte has come. It takes no memory before
-    /// bytes come.
+    /// Returns a check of an outboard encoding of the blob with the hash `root` in `mode` that has no bytes
+    /// yet. It doesn't allocate.
     pub fn new(alloc: Global, mode: &Mode, root: &Hash) -> OutboardFeed
         ensures { IsFeed result mode.now root.now.0 [] }
     {
@@ -39,11 +39,12 @@ impl OutboardFeed {
         }
     }
 
-    /// Takes the bytes that come next, as many as there are, and verifies each parent as soon as it is wholly there.
+    /// Appends `bytes`, any number of them, and verifies each parent as soon as it is complete.
     ///
-    /// Refused, with the place of the first fault of every outboard encoding that begins with what was taken and these bytes: 502
-    /// `Mismatch` at a parent that hasn't the value that is asked for, and 503 `Trailing` at what follows the last. 504 `Memory` when out of
-    /// memory. None of the bytes are taken then, and others can come in their place.
+    /// Refuses with 502 `Mismatch` at a parent that doesn't have the value required there, with 503 `Trailing`
+    /// at what follows the last node, and with 504 `Memory`. The offset is that of the first fault of every
+    /// outboard encoding that begins with the bytes kept and these. After a refusal none of `bytes` is kept,
+    /// and others can be pushed in their place.
     pub fn push(&mut self, bytes: &[u8]) -> Result<(), CheckFault>
         ensures taken { OnOk result (IsFeed self.new (feed_mode self.old) (feed_root self.old) (feed_text self.old ++ bytes.now)) }
         ensures good { OnOk result (IsGoodSoFar (feed_mode self.old) (feed_root self.old) (feed_text self.old ++ bytes.now)) }
@@ -66,9 +67,9 @@ impl OutboardFeed {
         }
     }
 
-    /// What `check_outboard` says of the bytes so far, without hashing them once more.
+    /// Returns what `check_outboard` returns for the bytes so far, without hashing them again.
     ///
-    /// Refused: 501 `Short` where they end too soon. They have no other fault.
+    /// Refuses with 501 `Short` if they end too soon; they can have no other fault.
     pub fn outline(&self) -> Result<Outline<'_>, CheckFault>
         ensures accepted { IsOk result ↔ IsAccepted (feed_mode self.now) (feed_root self.now) (feed_text self.now) (outboard_nodes (feed_text self.now)) }
         ensures outline { IfOk result (λ outline. IsOutline outline (feed_mode self.now) (feed_root self.now) (feed_text self.now)) }
@@ -87,7 +88,7 @@ impl OutboardFeed {
         Ok(Outline::new(&self.mode, &self.root, text))
     }
 
-    /// The bytes so far.
+    /// Returns the bytes so far.
     pub fn into_text(self) -> Vec<u8>
         ensures { result.items ≡ feed_text self }
     {

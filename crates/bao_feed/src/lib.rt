@@ -1,5 +1,5 @@
-//! An outboard encoding checked while its bytes come, in pieces of any size: what `bao_check::check_outboard` answers of the bytes
-//! so far.
+//! Checks an outboard encoding while it arrives, in parts of any size, with the results of
+//! `bao_check::check_outboard`.
 #![tactic(auto)]
 
 pub use feed::OutboardFeed;

@@ -24,13 +24,13 @@ use std::thread::Threads;
 /// Why a second pass ended early.
 #[derive(Clone, Copy, Debug, PartialEq, Eq)]
 pub(crate) enum AgainFault {
-    /// A read answered a fault, or the input has other bytes than before.
+    /// A read failed, or the input has other bytes than before.
     Input,
-    /// A write answered a fault, or took no byte.
+    /// A write failed or wrote no byte.
     Output,
 }
 
-/// Writes all of the text.
+/// Writes all of `text`.
 pub(crate) fn send<W: Write>(text: &[u8], out: &mut W) -> Result<(), AgainFault>
     ensures { Sends text.now (W.contents out.old) (W.contents out.new) result }
 {
@@ -157,10 +157,12 @@ fn write_parts<R: Threads + Sync, S: Source + Sync, W: Write>(
     )
 }
 
-/// Reads the `len` bytes of `source`, more than a chunk, again, and writes their combined encoding to `out`. `text` is the
-/// outboard encoding of what they were before: each piece has to have the value that this has for it, so that what is written
-/// is the encoding of bytes with the same hash, or a beginning of it. While a piece is written, another thread reads the next one
-/// into its room among `pieces`, of which nothing was read before.
+/// Reads the `len` bytes of `source`, more than a chunk, a second time, and writes their combined encoding to
+/// `out`.
+///
+/// `text` is the outboard encoding of the first reading, and each buffer read must have the value that it has
+/// for it. So what is written is the encoding of bytes with the same hash, or the beginning of it. While one
+/// buffer is written, another thread reads the next; nothing was read into `pieces` before.
 pub(crate) fn write_again<R: Threads + Sync, S: Source + Sync, W: Write>(
     rt: &R,
     mode: &Mode,

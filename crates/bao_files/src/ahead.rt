@@ -21,7 +21,7 @@ const AHEAD_LEN: usize = 1 << 19;
 
 const AHEAD_CHUNKS: u64 = (AHEAD_LEN / CHUNK_LEN) as u64;
 
-/// Room for a piece and for its encoding.
+/// A buffer for bytes, and one for their encoding.
 #[derive(Drop)]
 pub(crate) struct ReadAhead {
     // The number of its first chunk, and how many bytes it has.
@@ -127,7 +127,7 @@ fn read_piece<S: Source>(
     piece.value = make(mode, choice, source, first, bytes, &mut piece.text);
 }
 
-/// The piece that is written, and the one after it.
+/// The buffers that are written, and those that are read after them.
 #[derive(Drop)]
 pub(crate) struct Pieces {
     now: ReadAhead,
@@ -162,7 +162,7 @@ fn send_and_read<R: Threads + Sync, S: Source + Sync, W: Write>(
 }
 
 impl Pieces {
-    /// Room for both, of which nothing was read yet.
+    /// Returns buffers into which nothing was read yet.
     pub(crate) fn new(alloc: Global) -> Result<Pieces, AllocError>
         ensures { IfOk result AreUnread }
     {
@@ -183,10 +183,10 @@ impl Pieces {
         read_piece(mode, choice, source, first, &mut self.now);
     }
 
-    /// Whether the encoding of the `n` bytes from chunk `first` on is at hand, once they were read and verified by their value.
-    /// Where they are more than a piece has, or there is no memory for it, it is not.
+    /// Reads and verifies the `n` bytes from chunk `first` on, and returns whether their encoding is ready: it
+    /// isn't if they are more than a buffer has, or if there is no memory for it.
     ///
-    /// Answers `Input` where they can't be read, or have another value.
+    /// Refuses with `Input` if they can't be read, or have another value.
     pub(crate) fn fetch<S: Source>(
         &mut self,
         mode: &Mode,
@@ -207,7 +207,7 @@ impl Pieces {
         self.now.is_asked(asked, first, n)
     }
 
-    /// Writes the encoding that is at hand, while another thread reads the piece after it.
+    /// Writes the encoding that is ready, while another thread reads the bytes after it.
     pub(crate) fn write<R: Threads + Sync, S: Source + Sync, W: Write>(
         &mut self,
         rt: &R,

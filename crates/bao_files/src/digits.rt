@@ -20,7 +20,7 @@ pub(crate) fn decoded(digits: &[u8]) -> Option<[u8; 32]>
     <[u8; 32] as FromHex>::from_hex(digits).ok()
 }
 
-/// The 32 bytes that `text` gives as 64 hexadecimal digits of either case.
+/// Returns the 32 bytes that `text` writes as 64 hexadecimal digits of either case.
 pub fn bytes_of_digits(text: &str) -> Option<[u8; 32]>
     ensures value { IfSome result (λ bytes. decode_of text.now ≡ Ok bytes) }
     ensures found { IsSome result ↔ IsDigits text.now }
@@ -28,9 +28,8 @@ pub fn bytes_of_digits(text: &str) -> Option<[u8; 32]>
     decoded(text.as_bytes())
 }
 
-/// Writes `text` to `out`, and has it flushed.
-///
-/// After `Output`, the only fault, the writer may hold a beginning of the text.
+/// Writes `text` to `out`, and flushes it. Refuses only with `Output`; a beginning of the text may then be
+/// written.
 pub fn print_text<'a, W: Write>(text: &[u8], out: &mut W) -> Result<(), FileFault<'a>>
     ensures prints { Prints text.now (W.contents out.old) (W.contents out.new) result }
     ensures fault { IfErr result (λ fault. fault ≡ FileFault.Output) }
@@ -44,9 +43,9 @@ pub fn print_text<'a, W: Write>(text: &[u8], out: &mut W) -> Result<(), FileFaul
     }
 }
 
-/// Writes the lower-case hexadecimal digits of `bytes` and a line end to `out`.
+/// Writes `bytes` in lower-case hexadecimal digits, and a line end, to `out`.
 ///
-/// After `Memory` nothing is written. After `Output` the writer may hold a beginning of the line.
+/// Refuses with `Memory`, and nothing is then written, and with `Output`, when a beginning of the line may be.
 pub fn print_digits<'a, W: Write>(
     alloc: Global,
     bytes: &[u8],
@@ -60,9 +59,9 @@ pub fn print_digits<'a, W: Write>(
     print_text(line.as_bytes(), out)
 }
 
-/// Writes `ok`, how many bytes were written, and a line end to `out`.
+/// Writes `ok`, the number of bytes written, and a line end to `out`.
 ///
-/// After `Memory` nothing is written. After `Output` the writer may hold a beginning of the line.
+/// Refuses with `Memory`, and nothing is then written, and with `Output`, when a beginning of the line may be.
 pub fn print_count<'a, W: Write>(
     alloc: Global,
     count: u64,
@@ -75,10 +74,10 @@ pub fn print_count<'a, W: Write>(
     print_text(counted.as_bytes(), out)
 }
 
-/// Writes `len` bytes of the extended output of what `hasher` has taken in, from byte `at` on, to `out`: their
-/// lower-case hexadecimal digits and a line end.
+/// Writes `len` bytes of the extended output of the input of `hasher`, from byte `at` of the output on, to
+/// `out`, in lower-case hexadecimal digits, and a line end.
 ///
-/// After `Memory` nothing is written. After `Output` the writer may hold a beginning of the line.
+/// Refuses with `Memory`, and nothing is then written, and with `Output`, when a beginning of the line may be.
 pub fn print_output<'a, W: Write>(
     alloc: Global,
     hasher: &Hasher,

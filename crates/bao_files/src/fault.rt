@@ -1,7 +1,7 @@
 use std::alloc::AllocError;
 use thiserror::Error;
 
-/// Why a file or a stream was not read or written, with the text that the program prints of it.
+/// Why a file or a stream was not read or written, with the message that the program prints.
 #[derive(Clone, Copy, Debug, Error)]
 pub enum FileFault<'a> {
     /// An input file can't be opened or read.
@@ -25,7 +25,7 @@ impl FileFault<'_> {
     ghost use Rattle.std.specs.Prelude.{◌≡◌};
     ghost use Rattle.bao_files.specs.Faults.{number_of};
 
-    /// The fault's number, where its text has one: 401.
+    /// Returns the number of the fault, if its message has one: 401.
     pub fn code(&self) -> Option<u16>
         ensures { result ≡ number_of self.now }
     {

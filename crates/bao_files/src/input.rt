@@ -21,14 +21,14 @@ pub(crate) const LEAST_SHARED_LEN: u64 = 4 << 20;
 /// Why a reader was not read to its end.
 #[derive(Clone, Copy, Debug, PartialEq, Eq)]
 pub enum InputFault {
-    /// A growth was refused.
+    /// Out of memory.
     Memory,
-    /// A read answered a fault, of whatever kind.
+    /// A read failed, for any reason.
     Reader,
 }
 
 impl InputFault {
-    /// The fault's number: none.
+    /// Returns the number of the fault: none.
     pub fn code(&self) -> Option<u16>
         ensures { result ≡ None }
     {
@@ -62,8 +62,8 @@ fn read_some<R: Read>(reader: &mut R, bytes: &mut Vec<u8>) -> Result<usize, Inpu
 
 /// Appends all that `reader` has left to `bytes`, which grow geometrically.
 ///
-/// Answers `Memory` where a growth was refused, and `Reader` where a read answered a fault, one of the kind
-/// `Interrupted` too, which is not tried again: then the bytes have what was read.
+/// Refuses with `Memory`, and with `Reader` if a read fails (also with the kind `Interrupted`; it isn't
+/// retried). `bytes` then has what was read.
 pub fn read_whole<R: Read>(reader: &mut R, bytes: &mut Vec<u8>) -> Result<(), InputFault>
     ensures all { OnOk result (IfSome (R.remaining reader.old) (λ left. bytes.new.items ≡ bytes.old.items ++ left)) }
     ensures end { OnOk result (IsAtEnd (R.remaining reader.new)) }
@@ -76,8 +76,8 @@ pub fn read_whole<R: Read>(reader: &mut R, bytes: &mut Vec<u8>) -> Result<(), In
     }
 }
 
-/// As `read_whole`, of a reader that is said to have `size` bytes. That is room for a start, so that bytes are moved at
-/// most once, and nothing more. Where this room is refused, nothing was read.
+/// Appends all that `reader` has left, as `read_whole` does, if it is said to have `size` bytes: memory for
+/// these is taken first, so that bytes are moved at most once. If that memory is refused, nothing was read.
 pub fn read_sized<R: Read>(reader: &mut R, size: u64, bytes: &mut Vec<u8>) -> Result<(), InputFault>
     ensures all { OnOk result (IfSome (R.remaining reader.old) (λ left. bytes.new.items ≡ bytes.old.items ++ left)) }
     ensures end { OnOk result (IsAtEnd (R.remaining reader.new)) }
@@ -92,10 +92,10 @@ pub fn read_sized<R: Read>(reader: &mut R, size: u64, bytes: &mut Vec<u8>) -> Re
     read_whole(reader, bytes)
 }
 
-/// The path that means standard input, where a file is to be read. A file of this name is read as `./-`.
+/// The path that means standard input where a file is read. A file of this name is read as `./-`.
 pub const STANDARD_INPUT: &str = "-";
 
-/// The file at `path`, to be read; `-` is standard input. Where it can't be opened the fault is `Read`.
+/// Opens the file at `path` to be read; `-` is standard input. Refuses with `Read` if it can't be opened.
 pub fn open_file<'a, R: Files>(rt: &R, path: &'a str) -> Result<R::File, FileFault<'a>>
     ensures { IfErr result (λ fault. fault ≡ FileFault.Read path.entry) }
 {
@@ -120,7 +120,8 @@ fn size_of<'a, F: OpenFile>(file: &F, path: &'a str) -> Result<u64, FileFault<'a
     }
 }
 
-/// Whether what stands at `path` is this very file, under whatever name: then it can't be read any more once `path` is made anew.
+/// Returns whether the file at `path` is this one, under any name, so that it can't be read any more once
+/// `path` is recreated.
 pub(crate) fn is_same_file<R: Files, F: OpenFile>(rt: &R, file: &F, path: &str) -> bool {
     match (file.metadata(), fs::metadata(rt, path)) {
         (Ok(ours), Ok(theirs)) => ours.dev() == theirs.dev() && ours.ino() == theirs.ino(),
@@ -128,10 +129,10 @@ pub(crate) fn is_same_file<R: Files, F: OpenFile>(rt: &R, file: &F, path: &str) 
     }
 }
 
-/// All that `input`, the file at `path`, has from where it stands on.
+/// Returns all that `input`, the file at `path`, has left.
 ///
-/// Where a read answers a fault the fault is `Read`, and `Memory` where the bytes found no room. The `size` that
-/// the file claims is room for a start, so that bytes are moved at most once, and nothing more.
+/// Refuses with `Read` if a read fails, and with `Memory`. Memory for the `size` that the file claims is taken
+/// first, so that bytes are moved at most once; the claim has no other effect.
 pub fn read_input<'a, I: Read>(
     alloc: Global,
     input: &mut I,
@@ -186,7 +187,8 @@ pub(crate) fn read_placed<'a, I: Read + Source>(
     }
 }
 
-/// All bytes of the file at `path`: as `read_input`, and `Read` too where it can't be opened.
+/// Returns all bytes of the file at `path`, as `read_input` does. Refuses with `Read` also if it can't be
+/// opened.
 pub fn read_file<'a, R: Files + AllocGlobal>(
     rt: &R,
     path: &'a str,

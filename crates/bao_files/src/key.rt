@@ -49,11 +49,11 @@ fn key_of(bytes: &[u8]) -> Option<[u8; 32]>
     decoded(without_line_end(bytes))
 }
 
-/// The key that `input`, the file at `path`, has from where it stands on: 64 hexadecimal digits of either case, and at
-/// most one line end behind them. There is none where it has anything else.
+/// Returns the key that `input`, the file at `path`, has left: 64 hexadecimal digits of either case, and at
+/// most one line end after them. `None` if it has anything else.
 ///
-/// No more is read than 66 bytes, by as many reads as that takes. Where a read answers a fault, one of the kind
-/// `Interrupted` too, which is not tried again, the fault is `Read`.
+/// At most 66 bytes are read. Refuses with `Read` if a read fails (also with the kind `Interrupted`; it isn't
+/// retried).
 pub fn read_key<'a, I: Read>(
     input: &mut I,
     path: &'a str,

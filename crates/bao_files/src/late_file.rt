@@ -1,18 +1,31 @@
 ghost use Rattle.std.specs.Prelude.{◌≡◌, IfOk, None, string_bytes};
 
 use std::alloc::{AllocError, Global};
-use std::fs::{File, OpenFile, OpenOptions, Permissions};
+use std::fs::{File, Metadata, OpenFile, OpenOptions, TryLockError};
 use std::io::{ErrorKind, Write};
+use std::os::unix::fs::{MetadataExt, OpenOptionsExt, fchown};
 use std::rt::Files;
 use std::{fs, io};
 
-// What the name of the new file ends with: the first of these under which there is no file yet.
+// What the name of the new file ends with: the first of these that no other run has. They aren't those of a browser's downloads, since what a killed run
+// left under them is removed.
 const SUFFIXES: [&str; 9] = [
-    ".part", ".part2", ".part3", ".part4", ".part5", ".part6", ".part7", ".part8", ".part9",
+    ".part.gather",
+    ".part.gather2",
+    ".part.gather3",
+    ".part.gather4",
+    ".part.gather5",
+    ".part.gather6",
+    ".part.gather7",
+    ".part.gather8",
+    ".part.gather9",
 ];
 
 // The most bytes that one of them has.
-const MOST_SUFFIX_LEN: usize = 6;
+const MOST_SUFFIX_LEN: usize = 13;
+
+// The most bytes that a file system takes for a name.
+const MOST_NAME_LEN: usize = 255;
 
 // A regular file that is to be replaced, or made, and the new file beside it.
 #[derive(Drop)]
@@ -65,24 +78,91 @@ fn place_of<R: Files + AllocGlobal>(rt: &R, path: &str) -> Result<Option<DraftPl
     }
 }
 
-// The permissions of the file that is to be replaced, if there is one. It has to be one that may be written.
-fn permissions_of<R: Files>(rt: &R, target: &str) -> io::Result<Option<Permissions>> {
+// What the system says of the file that is to be replaced, if there is one. It has to be one that may be written.
+fn replaced_by<R: Files>(rt: &R, target: &str) -> io::Result<Option<Metadata>> {
     match OpenOptions::new().write(true).open(rt, target) {
-        Ok(file) => Ok(Some(file.metadata()?.permissions())),
+        Ok(file) => Ok(Some(file.metadata()?)),
         Err(error) if error.kind() == ErrorKind::NotFound => Ok(None),
         Err(error) => Err(error),
     }
 }
 
+// Gives the new file the group, the owner and the permissions of the one that it is to replace: the first two as far as the system allows it.
+fn dress(file: &File, replaced: &Metadata) -> io::Result<()> {
+    let _ = fchown(file, None, Some(replaced.gid()));
+    let _ = fchown(file, Some(replaced.uid()), None);
+    file.set_permissions(replaced.permissions())
+}
+
+// The path without what its last name has too many bytes of for a suffix.
+fn stem_of(target: &str) -> &str {
+    let name = match target.rsplit_once('/') {
+        Some((_, name)) => name,
+        None => target,
+    };
+    let folder_len = target.len().saturating_sub(name.len());
+    let most = folder_len.saturating_add(MOST_NAME_LEN - MOST_SUFFIX_LEN);
+    &target[..target.floor_char_boundary(most)]
+}
+
+// Whether the file has lost its last name: another run took it for a leftover, before it was locked.
+fn is_removed(file: &File) -> bool {
+    match file.metadata() {
+        Ok(metadata) => metadata.nlink() == 0,
+        Err(_) => false,
+    }
+}
+
+// Locks a new file, so that other runs know it for one in use. Where the file system has no locks, none is needed to go on.
+fn is_held(file: &File) -> bool {
+    !matches!(file.try_lock(), Err(TryLockError::WouldBlock)) && !is_removed(file)
+}
+
+// Removes a regular file that a killed run left at the path: one that nobody holds. It is held meanwhile, so that no other run takes the path.
+fn remove_left<R: Files<File = File>>(rt: &R, path: &str) -> io::Result<()> {
+    if !fs::symlink_metadata(rt, path)?.is_file() {
+        return Ok(());
+    }
+    let file = fs::open(rt, path)?;
+    file.try_lock()?;
+    let (held, there) = (file.metadata()?, fs::symlink_metadata(rt, path)?);
+    if held.dev() != there.dev() || held.ino() != there.ino() {
+        return Ok(());
+    }
+    fs::remove_file(rt, path)
+}
+
 impl DraftPlace {
-    // Makes the new file, under the first name that no file has.
-    fn create<R: Files>(&mut self, rt: &R) -> io::Result<R::File> {
+    // Has the name of the new file end with this.
+    fn name(&mut self, suffix: &str) -> Result<(), AllocError> {
+        self.draft.clear();
+        self.draft.push_str(stem_of(self.target.as_str()))?;
+        self.draft.push_str(suffix)
+    }
+
+    // Removes what killed runs left.
+    fn clear<R: Files<File = File>>(&mut self, rt: &R) -> io::Result<()> {
         for suffix in SUFFIXES {
-            self.draft.clear();
-            self.draft.push_str(self.target.as_str())?;
-            self.draft.push_str(suffix)?;
-            match File::create_new(rt, self.draft.as_str()) {
-                Ok(file) => return Ok(file),
+            self.name(suffix)?;
+            let _ = remove_left(rt, self.draft.as_str());
+        }
+        Ok(())
+    }
+
+    // Makes the new file, under the first name that no other run has.
+    fn create<R: Files<File = File>>(&mut self, rt: &R, mode: u32) -> io::Result<File> {
+        self.clear(rt)?;
+        for suffix in SUFFIXES {
+            self.name(suffix)?;
+            let mut how = OpenOptions::new();
+            match how
+                .write(true)
+                .create_new(true)
+                .mode(mode)
+                .open(rt, self.draft.as_str())
+            {
+                Ok(file) if is_held(&file) => return Ok(file),
+                Ok(_) => {}
                 Err(error) if error.kind() == ErrorKind::AlreadyExists => {}
                 Err(error) => return Err(error),
             }
@@ -91,14 +171,18 @@ impl DraftPlace {
     }
 }
 
-/// A file that is replaced at once. What is written goes to a new file beside it, `PATH.part`, or where there is such a file the
-/// first of `PATH.part2` to `PATH.part9` that there isn't. That is made by the first write, with the permissions of the file that it
-/// is to replace. [`LateFile::finish`] puts it in its place. Before that the path is as it was; and so it stays where that isn't called, or
-/// fails, and the new file is taken away.
+/// A file that is replaced atomically.
 ///
-/// Where the path is a symbolic link, what it leads to is replaced. What is no regular file, as a device or a pipe, is not replaced, nor is
-/// what has the name of an open file (`/dev/stdout`, `/dev/fd/3`, below `/proc`), nor what a link to nothing stands for: that is made anew
-/// by the first write, as far as it can be, and written there.
+/// What is written goes to a new file beside it: `PATH.part.gather`, or, if another run has that, the first of
+/// `PATH.part.gather2` to `PATH.part.gather9` that no run has. It is created by the first write, with the
+/// permissions of the file that it replaces and, as far as the system allows, its owner and group. A name of
+/// more than 242 bytes is cut before the ending. [`LateFile::finish`] puts the new file in its place. Until then
+/// the path is unchanged, and it stays so, and the new file is removed, if `finish` isn't called or fails. What
+/// killed runs left is removed by the next run.
+///
+/// If the path is a symbolic link, its target is replaced. These aren't replaced, but created by the first
+/// write as far as they can be, and written in place: what isn't a regular file, such as a device or a pipe;
+/// the names of open files (`/dev/stdout`, `/dev/fd/3`, below `/proc`); and the target of a link to nothing.
 pub struct LateFile<'a, R: Files> {
     rt: &'a R,
     path: String,
@@ -126,7 +210,7 @@ impl<R: Files> Drop for LateFile<'_, R> {
 }
 
 impl<'a, R: Files + AllocGlobal> LateFile<'a, R> {
-    /// The file at `path`, to which nothing was written. There is none where there is no memory for its names.
+    /// Returns the file at `path`, with nothing written. Refuses if there is no memory for its names.
     pub fn new(rt: &'a R, path: &str) -> Result<LateFile<'a, R>, AllocError>
         ensures rt { IfOk result (λ it. it.rt ≡ rt.entry) }
         ensures path { IfOk result (λ it. string_bytes it.path ≡ path.now) }
@@ -142,8 +226,8 @@ impl<'a, R: Files + AllocGlobal> LateFile<'a, R> {
     }
 }
 
-impl<R: Files> LateFile<'_, R> {
-    /// Whether what is written is at the path only once it is finished.
+impl<R: Files<File = File>> LateFile<'_, R> {
+    /// Returns whether what is written appears at the path only once it is finished.
     pub fn is_replaced(&self) -> bool {
         self.place.is_some()
     }
@@ -154,18 +238,20 @@ impl<R: Files> LateFile<'_, R> {
             self.file = Some(fs::create(self.rt, self.path.as_str())?);
             return Ok(());
         };
-        let permissions = permissions_of(self.rt, place.target.as_str())?;
-        let file = place.create(self.rt)?;
+        let replaced = replaced_by(self.rt, place.target.as_str())?;
+        // Until it has the other's permissions nobody else may open it.
+        let mode = if replaced.is_some() { 0o600 } else { 0o666 };
+        let file = place.create(self.rt, mode)?;
         self.is_drafted = true;
-        match permissions {
-            Some(permissions) => file.set_permissions(permissions)?,
-            None => {}
+        if let Some(replaced) = &replaced {
+            dress(&file, replaced)?;
         }
         self.file = Some(file);
         Ok(())
     }
 
-    /// Puts what was written in its place, where it is replaced, once the device has it. Nothing is written after that.
+    /// Puts what was written in its place, if it is replaced, once the device has it. Nothing can be written
+    /// after that.
     pub fn finish(&mut self) -> io::Result<()> {
         self.flush()?;
         let (Some(place), Some(file)) = (&self.place, &self.file) else {
@@ -178,7 +264,7 @@ impl<R: Files> LateFile<'_, R> {
     }
 }
 
-impl<R: Files> Write for LateFile<'_, R> {
+impl<R: Files<File = File>> Write for LateFile<'_, R> {
     fn write(&mut self, buf: &[u8]) -> io::Result<usize> {
         if self.file.is_none() {
             self.make()?;

@@ -1,5 +1,5 @@
-//! Files and standard streams read and written: bytes hashed, encoded, printed as digits, each through a function over any
-//! reader or writer, or over any files by their paths ([`Disk`]). How far a long read has come is shown while it goes on.
+//! Reads and writes files and standard streams: hashes, encodings and digits, each by a function over any
+//! reader or writer, or over any files by their paths ([`Disk`]). The progress of a long read is shown.
 #![tactic(auto)]
 
 pub use digits::{bytes_of_digits, print_count, print_digits, print_output, print_text};

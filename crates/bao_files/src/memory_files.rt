@@ -10,7 +10,7 @@ use std::collections::BTreeMap;
 use std::io;
 use std::io::{Cursor, Read};
 
-/// A file of [`MemoryFiles`] that was opened: its bytes as they were then.
+/// An opened file of [`MemoryFiles`]: its bytes when it was opened.
 #[derive(Drop)]
 pub struct HeldInput {
     cursor: Cursor<Vec<u8>>,
@@ -44,7 +44,7 @@ impl Source for HeldInput {
     }
 }
 
-/// Files in memory, so that it is known what they hold. A path is a name and no more: no two of them lead to one file.
+/// Files in memory, whose contents are known. A path is only a name: no two lead to one file.
 #[derive(Drop)]
 pub struct MemoryFiles {
     alloc: Global,
@@ -56,7 +56,7 @@ impl MemoryFiles {
     ghost use Rattle.bao_files.specs.Disks.{Absent, KeepsFiles, Puts, Stored};
     ghost use Rattle.bao_files.specs.HeldFiles.{held_at};
 
-    /// No files.
+    /// Returns no files.
     pub fn new(alloc: Global) -> MemoryFiles
         ensures { (path : List ℕ) → held_at result.files path ≡ Absent }
     {
@@ -66,7 +66,8 @@ impl MemoryFiles {
         }
     }
 
-    /// Has these bytes at `path`, in place of what was there. Out of memory nothing changes.
+    /// Puts these bytes at `path`, in place of what was there. Refuses if out of memory, and changes nothing
+    /// then.
     pub fn put(&mut self, path: &str, bytes: Vec<u8>) -> Result<(), AllocError>
         ensures put { OnOk result (Puts (held_at self.old.files) (held_at self.new.files) path.now (Some bytes.items)) }
         ensures kept { OnErr result (KeepsFiles (held_at self.old.files) (held_at self.new.files)) }
@@ -78,7 +79,7 @@ impl MemoryFiles {
         }
     }
 
-    /// The bytes at `path`, if a file is there.
+    /// Returns the bytes at `path`, if there is a file.
     pub fn get(&self, path: &str) -> Option<&[u8]>
         ensures some { IfSome result (λ bytes. held_at self.now.files path.now ≡ Stored bytes.now) }
         ensures none { IsNone result → held_at self.now.files path.now ≡ Absent }

@@ -18,9 +18,9 @@ const NEVER: u64 = u64::MAX;
 // Takes the line away, and leaves the cursor at its start.
 const WIPED: &str = "\r\x1b[K";
 
-/// Shows on a terminal how far work has come: one line, which is written over at most ten times a second, and not before
-/// half a second of work has passed. It takes no memory and no lock. A clock that can't be read shows nothing, and after a
-/// line that can't be written there are no others.
+/// Shows progress on a terminal: one line, overwritten at most ten times a second, and not before half a second
+/// of work. It takes no memory and no lock. It shows nothing if the clock can't be read, and nothing more after
+/// a line that can't be written.
 #[derive(Drop)]
 pub struct Meter<'a, C, E> {
     clock: &'a C,
@@ -41,7 +41,7 @@ fn time_of<C: Clock>(clock: &C) -> Option<u64> {
 }
 
 impl<'a, C: Clock, E: Write + Copy> Meter<'a, C, E> {
-    /// On this terminal, by this clock. Nothing is shown until work begins.
+    /// Returns a meter on this terminal, by this clock. Nothing is shown before work begins.
     pub fn new(clock: &'a C, terminal: E) -> Meter<'a, C, E>
         ensures clock { result.clock ≡ clock.entry }
         ensures terminal { result.terminal ≡ terminal }

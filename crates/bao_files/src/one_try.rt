@@ -5,8 +5,8 @@ use bao_text::write_text;
 use std::io;
 use std::io::{ErrorKind, Write};
 
-/// A writer whose `write_all`, and so `write!`, tries no write again: a fault of the kind `Interrupted` is
-/// a fault like any other.
+/// A writer whose `write_all`, and so `write!`, retries no write: a fault of the kind `Interrupted` is a fault
+/// like any other.
 pub struct Once<'a, W>(pub &'a mut W);
 
 impl<W> Drop for Once<'_, W> {

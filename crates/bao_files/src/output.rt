@@ -52,10 +52,10 @@ fn send_all<W: Write>(made: (Hash, Vec<Vec<u8>>), out: &mut W) -> Result<Hash, W
     Ok(hash)
 }
 
-/// Writes this encoding of `bytes` in `mode` to `out`, and answers their hash.
+/// Writes this encoding of `bytes` in `mode` to `out`, and returns their hash.
 ///
-/// Answers `Memory` (401) where a growth was refused, with nothing written, and `Writer` (402) only where a
-/// write answered a fault or took no byte: then exactly the first `written` bytes of the encoding went out.
+/// Refuses with `Memory` (401), with nothing written, and with `Writer` (402) only if a write fails or writes
+/// no byte: exactly the first `written` bytes of the encoding were then written.
 pub fn write_encoding<W: Write>(
     alloc: Global,
     mode: &Mode,
@@ -215,19 +215,21 @@ fn answer_at<'a>(written: Result<Hash, WriteFault>, path: &'a str) -> Result<Has
     }
 }
 
-/// Writes this encoding in `mode` of all that `input`, the file at `file`, has to `out`, the file at `path`, and
-/// answers the hash.
+/// Writes this encoding in `mode` of all that `input`, the file at `file`, has to `out`, the file at `path`,
+/// and returns the hash.
 ///
-/// Where the input is said to have a `size` of at least 4 MiB, it is read by position and in pieces of 256 KiB, by several
-/// threads. An outboard encoding takes memory of a sixteenth of the bytes, and a slice that of its range. For a combined
-/// encoding the parents are made so, a sixteenth of the bytes, and then the input is read a second time, on one thread: each
-/// piece is verified by its parents, and written with them. If the first pass gives nothing, and of a shorter input, all is read:
-/// by position, where the input has as many bytes as it is said to have, and else from where it stands. What that meets is answered.
+/// An input that is said to have a `size` of at least 4 MiB is read by position, 256 KiB at a time, by several
+/// threads. An outboard encoding then takes memory for a sixteenth of the bytes, and a slice for its range. A
+/// combined encoding takes two passes: the first makes the parents, a sixteenth of the bytes, and the second
+/// reads the input again on one thread, verifies it by the parents and writes it with them. If the first pass
+/// gives nothing, and for a shorter input, all is read into memory: by position if the input has as many bytes
+/// as it is said to have, else from where it is. The faults are then those of this reading.
 ///
-/// Nothing was written out of memory, which is `Memory` for the input's bytes and `Encoding` for the encoding, nor after `Read`
-/// with the input's path, where a read answered a fault, but of a combined encoding that was written in two passes: there
-/// `Read` comes too where the input has other bytes than before, and a beginning of the encoding of bytes with one hash may have
-/// been written. After `Write` with the other path exactly a beginning of the encoding was written, and not all.
+/// Refuses with `Memory` for the input's bytes and with `Encoding` for the encoding; nothing is then written.
+/// Refuses with `Read` and the input's path if a read fails; nothing is then written either, except in the
+/// second pass, where `Read` also means that the input has other bytes than before, and a beginning of the
+/// encoding of bytes with the same hash may be written. Refuses with `Write` and the other path if writing
+/// fails: exactly a beginning of the encoding was then written, and not all.
 pub fn encode_input<'a, R: Threads + Sync + AllocGlobal, I: Read + Source + Sync, W: Write>(
     rt: &R,
     mode: &Mode,
@@ -260,17 +262,20 @@ pub fn encode_input<'a, R: Threads + Sync + AllocGlobal, I: Read + Source + Sync
     answer_at(written, path)
 }
 
-/// Writes this encoding in `mode` of the file at `file` to the file at `path`, which it replaces, both on `disk`, and answers the hash. How far a
-/// file that is said to have at least 4 MiB has been read is told to `progress`, which has no part in the answer.
+/// Writes this encoding in `mode` of the file at `file` to the file at `path`, which it replaces, both on
+/// `disk`, and returns the hash. The progress of a file that is said to have at least 4 MiB is reported to
+/// `progress`, which doesn't affect the result.
 ///
-/// After each fault all files are as they were, where the one at `path` can be replaced at once ([`Disk::is_replaced`]). Where it
-/// can't, as a device, it is so after `Read`, where the file can't be opened or read, and after `Memory` and `Encoding`, out of
-/// memory; after `Write` a beginning of the encoding may stand there, and so it may after `Read` where a combined encoding is
-/// written in two passes and the file can't be read again, or has changed. Where the two paths are of one file then, under whatever
-/// names, it is read whole before it is written over.
+/// After a refusal all files are unchanged, if the one at `path` can be replaced atomically
+/// ([`Disk::is_replaced`]). If it can't, such as a device, they are unchanged after `Read`, if the file can't
+/// be opened or read, and after `Memory` and `Encoding`. After `Write` a beginning of the encoding may be
+/// there, and so after `Read` in the second pass of a combined encoding, if the file can't be read again or has
+/// changed. If the two paths are of one file, under any names, that can't be replaced, it is read as a whole
+/// before it is written.
 ///
-/// On a disk where no call fails but for memory, and where it is known what is at `path`, a file that is there is refused for want of memory, or since
-/// writing failed, and for nothing else; but a combined encoding of 4 MiB or more, which is written while the file is read a second time, may be for that.
+/// On a disk where only memory can be refused, a file with known contents is refused only for memory or because
+/// writing failed. A combined encoding of 4 MiB or more, which is written while the file is read again, may
+/// also be refused for that.
 pub fn encode_on<'a, R: AllocGlobal + Threads + Sync, D: Disk, P: Progress + Sync>(
     rt: &R,
     disk: &mut D,
@@ -293,6 +298,7 @@ pub fn encode_on<'a, R: AllocGlobal + Threads + Sync, D: Disk, P: Progress + Syn
     let Ok(mut out) = disk.draft(path) else {
         return Err(FileFault::Memory);
     };
+    // OUT may be the file itself: then all of it is read before it is written over.
     let size = if !disk.is_replaced(&out) && disk.is_same(&input, path) {
         0
     } else {

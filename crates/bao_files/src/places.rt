@@ -1,5 +1,6 @@
 // Which names lead to one file of the system's. No contract knows that: the system is asked.
 
+use crate::input::STANDARD_INPUT;
 use std::fs;
 use std::fs::Metadata;
 use std::os::unix::fs::MetadataExt;
@@ -34,9 +35,15 @@ fn is_one_place<R: Files>(rt: &R, ours: &str, theirs: &str) -> bool {
     }
 }
 
-/// Whether both paths lead to one file: to one that is there, by whatever links, or to one name in one folder, where a file is to
-/// be made. `/dev/null` is never told, since nothing stands there. Where the system can't be asked, they don't.
+/// Returns whether both paths lead to one file: to one that exists, by any links, or to one name in one folder,
+/// where a file would be created. `/dev/null` never counts. If the system can't be asked, they don't. In
+/// `theirs`, `-` is standard input.
 pub(crate) fn is_one_file<R: Files>(rt: &R, ours: &str, theirs: &str) -> bool {
+    let theirs = if theirs == STANDARD_INPUT {
+        "/dev/stdin"
+    } else {
+        theirs
+    };
     match (fs::metadata(rt, ours), fs::metadata(rt, theirs)) {
         (Ok(ours), Ok(theirs)) => is_one(&ours, &theirs),
         (Err(_), Err(_)) => is_one_place(rt, ours, theirs),

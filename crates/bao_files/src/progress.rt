@@ -1,4 +1,4 @@
-/// What is told how far work has come, by several threads at once where it is `Sync`.
+/// Receives the progress of work, from several threads at once if the type is `Sync`.
 pub trait Progress {
     /// Work on `total` bytes begins.
     fn begin(&self, total: u64);
@@ -6,7 +6,7 @@ pub trait Progress {
     /// So many more bytes are done.
     fn add(&self, bytes: u64);
 
-    /// The work is over: what was shown of it is taken away, and nothing is shown until other work begins.
+    /// The work is over: what was shown is removed, and nothing is shown until other work begins.
     fn end(&self);
 }
 
@@ -19,7 +19,7 @@ impl Progress for () {
     fn end(&self) {}
 }
 
-/// Shows what the one inside shows, where there is one.
+/// Shows what the value shows, if there is one.
 impl<P: Progress> Progress for Option<P> {
     fn begin(&self, total: u64) {
         if let Some(progress) = self {

@@ -52,10 +52,10 @@ fn hash_some<R: Read>(
     }
 }
 
-/// A hasher of `mode` that has taken in all that `reader` has left, which comes in pieces through `piece`.
+/// Returns a hasher of `mode` with all that `reader` has left as its input. `piece` is the buffer to read into.
 ///
-/// Answers `Reader` where a read answered a fault, one of the kind `Interrupted` too, which is not tried
-/// again, and where more than 2^64 - 1 bytes came.
+/// Refuses with `Reader` if a read fails (also with the kind `Interrupted`; it isn't retried), or if there are
+/// more than 2^64 - 1 bytes.
 pub fn hash_reader<R: Read>(
     mode: &Mode,
     reader: &mut R,
@@ -76,12 +76,11 @@ pub fn hash_reader<R: Read>(
     Err(InputFault::Reader)
 }
 
-/// Writes `len` bytes of the extended output of all that `reader` has left in `mode`, from byte `at` on, to
-/// `out`: their lower-case hexadecimal digits and a line end. At 0 the first 32 are the hash.
+/// Writes `len` bytes of the extended output of all that `reader` has left in `mode`, from byte `at` of the
+/// output on, to `out`, in lower-case hexadecimal digits, and a line end. At 0 the first 32 are the hash.
 ///
-/// The memory that this takes is the same for every number of bytes. Nothing is written after `Memory`, nor
-/// after `Read` with the path, where the reader was not read to its end. After `Output` the writer may hold a
-/// beginning of the line.
+/// The memory doesn't grow with the number of bytes. Refuses with `Memory`, or with `Read` and the path if the
+/// reader wasn't read to its end; nothing is then written. After `Output` a beginning of the line may be.
 pub fn print_reader<'a, R: Read, W: Write>(
     alloc: Global,
     mode: &Mode,
@@ -119,9 +118,9 @@ fn shared_hash<R: AllocGlobal + Threads + Sync, I: Source + Sync>(
     hash_source(rt, rt.alloc(), mode, input, len?, WORKERS).ok()
 }
 
-/// As `print_reader`, of an input that can also be read by position. Where it is said to have `len_hint` bytes and its
-/// hash is asked for, it is read on several threads first, each in pieces of its own. If that gives no hash, it is
-/// read from where it stands on one thread, and what that meets is answered.
+/// Writes extended output as `print_reader` does, of an input that can also be read by position. If it is said
+/// to have `len_hint` bytes and its hash is asked for, it is first read on several threads. If that gives no
+/// hash, it is read from where it is on one thread, and the faults are those of that reading.
 pub fn print_input<'a, R: AllocGlobal + Threads + Sync, I: Read + Source + Sync, W: Write>(
     rt: &R,
     mode: &Mode,
@@ -146,8 +145,9 @@ pub fn print_input<'a, R: AllocGlobal + Threads + Sync, I: Read + Source + Sync,
     print_reader(rt.alloc(), mode, input, path, at, len, out)
 }
 
-/// As `print_input`, of the file at `file`, from its start on. How far one that is said to have at least 4 MiB has been read is told
-/// to `progress`, which has no part in the answer. `Read` comes too where the file can't be opened.
+/// Writes extended output of the file at `file`, from its start on, as `print_input` does. Refuses with `Read`
+/// also if it can't be opened. The progress of a file that is said to have at least 4 MiB is reported to
+/// `progress`, which doesn't affect the result.
 pub fn print_file<'a, R: AllocGlobal + Threads + Sync, D: Disk, W: Write, P: Progress + Sync>(
     rt: &R,
     disk: &D,

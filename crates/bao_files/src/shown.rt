@@ -5,8 +5,8 @@ use bao_read::Source;
 use std::io;
 use std::io::Read;
 
-/// A source, or a reader, of which `progress` is told how many bytes each read gave. It gives what `source` gives: the same
-/// bytes, the same faults.
+/// A source or a reader that reports to `progress` how many bytes each read returned. Its bytes and faults are
+/// those of `source`.
 pub struct Shown<'a, S, P: Progress> {
     source: S,
     progress: &'a P,
@@ -23,8 +23,9 @@ impl<S: Drop, P: Progress> Drop for Shown<'_, S, P> {
 }
 
 impl<'a, S, P: Progress> Shown<'a, S, P> {
-    /// The same source. Where its length is known, `progress` is told that work on so many bytes begins, and once a read
-    /// has come to the end, or the value is dropped, that it is over; without a length it is never told that work begins.
+    /// Returns the same source. If its length is known, `progress` is told that work on so many bytes begins,
+    /// and that it is over once a read reaches the end or the value is dropped; without a length it is never
+    /// told that work begins.
     pub fn over(source: S, len: Option<u64>, progress: &'a P) -> Shown<'a, S, P>
         ensures { result.source ≡ source }
     {

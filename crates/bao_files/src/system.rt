@@ -10,7 +10,7 @@ use std::io::Read;
 use std::rt::Files;
 use std::{fs, io};
 
-/// The system's own files. What they hold isn't known.
+/// The system's own files. Their contents aren't known.
 pub struct System<'a, R> {
     rt: &'a R,
 }
@@ -22,7 +22,7 @@ impl<R> Drop for System<'_, R> {
 }
 
 impl<'a, R> System<'a, R> {
-    /// The files that `rt` leads to.
+    /// Returns the files that `rt` gives access to.
     pub fn new(rt: &'a R) -> System<'a, R> {
         System { rt }
     }
@@ -64,7 +64,10 @@ impl<'a, R: Files<File = File> + AllocGlobal> Disk for System<'a, R> {
     ghost faultless = { λ _. ⊥ };
 
     fn open<'p>(&self, path: &'p str) -> Result<File, FileFault<'p>> {
-        open_file(self.rt, path)
+        let file = open_file(self.rt, path)?;
+        // So that no run takes what is read here for what a killed run left, and removes it.
+        let _ = file.try_lock_shared();
+        Ok(file)
     }
 
     fn extent(&self, input: &File) -> Option<Extent> {

@@ -8,14 +8,15 @@ use b3tree::{Hash, Mode};
 use bao_check::{CheckFault, Checked, Subtree};
 use std::thread::Threads;
 
-/// `bao_check::check_slice` on several threads: its answer, whatever their number. (Bao specification, on decoding.)
+/// Checks `text` as `bao_check::check_slice` does, on several threads, with the same result for any number of
+/// them (Bao specification, on decoding).
 ///
-/// A subtree with more than `grain` chunks of the slice is parted once its parent is verified, and its two parts
-/// are checked at once. So a fault is answered only after what was being checked beside it, and it is the first one in
-/// the order of the encoding all the same: 501 `Short`, 502 `Mismatch`, 503 `Trailing`. 504 and 505 never come.
+/// A subtree with more than `grain` chunks of the slice is split once its parent is verified, and its two
+/// children are checked at once. `grain` is at least 1. If a thread can't be started, another does its work,
+/// and no thread outlives the call. It doesn't allocate, and copies nothing.
 ///
-/// The grain is at least 1. The work of a thread that can't be started is done by another thread of the call. The
-/// call waits for the threads that it starts. It takes no memory of its own, and no byte is copied.
+/// Refuses with the first fault in the order of the encoding: 501 `Short`, 502 `Mismatch` or 503 `Trailing`,
+/// never 504 or 505. It returns only after what is being checked at the same time.
 pub fn check_slice_join<'a, R: Threads + Sync>(
     rt: &R,
     mode: &Mode,
@@ -38,7 +39,8 @@ pub fn check_slice_join<'a, R: Threads + Sync>(
     Ok(Checked::new(mode, root, start, len, text))
 }
 
-/// `bao_check::check_combined` on several threads: as `check_slice_join` from byte 0 on with the length 2^64 - 1.
+/// Checks `text` as `bao_check::check_combined` does, on several threads: `check_slice_join` from byte 0 on
+/// with the length 2^64 - 1.
 pub fn check_combined_join<'a, R: Threads + Sync>(
     rt: &R,
     mode: &Mode,

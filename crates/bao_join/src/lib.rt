@@ -1,4 +1,4 @@
-//! Bao encodings checked on several threads: what `bao_check` answers, for every number of threads.
+//! Bao encodings checked on several threads, with the results of `bao_check` for any number of them.
 #![tactic(auto)]
 
 pub use checks::{check_combined_join, check_slice_join};

@@ -1,4 +1,4 @@
--- The jobs of a pool: the subtrees that one thread hashes, or makes the text of, at a time.
+-- The jobs of a pool: the subtrees that one thread hashes or encodes at a time.
 use Rattle.std.specs.Prelude.{◌≡◌, ℕ, ◌+◌, ◌-◌, ◌*◌, ◌^◌, ◌≤◌, List, Option, None, [], IfErr, IfOk, IfSome, map, max, min, slice_index_or}
 use Rattle.std.specs.Int.{div_ceil}
 use Rattle.std.specs.List.{range_with_len}
@@ -10,11 +10,11 @@ use Rattle.bao_read.specs.declared.jobs.Answer.{Answer}
 use Rattle.bao_read.specs.Encodings.{GainsText}
 use Rattle.bao_read.specs.Given.{Lacks}
 
--- how many jobs of at most job_len bytes n bytes have: no bytes are one
+-- how many jobs of at most job_len bytes n bytes are cut into: at least one
 abbrev pub job_count : ℕ → ℕ → ℕ
 job_count job_len n = max 1 (div_ceil n job_len)
 
--- the job with this number, of jobs of so many chunks over so many bytes
+-- the job with this number, if so many bytes are cut into jobs of so many chunks
 abbrev pub job_with : ℕ → ℕ → ℕ → Job
 job_with chunks len number = record {
   number = number;
@@ -22,20 +22,21 @@ job_with chunks len number = record {
   len = min (1024 * chunks) (len - 1024 * (chunks * number));
 }
 
--- so many of them, in order, each once
+-- the first so many jobs, in order
 abbrev pub jobs_below : ℕ → ℕ → ℕ → List Job
 jobs_below chunks len count = map (job_with chunks len) (range_with_len 0 count)
 
--- a job's bytes lie where a tree has bytes
+-- the job's bytes are within the bytes that a tree can have
 abbrev pub IsJob : Job → Type 0
 IsJob job = 1024 * job.first + job.len ≤ 2 ^ 64 - 1
 
--- an answer has what the choice wants of the job's bytes of the contents, or such a source lacks one of them, or there was no memory
+-- The answer has what the choice wants of the job's bytes of the contents; or such a source lacks one of them,
+-- or there was no memory.
 abbrev pub IsJobAnswer : Option (List ℕ) → Type 0 → Choice → Mode → Answer → Type 0
 IsJobAnswer contents faultless choice mode answer =
     IfOk answer.made (λ made. GainsText contents choice mode answer.job.first answer.job.len [] made.text.items made.top)
     × IfErr answer.made (λ fault. fault ≡ Reader → Lacks contents faultless (1024 * answer.job.first + answer.job.len))
 
--- what holds of each answer that the slots have
+-- P holds of each answer in the slots
 abbrev pub AllThere : (Answer → Type 0) → List (Option Answer) → Type 0
 AllThere P slots = (i : ℕ) → IfSome (slice_index_or slots i None) P

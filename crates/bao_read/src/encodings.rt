@@ -50,14 +50,15 @@ fn chosen_source<R: Threads + Sync, S: Source + Sync>(
     Ok((root_hash(&rooted(&top)), texts))
 }
 
-/// The combined encoding of the `len` bytes of `source` in `mode`, in texts that follow one another, and the bytes'
-/// hash, by a pool of at most `workers` threads, 1 to 64, that steal subtrees: each reads what it takes in pieces of at most
-/// 256 KiB, and makes its text. The memory that this takes is the encoding's, and that of a piece for each thread.
+/// Returns the hash of the `len` bytes of `source` in `mode` and their combined encoding, as buffers that
+/// follow one another.
 ///
-/// Answers `Memory` (311) where it runs out of memory for a piece, the pool or the encoding, and `Reader` (312) where a read
-/// answered a fault, one of the kind `Interrupted` too, which is not tried again, and where the source has fewer
-/// or more than `len` bytes. The threads have ended in any case; the work of one that can't be started is done by
-/// another.
+/// At most `workers` threads, 1 to 64, share the subtrees. The memory is that of the encoding, and at most 256
+/// KiB for each thread to read into. If a thread can't be started, another does its work, and no thread
+/// outlives the call.
+///
+/// Refuses with `Memory` (311), and with `Reader` (312) if a read fails (also with the kind `Interrupted`; it
+/// isn't retried) or if the source doesn't have exactly `len` bytes.
 pub fn combined_source<R: Threads + Sync, S: Source + Sync>(
     rt: &R,
     alloc: Global,
@@ -75,10 +76,11 @@ pub fn combined_source<R: Threads + Sync, S: Source + Sync>(
     chosen_source(rt, alloc, &choice, mode, source, len, workers)
 }
 
-/// The outboard encoding of the `len` bytes of `source` in `mode`, and their hash, in the same way: the memory that this takes
-/// is the encoding's, a sixteenth of the bytes, and that of a piece, at most 256 KiB, for each thread.
+/// Returns the hash of the `len` bytes of `source` in `mode` and their outboard encoding, as `combined_source`
+/// does.
 ///
-/// Answers `Memory` (311) and `Reader` (312) where `combined_source` does.
+/// The memory is that of the encoding, a sixteenth of the bytes, and at most 256 KiB for each thread. Refuses
+/// with `Memory` (311) and `Reader` (312), as `combined_source` does.
 pub fn outboard_source<R: Threads + Sync, S: Source + Sync>(
     rt: &R,
     alloc: Global,
@@ -96,14 +98,13 @@ pub fn outboard_source<R: Threads + Sync, S: Source + Sync>(
     chosen_source(rt, alloc, &choice, mode, source, len, workers)
 }
 
-/// The slice of `count` bytes from byte `start` on of the `len` bytes of `source` in `mode`, and the hash of all of them, in
-/// the same way. All bytes are read, for the hash. What is kept is the slice alone, the chunks that have its bytes and the
-/// parents above them: so the memory that this takes is the slice's, and that of a piece, at most 256 KiB, for each thread,
-/// however many bytes there are.
+/// Returns the hash of the `len` bytes of `source` in `mode` and the slice of `count` bytes from byte `start`
+/// on, as `combined_source` does.
 ///
-/// A `count` of 0 counts as 1, a `start` at or past the end is the last byte, and the sum of the two never wraps.
-///
-/// Answers `Memory` (311) and `Reader` (312) where `combined_source` does.
+/// All bytes are read, for the hash, but only the slice is kept: the memory is that of the slice, and at most
+/// 256 KiB for each thread, whatever `len` is. A `count` of 0 counts as 1, a `start` at or past the end as the
+/// last byte, and `start + count` never wraps. Refuses with `Memory` (311) and `Reader` (312), as
+/// `combined_source` does.
 pub fn slice_source<R: Threads + Sync, S: Source + Sync>(
     rt: &R,
     alloc: Global,

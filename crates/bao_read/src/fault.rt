@@ -5,16 +5,16 @@ ghost use Rattle.bao_read.specs.Faults.{number_of};
 use std::alloc::{AllocError, AllocFailed};
 use thiserror::Error;
 
-/// Why a pool gave no hash of bytes in memory.
+/// Why a pool did not hash bytes in memory.
 #[derive(Clone, Copy, Debug, PartialEq, Eq, Error)]
 pub enum ParFault {
-    /// The pool ran out of memory; nothing is left running. Number 301.
+    /// Out of memory for the pool; no thread is left running. Number 301.
     #[error("301 memory")]
     Memory,
 }
 
 impl ParFault {
-    /// The fault's number: 301.
+    /// Returns the number of the fault: 301.
     pub fn code(&self) -> u16
         ensures { result ≡ 301 }
     {
@@ -24,20 +24,20 @@ impl ParFault {
     }
 }
 
-/// Why a source gave no hash, or no encoding. The numbers are this type's own: 301 is a pool's own memory, 401 that of an
-/// encoding of bytes that are all there, and 504 and 505 come of a text that is checked, so none of them is either of these.
+/// Why a source was not hashed or encoded. The numbers are those of reads by position; 301 (a pool), 401 (an
+/// encoding of bytes in memory), 504 and 505 (an encoding that is checked) are other types'.
 #[derive(Clone, Copy, Debug, PartialEq, Eq, Error)]
 pub enum ReadFault {
-    /// Out of memory: for a piece, an encoding or the pool. Number 311.
+    /// Out of memory: for a read buffer, the encoding or the pool. Number 311.
     #[error("311 memory")]
     Memory,
-    /// A read answered a fault, or the source hasn't the length that it was said to have. Number 312.
+    /// A read failed, or the source doesn't have the length given. Number 312.
     #[error("312 reader")]
     Reader,
 }
 
 impl ReadFault {
-    /// The fault's number: 311 or 312.
+    /// Returns the number of the fault: 311 or 312.
     pub fn code(&self) -> u16
         ensures { result ≡ number_of self.now }
     {

@@ -1,10 +1,10 @@
-/// What each worker calls once, with its own number from 0, before its first job.
+/// A hook that each worker calls once, before its first job. It may wait.
 pub trait Gate {
-    /// Lets the worker with the number `worker` in.
+    /// Is called by the worker with the index `worker`, from 0.
     fn pass(&self, worker: usize);
 }
 
-/// The gate that lets everyone in at once.
+/// A gate that returns at once.
 #[derive(Clone, Copy, Debug)]
 pub struct Open;
 

@@ -14,21 +14,21 @@ use bao_text::Choice;
 use std::alloc::Global;
 use std::thread::Threads;
 
-/// A hash by a pool, and who did the work.
+/// The hash that a pool computed, and how much of the work its workers did.
 #[derive(Clone, Copy, Debug, PartialEq, Eq)]
 pub struct Pooled {
     /// The hash.
     pub hash: Hash,
-    /// How many jobs the bytes have: at least one.
+    /// How many jobs the bytes were cut into: at least one.
     pub jobs: usize,
-    /// For how many of them a worker answered. The caller's thread did the others.
+    /// How many jobs the workers did. The caller's thread did the others.
     pub answered: usize,
 }
 
-/// The hash of `bytes` in `mode`, by a pool of `workers` threads, 1 to 64, as `hash_pool` gives it, and for how
-/// many jobs the workers answered: for all, unless memory was refused to all of them.
+/// Returns the hash of `bytes` in `mode`, as `hash_pool` does, and how many jobs the workers did: all of them,
+/// unless every worker was refused memory.
 ///
-/// Answers `Memory` (301) where it runs out of memory, and then nothing is left running.
+/// Refuses with `Memory` (301); no thread is then left running.
 pub fn hash_pooled<R: Threads + Sync, G: Gate + Sync>(
     rt: &R,
     alloc: Global,
@@ -55,15 +55,14 @@ pub fn hash_pooled<R: Threads + Sync, G: Gate + Sync>(
     }
 }
 
-/// The hash of `bytes` in `mode`, by a pool of `workers` threads, 1 to 64, that steal the jobs from the
-/// caller's deque: the largest subtrees of at most `JOB_CHUNKS` chunks that the tree's splits give, a short
-/// input being one. All of them are put before the first worker starts, and no worker makes one.
+/// Returns the hash of `bytes` in `mode`, computed by a pool of `workers` threads, 1 to 64.
 ///
-/// Each worker passes `gate` once, with its number from 0, before its first job. A job that no worker answered
-/// for is done by the caller's thread once the workers have ended; the work of a thread that can't be started
-/// is done by another one of the call.
+/// The jobs are the largest subtrees of at most `JOB_CHUNKS` chunks. All are queued before the first worker
+/// starts, and workers steal them from the caller's deque. Each worker calls `gate` once with its index, before
+/// its first job. What no worker did, the caller's thread does at the end; if a thread can't be started,
+/// another does its work.
 ///
-/// Answers `Memory` (301) where it runs out of memory, and then nothing is left running.
+/// Refuses with `Memory` (301); no thread is then left running.
 pub fn hash_pool<R: Threads + Sync, G: Gate + Sync>(
     rt: &R,
     alloc: Global,
@@ -78,13 +77,15 @@ pub fn hash_pool<R: Threads + Sync, G: Gate + Sync>(
     Ok(hash_pooled(rt, alloc, mode, bytes, workers, gate)?.hash)
 }
 
-/// The hash of the `len` bytes of `source` in `mode`, by a pool of at most `workers` threads, 1 to 64, that steal
-/// subtrees: each reads what it takes in pieces of at most 256 KiB. A thread takes memory for one piece: so the memory
-/// doesn't grow with the length, and for no byte none is taken but the pool's.
+/// Returns the hash of the `len` bytes of `source` in `mode`, computed by a pool of at most `workers` threads,
+/// 1 to 64.
 ///
-/// Answers `Memory` (311) where it runs out of memory for a piece or for the pool, and `Reader` (312) where a read
-/// answered a fault, one of the kind `Interrupted` too, which is not tried again, and where the source has fewer or more
-/// than `len` bytes. The threads have ended in any case; the work of one that can't be started is done by another.
+/// Each thread reads at most 256 KiB at a time into a buffer of its own, so the memory doesn't grow with `len`;
+/// an empty source takes none but the pool's. If a thread can't be started, another does its work, and no
+/// thread outlives the call.
+///
+/// Refuses with `Memory` (311), and with `Reader` (312) if a read fails (also with the kind `Interrupted`; it
+/// isn't retried) or if the source doesn't have exactly `len` bytes.
 pub fn hash_source<R: Threads + Sync, S: Source + Sync>(
     rt: &R,
     alloc: Global,

@@ -4,40 +4,40 @@ use crate::fault::ReadFault;
 use crate::subtree_text::Made;
 use b3tree::CHUNK_LEN;
 
-/// The most chunks of a job of bytes that lie in memory: so many that the work is worth the stealing, and few enough that
-/// no thread waits long for the last.
+/// The most chunks in a job over bytes in memory: enough to be worth stealing, and few enough that no thread
+/// waits long for the last.
 pub const JOB_CHUNKS: u64 = 64;
 
-/// So many threads keep the processors of a usual machine busy.
+/// The number of threads that keep the processors of a usual machine busy.
 pub const WORKERS: usize = 4;
 
-/// Fewer bytes than these of a source that has to be read aren't worth a thread.
+/// The least bytes of a source that are worth one more thread.
 pub const LEAST_RANGE_LEN: u64 = 1 << 20;
 
 // The most jobs of a source that has to be read: so many that no thread waits long for the last, and few enough that what
 // is kept of each is nothing beside its bytes.
 const MOST_JOBS: u64 = 256;
 
-/// A subtree that one thread hashes, or makes the text of.
+/// A subtree that one thread hashes or encodes.
 #[derive(Clone, Copy)]
 pub(crate) struct Job {
-    /// Its place among the jobs, from 0.
+    /// Its index among the jobs, from 0.
     pub number: usize,
-    /// The number of its first chunk.
+    /// The index of its first chunk.
     pub first: u64,
-    /// How many bytes it is over.
+    /// Its length in bytes.
     pub len: u64,
 }
 
-/// What a job came to.
+/// The result of a job.
 #[derive(Drop)]
 pub(crate) struct Answer {
     pub job: Job,
     pub made: Result<Made, ReadFault>,
 }
 
-/// So many bytes, cut into jobs of so many chunks. Where that is a power of two, the jobs are the largest subtrees of at most
-/// so many chunks that the tree's splits give.
+/// A number of bytes cut into jobs of a number of chunks. If that is a power of two, the jobs are the largest
+/// subtrees of at most as many chunks.
 #[derive(Clone, Copy)]
 pub(crate) struct Cutting {
     len: u64,
@@ -51,7 +51,7 @@ impl Cutting {
     ghost use Rattle.std.specs.Int.{IsPowerOfTwo};
     ghost use Rattle.bao_read.specs.Jobs.{IsJob, job_count, job_with};
 
-    /// That of bytes that lie in memory.
+    /// Cuts bytes that are in memory.
     pub(crate) fn of_bytes(len: u64) -> Cutting
         ensures { (result.len ≡ len) × (result.chunks ≡ 64) }
     {
@@ -61,8 +61,8 @@ impl Cutting {
         }
     }
 
-    /// That of a source that has to be read: into jobs of 64 chunks, or, where these were more than 256, of so many chunks, a
-    /// power of two, that no more are left, while jobs of half as many were more.
+    /// Cuts a source that has to be read: into jobs of 64 chunks, or, if that were more than 256 jobs, of the
+    /// least power of two that gives at most 256.
     pub(crate) fn of_source(len: u64) -> Cutting
         ensures len { result.len ≡ len }
         ensures power { IsPowerOfTwo result.chunks }
@@ -77,14 +77,14 @@ impl Cutting {
         }
     }
 
-    /// How many bytes there are.
+    /// Returns how many bytes there are.
     pub(crate) fn len(&self) -> u64
         ensures { result ≡ self.now.len }
     {
         self.len
     }
 
-    /// The chunks of a job that is not the last.
+    /// Returns how many chunks each job but the last has.
     pub(crate) fn chunks(&self) -> u64
         ensures value { result ≡ self.now.chunks }
         ensures some { 0 < result }
@@ -93,14 +93,14 @@ impl Cutting {
         self.chunks
     }
 
-    /// How many jobs there are: of no bytes there is one.
+    /// Returns how many jobs there are: one for no bytes.
     pub(crate) fn count(&self) -> usize
         ensures { result ≡ job_count (1024 * self.now.chunks) self.now.len }
     {
         self.len.div_ceil(CHUNK_LEN as u64 * self.chunks).max(1) as usize
     }
 
-    /// The job with this number.
+    /// Returns the job with this index.
     pub(crate) fn job(&self, number: usize) -> Job
         requires { number < job_count (1024 * self.now.chunks) self.now.len }
         ensures value { result ≡ job_with self.now.chunks self.now.len number }
@@ -116,7 +116,7 @@ impl Cutting {
     }
 }
 
-/// How many of the workers are worth their threads over so many bytes that have to be read.
+/// Returns how many of the workers are worth starting for `len` bytes that have to be read.
 pub(crate) fn sharers(len: u64, workers: usize) -> usize {
     let most = len.div_ceil(LEAST_RANGE_LEN).max(1);
     workers.min(usize::try_from(most).unwrap_or(usize::MAX))

@@ -6,11 +6,11 @@ ghost use Rattle.b3tree.specs.Tree.{subtree_cv, top_input};
 use b3tree::{CHUNK_LEN, Cv, Hash, Input, Mode, cv, left_len, parent_input, root_hash, rooted};
 use std::thread::{Threads, join};
 
-/// The hash of `bytes` in `mode`, on as many threads as there are subtrees of at most `grain` chunks
-/// where the tree splits: a larger subtree is split into its two parts, which are hashed at once.
+/// Returns the hash of `bytes` in `mode`, computed on as many threads as there are subtrees of at most `grain`
+/// chunks.
 ///
-/// The grain is at least 1. Nothing is refused: the work of a thread that can't be started is done by
-/// another thread of the call. The call waits for the threads that it starts.
+/// A larger subtree is split, and its two children are hashed at once. `grain` is at least 1. It refuses
+/// nothing: if a thread can't be started, another does its work, and no thread outlives the call.
 #[tactic(auto, unfolding(b3tree::specs::Hashing::hash))]
 pub fn hash_join<R: Threads + Sync>(rt: &R, mode: &Mode, bytes: &[u8], grain: u64) -> Hash
     requires { 1 ≤ grain }

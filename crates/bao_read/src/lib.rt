@@ -1,6 +1,8 @@
-//! BLAKE3 hashes and Bao encodings of bytes that lie in memory or are read by position, as a file is, on several threads: one
-//! walk through the tree, whose jobs are subtrees that a pool's workers steal. Over a source that isn't in memory the memory
-//! for a hash doesn't grow with the length.
+//! BLAKE3 hashes and Bao encodings on several threads, of bytes in memory or of a source that is read by
+//! position, such as a file.
+//!
+//! The tree is cut into subtrees, which the workers of a pool steal. Hashing a source takes memory that doesn't
+//! grow with its length.
 #![tactic(auto)]
 
 pub use encodings::{combined_source, outboard_source, slice_source};

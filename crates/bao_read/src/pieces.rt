@@ -7,13 +7,13 @@ use crate::source::Source;
 use b3tree::{CHUNK_LEN, Cv, Input, Mode, bytes_are, cv, left_len, parent_input};
 use bao_text::{Choice, PARENT_LEN, append_subtree, put_parent};
 
-/// The most bytes that a thread asks for at once: few enough to stay in a processor's cache.
+/// The most bytes that a thread reads at once: few enough to stay in the processor's cache.
 pub const PIECE_LEN: usize = 1 << 18;
 
-/// Fills `buf` with the source's bytes from the place `at` on, by as many reads as it takes.
+/// Fills `buf` with the bytes of the source from offset `at` on, in as many reads as needed.
 ///
-/// Answers `Reader` (312) where a read answered a fault, one of the kind `Interrupted` too, which is not tried
-/// again, or no byte. What the buffer has then is not said.
+/// Refuses with `Reader` (312) if a read fails (also with the kind `Interrupted`; it isn't retried) or returns
+/// no byte. The content of `buf` is then unspecified.
 pub fn fill<S: Source>(source: &S, at: u64, buf: &mut [u8]) -> Result<(), ReadFault>
     requires { at + length buf.old ≤ 2 ^ 64 - 1 }
     ensures given { OnOk result (GivenAt (S.contents source.now) at buf.new) }
@@ -31,7 +31,7 @@ pub fn fill<S: Source>(source: &S, at: u64, buf: &mut [u8]) -> Result<(), ReadFa
     Ok(())
 }
 
-/// Whether the source has no byte at `len` and after it. Where the read fails, it isn't said to end there.
+/// Returns whether the source has no byte at offset `len` or after it: `false` also if the read fails.
 pub fn ends_at<S: Source>(source: &S, len: u64) -> bool
     ensures ends { result ≡ true → IfSome (S.contents source.now) (λ s. length s ≤ len) }
     ensures found { S.faultless source.now → IfSome (S.contents source.now) (λ s. length s ≤ len → result ≡ true) }

@@ -204,19 +204,19 @@ fn answered_count(slots: &[Option<Answer>]) -> usize
     slots.iter().filter(|slot| slot.is_some()).count()
 }
 
-/// A tree whose jobs were done by a pool.
+/// A tree whose jobs a pool did.
 #[derive(Drop)]
 pub(crate) struct Done {
     pub tree: Tree,
     /// How many jobs there were.
     pub jobs: usize,
-    /// How many of the tree's parts were a worker's.
+    /// How many of them the workers did.
     pub answered: usize,
 }
 
-/// The tree over all bytes of the source that the cutting is of. `workers` threads steal its jobs: all of them are put before
-/// the first worker starts, and each worker passes the gate once before its first job. What none answered for is made by the
-/// caller's thread at last.
+/// Returns the tree over all bytes of the source that `cutting` cuts. The `workers` threads steal its jobs,
+/// which are all queued before the first worker starts, and each calls `gate` once before its first job. What
+/// none of them did, the caller's thread does at the end.
 pub(crate) fn tree_by_pool<R: Threads + Sync, S: Source + Sync, G: Gate + Sync>(
     rt: &R,
     alloc: Global,

@@ -6,7 +6,7 @@ use std::fs::File;
 use std::io;
 use std::os::unix::fs::FileExt;
 
-/// Bytes that are read by position, by several threads at once where it is `Sync`.
+/// Bytes that are read by position; by several threads at once if the type is `Sync`.
 pub trait Source {
     // The bytes, where they are known.
     ghost contents: { Self → Option (List ℕ) } = { λ _. None };
@@ -14,14 +14,14 @@ pub trait Source {
     // That no read of it answers a fault.
     ghost faultless: { Self → Type 0 } = { λ _. ⊥ };
 
-    /// Reads bytes from the place `at` on to the front of `buf`, and answers how many: none only past the
-    /// end, or where `buf` is empty.
+    /// Reads bytes from offset `at` on to the front of `buf` and returns how many: 0 only at or past the end,
+    /// or if `buf` is empty.
     fn read_at(&self, buf: &mut [u8], at: u64) -> io::Result<usize>
         ensures bound { ReadsAtMost result buf.new }
         ensures bytes { IfOk result (λ count. ReadsAt (contents self.now) at count buf.new) }
         ensures fault { faultless self.now → IsOk result };
 
-    /// All of the bytes, where they lie in memory, so that nobody has to copy them.
+    /// Returns all of the bytes if they are in memory, so that nobody has to copy them.
     fn at_hand(&self) -> Option<&[u8]>
         ensures { IfSome result (λ bytes. contents self.now ≡ Some bytes.now) }
     {
@@ -32,7 +32,8 @@ pub trait Source {
 // No file has a byte past this place: a system's call takes none beyond, and answers a fault.
 const LAST_PLACE: u64 = i64::MAX as u64;
 
-/// The position of the file is neither used nor moved. At a place where no file can have a byte it answers 0, as past the end.
+/// The file's own position is neither used nor moved. Past the greatest offset that a file can have, a read
+/// returns 0, as past the end.
 impl Source for File {
     fn read_at(&self, buf: &mut [u8], at: u64) -> io::Result<usize> {
         if at > LAST_PLACE {

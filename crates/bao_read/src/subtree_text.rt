@@ -58,8 +58,8 @@ fn grow(piece: &mut Vec<u8>, len: u64) -> Result<(), AllocError>
     Ok(())
 }
 
-/// The subtree over `len` bytes of the source, which begin with chunk `first`. What has to be read comes through `piece`,
-/// which grows as needed and is used again.
+/// Reads and encodes the subtree over `len` bytes of the source, which begins with chunk `first`. `piece` is
+/// the buffer to read into; it grows as needed and is used again.
 pub(crate) fn make<S: Source>(
     alloc: Global,
     choice: &Choice,

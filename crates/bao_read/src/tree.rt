@@ -17,7 +17,7 @@ use b3tree::{CHUNK_LEN, Cv, Input, Mode, cv, left_len, parent_input};
 use bao_text::{Choice, PARENT_LEN, put_parent};
 use std::alloc::{AllocError, Global};
 
-/// A subtree's last compression, and what the choice wants of it, in texts that follow one another.
+/// A subtree's last compression, and what the choice wants of it, as buffers that follow one another.
 #[derive(Drop)]
 pub(crate) struct Tree {
     pub top: Input,
@@ -127,8 +127,8 @@ fn tree_of_parts(
     })
 }
 
-/// The tree over `len` bytes of the source, which begin with chunk `first`, out of the answers in the slots: they are of
-/// its subtrees of at most `chunks` chunks where it splits. What isn't there is made here.
+/// Returns the tree over `len` bytes of the source, which begins with chunk `first`, from the answers in
+/// `slots`: those of its subtrees of at most `chunks` chunks. What isn't there is computed here.
 #[cycle(trees)]
 pub(crate) fn tree_over<S: Source>(
     alloc: Global,

@@ -1,4 +1,4 @@
--- the command line: its subcommands, with their options and places, as clap's rules
+-- the command line: its subcommands, with their options and arguments, as clap's rules
 use Rattle.std.specs.Prelude.{◌≡◌, ◌⊎◌, List, [], ◌∷◌, Some, Result, Ok, Err, pos, codes, true, false}
 use Rattle.clap.specs.Words.{App, HasKind, IsAmong, Rule, Text, app_of, fault_of, kind_of, new_app, new_rule, subcommand_of, takes, with_rule, with_subcommand}
 use Rattle.clap.specs.declared.builder.command.Command.{Command}
@@ -13,7 +13,7 @@ use Rattle.clap.specs.declared.error.kind.ErrorKind.TheVariants.{DisplayHelp, Di
 use Rattle.bao_request.specs.declared.tasks.Request.{Request}
 use Rattle.bao_request.specs.Requests.{GivesRequest}
 
--- an option `--id VALUE`, and a place that has to be given
+-- an option `--id VALUE`, and a required argument
 abbrev pub option_rule : Text → Rule
 option_rule id = record (new_rule id) { long = Some id; value_names = 1 }
 
@@ -80,11 +80,11 @@ enc_rule = place_rule (codes "ENC")
 abbrev pub slice_rule : Rule
 slice_rule = place_rule (codes "SLICE")
 
--- the outboard encoding beside which copies are verified
+-- the outboard encoding of which plain copies are checked
 abbrev pub outboard_rule : Rule
 outboard_rule = option_rule (codes "outboard")
 
--- whether it is told what is wrong with the files: an option `--verbose` without a value
+-- whether it is reported what is wrong with the files: a flag `--verbose`
 abbrev pub verbose_rule : Rule
 verbose_rule = record (new_rule (codes "verbose")) { long = Some (codes "verbose"); action = Some SetTrue }
 
@@ -109,23 +109,23 @@ with_cut_rules app = with_mode_rules (with_rule (with_rule app enc_rule) out_rul
 abbrev pub cut_slice_app : App
 cut_slice_app = with_cut_rules (with_range_rules (with_rule (with_rule (new_app (codes "cut-slice")) outboard_rule) verbose_rule))
 
--- how many workers gather
+-- the number of worker threads
 abbrev pub workers_rule : Rule
 workers_rule = record (option_rule (codes "workers")) { parser = Some (Signed (pos 1) (pos 64)); defaults = codes "4" ∷ [] }
 
--- whether the blob may have any length: an option `--long` without a value
+-- whether the blob may have any length: a flag `--long`
 abbrev pub long_rule : Rule
 long_rule = record (new_rule (codes "long")) { long = Some (codes "long"); action = Some SetTrue }
 
--- whether missing chunks are asked for one by one at last: an option `--salvage` without a value
+-- whether missing chunks are asked for one at a time as a last resort: a flag `--salvage`
 abbrev pub salvage_rule : Rule
 salvage_rule = record (new_rule (codes "salvage")) { long = Some (codes "salvage"); action = Some SetTrue }
 
--- whether the blob's combined encoding is written in its place: an option `--encode` without a value
+-- whether the blob's combined encoding is written instead of the blob: a flag `--encode`
 abbrev pub encode_rule : Rule
 encode_rule = record (new_rule (codes "encode")) { long = Some (codes "encode"); action = Some SetTrue }
 
--- the file to which is written what is missing
+-- the file that lists what is missing
 abbrev pub missing_rule : Rule
 missing_rule = option_rule (codes "missing")
 

@@ -1,5 +1,5 @@
--- what the arguments ask for: a request, from the rows that clap has of a subcommand's arguments (an
--- option's or a place's name, with its text)
+-- what the arguments ask for: a request, from the rows that clap has of a subcommand's arguments (the name
+-- of an option or argument, with its text)
 use Rattle.std.specs.Prelude.{◌≡◌, ◌↔◌, ◌<◌, ◌^◌, ℕ, Bool, true, List, Option, Some, None, codes, map}
 use Rattle.std.specs.Option.{option_copied}
 use Rattle.std.specs.Str.Parse.{IsNumeral, digits_value, without_leading_plus}

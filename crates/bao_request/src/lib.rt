@@ -1,4 +1,4 @@
-//! What the arguments of `bao_gather` ask for: a request, read as `clap` reads them.
+//! What the arguments of `bao_gather` ask for: a request, parsed with `clap`.
 #![tactic(auto)]
 
 mod reading;

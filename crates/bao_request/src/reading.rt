@@ -27,14 +27,14 @@ fn number(words: &ArgMatches<'_>, id: &str) -> Option<u64>
     words.get_one(id)
 }
 
-// The number of the argument `id`, where it has 32 bits.
+// The number of the argument `id`, if it fits 32 bits.
 fn count(words: &ArgMatches<'_>, id: &str) -> Option<u32>
     ensures { Finds (GivesNumber 32 (rows_of (found_of words.now)) id.now) result }
 {
     u32::try_from(number(words, id)?).ok()
 }
 
-// Whether the option `id`, which has no value, is given.
+// Whether the flag `id` is given.
 fn flag(words: &ArgMatches<'_>, id: &str) -> bool
     ensures { GivesFlag (rows_of (found_of words.now)) id.now result }
 {
@@ -48,7 +48,7 @@ fn range(words: &ArgMatches<'_>) -> Option<(u64, u64)>
     Some((number(words, "START")?, number(words, "LEN")?))
 }
 
-// The task of hashing.
+// The task of `hash`.
 fn hash_of<'a>(words: &ArgMatches<'a>) -> Option<Task<'a>>
     ensures { Finds (GivesTask (codes "hash") (rows_of (found_of words.now))) result }
 {
@@ -59,7 +59,7 @@ fn hash_of<'a>(words: &ArgMatches<'a>) -> Option<Task<'a>>
     })
 }
 
-// The task of writing this encoding.
+// The task of `encode` or `outboard`, or of `slice` with its range.
 fn encode_of<'a>(encoding: Encoding, words: &ArgMatches<'a>) -> Option<Task<'a>>
     ensures { (name : List ℕ) → GivesEncoding name (rows_of (found_of words.now)) encoding → Finds (GivesTask name (rows_of (found_of words.now))) result }
 {
@@ -70,7 +70,7 @@ fn encode_of<'a>(encoding: Encoding, words: &ArgMatches<'a>) -> Option<Task<'a>>
     })
 }
 
-// The task of writing a slice.
+// The task of `slice`.
 fn slice_of<'a>(words: &ArgMatches<'a>) -> Option<Task<'a>>
     ensures { Finds (GivesTask (codes "slice") (rows_of (found_of words.now))) result }
 {
@@ -78,7 +78,7 @@ fn slice_of<'a>(words: &ArgMatches<'a>) -> Option<Task<'a>>
     encode_of(Encoding::Slice { start, len }, words)
 }
 
-// The task of cutting a slice out of what there is of a blob.
+// The task of `cut-slice`.
 fn cut_slice_of<'a>(words: &ArgMatches<'a>) -> Option<Task<'a>>
     ensures { Finds (GivesTask (codes "cut-slice") (rows_of (found_of words.now))) result }
 {
@@ -94,7 +94,7 @@ fn cut_slice_of<'a>(words: &ArgMatches<'a>) -> Option<Task<'a>>
     })
 }
 
-// The check of a whole blob: of a combined encoding, or of a plain copy beside an outboard encoding.
+// The task of `decode`, with or without `--outboard`.
 fn decode_of<'a>(words: &ArgMatches<'a>) -> Option<Task<'a>>
     ensures { Finds (GivesTask (codes "decode") (rows_of (found_of words.now))) result }
 {
@@ -120,7 +120,7 @@ fn decode_of<'a>(words: &ArgMatches<'a>) -> Option<Task<'a>>
     }
 }
 
-// The check of a slice.
+// The task of `decode-slice`.
 fn decode_slice_of<'a>(words: &ArgMatches<'a>) -> Option<Task<'a>>
     ensures { Finds (GivesTask (codes "decode-slice") (rows_of (found_of words.now))) result }
 {
@@ -134,14 +134,14 @@ fn decode_slice_of<'a>(words: &ArgMatches<'a>) -> Option<Task<'a>>
     })
 }
 
-// The texts of the argument `id`, all of them.
+// All texts of the argument `id`.
 fn texts<'m, 'a>(words: &'m ArgMatches<'a>, id: &str) -> Option<&'m [&'a str]>
     ensures { Finds (λ texts. GivesTexts (rows_of (found_of words.now)) id.now texts.now) result }
 {
     words.get_strs(id)
 }
 
-// The task of gathering, where its arguments are all there.
+// The task of `gather`, if no argument is missing.
 fn gather_of<'a>(alloc: Global, words: &ArgMatches<'a>) -> Result<Option<Task<'a>>, AllocError>
     ensures { IfOk result (Finds (GivesTask (codes "gather") (rows_of (found_of words.now)))) }
 {
@@ -169,7 +169,7 @@ fn gather_of<'a>(alloc: Global, words: &ArgMatches<'a>) -> Result<Option<Task<'a
     }))
 }
 
-// The task of running a schedule, where its arguments are all there.
+// The task of `replay`, if no argument is missing.
 fn replay_of<'a>(alloc: Global, words: &ArgMatches<'a>) -> Result<Option<Task<'a>>, AllocError>
     ensures { IfOk result (Finds (GivesTask (codes "replay") (rows_of (found_of words.now)))) }
 {
@@ -191,7 +191,7 @@ fn replay_of<'a>(alloc: Global, words: &ArgMatches<'a>) -> Result<Option<Task<'a
     }))
 }
 
-// The task of a subcommand's arguments, where they are all there.
+// The task of the subcommand `name`, if no argument is missing.
 fn task_of<'a>(
     alloc: Global,
     name: &str,
@@ -213,7 +213,7 @@ fn task_of<'a>(
     }
 }
 
-// What the arguments of a subcommand ask for, where they are all there.
+// What the subcommand and its arguments ask for, if none is missing.
 fn request_of<'a>(
     alloc: Global,
     matches: &ArgMatches<'a>,
@@ -244,15 +244,17 @@ fn matches_of<'a>(alloc: Global, words: &'a [String]) -> Result<ArgMatches<'a>, 
     program.try_get_matches_from(words)
 }
 
-// The answer to arguments that are not all there, which `clap` lets through none of.
+// The error for a missing argument. `clap` lets no such arguments through.
 fn incomplete(alloc: Global) -> Result<Error, AllocError>
     ensures { IfOk result (λ error. kind_of error ≡ ErrorKind.MissingSubcommand) }
 {
     program(alloc)?.error(ErrorKind::MissingSubcommand, "a command is missing")
 }
 
-/// Reads the arguments, the program's name first. What `clap` refuses comes back as its error, as do
-/// asked-for help and version; nothing else is refused, but where memory runs out.
+/// Parses the arguments, of which the first is the program's name.
+///
+/// Refuses with `clap`'s error what `clap` refuses; help and the version are such errors, too. Otherwise refuses
+/// only if out of memory.
 pub fn parse<'a>(alloc: Global, words: &'a [String]) -> Result<Request<'a>, Error>
     ensures request { IfOk result (AsksFor (map string_bytes words.entry.now)) }
     ensures help { IfErr result (λ error. IsHelp (kind_of error) → AsksForHelp (map string_bytes words.entry.now)) }

@@ -6,54 +6,54 @@ ghost use Rattle.bao_request.specs.CommandLine.{IsApp, any_number, at_rule, capa
 use clap::{Arg, ArgAction, Command, value_parser};
 use std::alloc::{AllocError, Global};
 
-// The most bytes of output that are printed.
+// The most bytes of output that one command prints. `--at` gives the others.
 const MOST_OUTPUT: i64 = 65_536;
 
-// The most chunks of a blob that is gathered.
+// The largest `--capacity`, in chunks.
 const MOST_CHUNKS: i64 = 65_536;
 
-// The most workers that gather.
+// The most worker threads.
 const MOST_WORKERS: i64 = 64;
 
-// What help says of the options of the mode.
-const OF_KEY: &str = "Hashes under this key, 64 hexadecimal digits; others can read it, by ps";
+// The help of the options that choose the mode.
+const OF_KEY: &str = "Use keyed hashing with this key, 64 hex digits; other users can see it in ps";
 
 const OF_KEY_FILE: &str =
-    "Hashes under the key in this file, 64 hexadecimal digits and at most one line end";
+    "Read the key from this file: 64 hex digits, optionally followed by a line feed";
 
-// What help says of the hash under which something is checked.
-const OF_ROOT: &str = "The hash of the blob, 64 hexadecimal digits";
+// The help of ROOT.
+const OF_ROOT: &str = "BLAKE3 hash of the blob, 64 hex digits";
 
-// What help says of where a range begins.
-const OF_START: &str = "The first byte of the range";
+// The help of START.
+const OF_START: &str = "First byte of the range, counted from 0";
 
-// What help says of the file that is written.
-const OF_OUT: &str = "The file to write; one that is there is written over";
+// The help of OUT.
+const OF_OUT: &str = "File to write; an existing file is replaced";
 
-// What help says of the option of those that check one encoding.
-const OF_VERBOSE: &str = "Says on standard error which file is at fault, and where";
+// The help of `--verbose`, but for `gather`.
+const OF_VERBOSE: &str = "Report on standard error which file is at fault, and where";
 
-// What help says below the options.
+// What `--help` prints below the options.
 const OF_PROGRAM: &str =
-    "FILE, ENC, SLICE and SCRIPT may be -, standard input. Exit status: 0 done; 1 what was given doesn't verify, or is unfinished;\n2 wrong words; 3 a file can't be read or written; 4 out of memory.";
+    "FILE, ENC, SLICE and SCRIPT may be -, for standard input.\nExit status: 0 success; 1 the input doesn't verify, or is incomplete; 2 usage error;\n3 a file can't be read or written; 4 out of memory.";
 
 const OF_SLICE: &str =
-    "The range ends where FILE does; a LEN of 0 counts as 1, and a START at or past the end as that of the last byte.";
+    "A range that runs past the end of FILE ends there. A START at or past the end selects the last byte.";
 
 const OF_CUT_SLICE: &str =
-    "No more of ENC is read than the slice has. With --outboard ENC is the plain copy, of which the range is read, and of that file\nthe parents above it. OUT is made once the slice was accepted.";
+    "Only the length, the range and the parents above it are read, so other damage doesn't matter.\nOUT is written once the slice has been verified.";
 
 const OF_DECODE: &str =
-    "OUT is made once the encoding was accepted. With --outboard that file is checked first, and then ENC.";
+    "OUT is written once everything has been verified. With --outboard, that file is checked before ENC is.";
 
 const OF_DECODE_SLICE: &str =
-    "OUT gets the bytes of the range that the blob has, which are none where it has fewer than START. It is made once the\nslice was accepted.";
+    "OUT is written once the slice has been verified. It gets those bytes of the range that the blob has:\nnone if START is at or past its end.";
 
 const OF_GATHER: &str =
-    "A blob above 64 MiB is gathered with --long.\nA FILE may be cut, changed or of another blob; one that can't be read is left out. What isn't a regular file, as\n/dev/stdin, is read only where the regular ones leave the blob unfinished. OUT is made once the blob was verified.\nWith --outboard that file is checked first, and never left out. With --long an OUT that isn't\nregular gets bytes as they are verified, so that after a fault a beginning of the blob may stand there.\nWhere a chunk of a FILE is damaged, none of its group of 64 chunks is taken from there; with --salvage the others are.";
+    "Blobs above 64 MiB need --long.\nA FILE may be cut short, altered, or a copy of something else. One that can't be read is left out.\nPipes and devices are read only if the regular files leave the blob unfinished.\nWith --outboard, that file is checked first, and has to be good.\nA bad byte of the blob spoils its group of 64 KiB in that FILE; with --salvage, only its chunk of 1024 bytes.\nOUT is written once the blob has been verified. With --long, an OUT that is a pipe or device gets the bytes\nas they are verified, and may be left with only the beginning of the blob after a failure.";
 
 const OF_REPLAY: &str =
-    "A line of SCRIPT is empty or has one of nine forms, its words one space apart, and ends with a line feed, before which no\ncarriage return stands. S is a seat, G a group of 64 chunks, MASK a mask of these, C a chunk, F a FILE, counted from 0:\n  claim S G MASK       S takes chunks of G\n  hash S F START LEN   the slice cut out of F becomes the piece of S\n  write S C W          S writes word W, 0 to 128, of the cell of C\n  fill S C             S writes all of them\n  publish S G          S commits what it claims of G and its piece has\n  give S G MASK        S gives chunks of G back\n  load S AT LEN        S loads a word of its read of LEN bytes from AT on\n  settle S             S settles the length that its piece certifies\n  length S             S asks for the length";
+    "Each line of SCRIPT is empty or has one of nine forms, with single spaces between words, and ends with a\nline feed, without a carriage return. S is a seat, G a group of 64 chunks, MASK a decimal bit mask of chunks\nin G, bit 0 for the first, C a chunk, and F a FILE, counted from 0:\n  claim S G MASK       S claims chunks of G\n  hash S F START LEN   the slice cut from F becomes the current slice of S\n  write S C W          S writes word W, 0 to 128, of chunk C\n  fill S C             S writes all words of C\n  publish S G          S commits the chunks of G that it claims and its slice has\n  give S G MASK        S gives chunks of G back\n  load S AT LEN        S loads the next word of its read of LEN bytes from byte AT on\n  settle S             S settles the length that its slice certifies\n  length S             S asks for the length";
 
 // The option `--id NAME`.
 fn option<'a>(alloc: Global, id: &'a str, name: &'a str) -> Arg<'a>
@@ -63,7 +63,7 @@ fn option<'a>(alloc: Global, id: &'a str, name: &'a str) -> Arg<'a>
     Arg::new(alloc, id).long(id).value_name(name)
 }
 
-// The place `id`, which has to be given.
+// The required argument `id`.
 fn place<'a>(alloc: Global, id: &'a str, help: &'a str) -> Arg<'a>
     ensures rule { rule_of result ≡ place_rule id.entry.now }
     ensures global { result.global ≡ false }
@@ -78,7 +78,7 @@ fn at_option<'a>(alloc: Global) -> Arg<'a>
     option(alloc, "at", "N")
         .value_parser(value_parser!(u64))
         .default_value("0")
-        .help("The first byte of output to print")
+        .help("First byte of output to print")
 }
 
 fn length_option<'a>(alloc: Global) -> Arg<'a>
@@ -88,10 +88,10 @@ fn length_option<'a>(alloc: Global) -> Arg<'a>
     option(alloc, "length", "N")
         .value_parser(value_parser!(u32).range(1..=MOST_OUTPUT))
         .default_value("32")
-        .help("How many bytes of output to print, 1 to 65536")
+        .help("Number of bytes of output to print, 1 to 65536")
 }
 
-// The option for an outboard encoding.
+// The option `--outboard FILE`.
 fn outboard_option<'a>(alloc: Global, help: &'a str) -> Arg<'a>
     ensures rule { rule_of result ≡ outboard_rule }
     ensures global { result.global ≡ false }
@@ -99,7 +99,7 @@ fn outboard_option<'a>(alloc: Global, help: &'a str) -> Arg<'a>
     option(alloc, "outboard", "FILE").help(help)
 }
 
-// The option that tells more.
+// The flag `--verbose`.
 fn verbose_flag<'a>(alloc: Global, help: &'a str) -> Arg<'a>
     ensures rule { rule_of result ≡ verbose_rule }
     ensures global { result.global ≡ false }
@@ -110,7 +110,7 @@ fn verbose_flag<'a>(alloc: Global, help: &'a str) -> Arg<'a>
         .help(help)
 }
 
-// The place `id` of a number of 64 bits.
+// The required argument `id`, a number of 64 bits.
 fn number_place<'a>(alloc: Global, id: &'a str, help: &'a str) -> Arg<'a>
     ensures rule { rule_of result ≡ record (place_rule id.entry.now) { parser = Some any_number } }
     ensures global { result.global ≡ false }
@@ -124,19 +124,19 @@ fn with_mode<'a>(alloc: Global, command: Command<'a>) -> Result<Command<'a>, All
 {
     let command = command.arg(option(alloc, "key", "HEX").help(OF_KEY))?;
     let command = command.arg(option(alloc, "key-file", "FILE").help(OF_KEY_FILE))?;
-    command.arg(option(alloc, "context", "TEXT").help("Derives keys for this context"))
+    command.arg(option(alloc, "context", "TEXT").help(
+        "Use key derivation with this context string",
+    ))
 }
 
 fn hash_command<'a>(alloc: Global) -> Result<Command<'a>, AllocError>
     ensures { IfOk result (IsApp hash_app) }
 {
     let command = Command::new(alloc, "hash")
-        .about(
-            "Prints the BLAKE3 hash of a file, or other bytes of its extended output, as hexadecimal digits",
-        )
+        .about("Print the BLAKE3 hash of a file, or other bytes of its extended output")
         .arg(at_option(alloc))?;
     let command = command.arg(length_option(alloc))?;
-    let command = command.arg(place(alloc, "FILE", "The file to hash"))?;
+    let command = command.arg(place(alloc, "FILE", "File to hash"))?;
     with_mode(alloc, command)
 }
 
@@ -145,7 +145,7 @@ fn with_files<'a>(alloc: Global, command: Command<'a>) -> Result<Command<'a>, Al
     requires { (out-Command command).has_globals ≡ false }
     ensures { IfOk result (IsApp (with_file_rules (app_of command.entry))) }
 {
-    let command = command.arg(place(alloc, "FILE", "The file to encode"))?;
+    let command = command.arg(place(alloc, "FILE", "File to encode"))?;
     let command = command.arg(place(alloc, "OUT", OF_OUT))?;
     with_mode(alloc, command)
 }
@@ -153,14 +153,14 @@ fn with_files<'a>(alloc: Global, command: Command<'a>) -> Result<Command<'a>, Al
 fn encode_command<'a>(alloc: Global) -> Result<Command<'a>, AllocError>
     ensures { IfOk result (IsApp encode_app) }
 {
-    let about = "Writes the combined Bao encoding of a file, and prints the hash";
+    let about = "Write a file's combined Bao encoding, and print its hash";
     with_files(alloc, Command::new(alloc, "encode").about(about))
 }
 
 fn outboard_command<'a>(alloc: Global) -> Result<Command<'a>, AllocError>
     ensures { IfOk result (IsApp outboard_app) }
 {
-    let about = "Writes the outboard Bao encoding of a file, and prints the hash";
+    let about = "Write a file's outboard Bao encoding, and print its hash";
     with_files(alloc, Command::new(alloc, "outboard").about(about))
 }
 
@@ -168,10 +168,10 @@ fn slice_command<'a>(alloc: Global) -> Result<Command<'a>, AllocError>
     ensures { IfOk result (IsApp slice_app) }
 {
     let command = Command::new(alloc, "slice")
-        .about("Writes the Bao slice of a range of a file, and prints the hash of the file")
+        .about("Write the Bao slice for a range of a file, and print the file's hash")
         .after_help(OF_SLICE)
         .arg(number_place(alloc, "START", OF_START))?;
-    let help = "How many bytes the range has; 0 counts as 1";
+    let help = "Length of the range in bytes; 0 counts as 1";
     let command = command.arg(number_place(alloc, "LEN", help))?;
     with_files(alloc, command)
 }
@@ -182,7 +182,7 @@ fn with_encoding<'a>(alloc: Global, command: Command<'a>) -> Result<Command<'a>,
     ensures { IfOk result (IsApp (with_encoding_rules (app_of command.entry))) }
 {
     let command = command.arg(place(alloc, "ROOT", OF_ROOT))?;
-    let help = "The encoding to check, or with --outboard the plain copy";
+    let help = "Combined encoding to check, or a plain copy with --outboard";
     let command = command.arg(place(alloc, "ENC", help))?;
     let command = command.arg(place(alloc, "OUT", OF_OUT))?;
     with_mode(alloc, command)
@@ -191,9 +191,12 @@ fn with_encoding<'a>(alloc: Global, command: Command<'a>) -> Result<Command<'a>,
 fn decode_command<'a>(alloc: Global) -> Result<Command<'a>, AllocError>
     ensures { IfOk result (IsApp decode_app) }
 {
-    let outboard = outboard_option(alloc, "Checks a plain copy beside this outboard encoding");
+    let outboard = outboard_option(
+        alloc,
+        "Outboard encoding of the blob; ENC is then a plain copy",
+    );
     let command = Command::new(alloc, "decode")
-        .about("Checks a combined Bao encoding, or a plain copy, under a root, and writes the blob")
+        .about("Check a combined Bao encoding, or a plain copy, under ROOT, and write the blob")
         .after_help(OF_DECODE)
         .arg(outboard)?;
     let command = command.arg(verbose_flag(alloc, OF_VERBOSE))?;
@@ -207,7 +210,7 @@ fn with_range<'a>(alloc: Global, command: Command<'a>) -> Result<Command<'a>, Al
 {
     let command = command.arg(place(alloc, "ROOT", OF_ROOT))?;
     let command = command.arg(number_place(alloc, "START", OF_START))?;
-    command.arg(number_place(alloc, "LEN", "How many bytes the range has"))
+    command.arg(number_place(alloc, "LEN", "Length of the range in bytes"))
 }
 
 // The command with the arguments SLICE and OUT, and those of the mode.
@@ -215,7 +218,7 @@ fn with_slice<'a>(alloc: Global, command: Command<'a>) -> Result<Command<'a>, Al
     requires { (out-Command command).has_globals ≡ false }
     ensures { IfOk result (IsApp (with_slice_rules (app_of command.entry))) }
 {
-    let command = command.arg(place(alloc, "SLICE", "The slice to check"))?;
+    let command = command.arg(place(alloc, "SLICE", "Slice to check"))?;
     let command = command.arg(place(alloc, "OUT", OF_OUT))?;
     with_mode(alloc, command)
 }
@@ -223,7 +226,7 @@ fn with_slice<'a>(alloc: Global, command: Command<'a>) -> Result<Command<'a>, Al
 fn decode_slice_command<'a>(alloc: Global) -> Result<Command<'a>, AllocError>
     ensures { IfOk result (IsApp decode_slice_app) }
 {
-    let about = "Checks a Bao slice under a root, and writes its bytes";
+    let about = "Check a Bao slice under ROOT, and write its bytes";
     let command = Command::new(alloc, "decode-slice")
         .about(about)
         .after_help(OF_DECODE_SLICE)
@@ -237,7 +240,7 @@ fn with_cut<'a>(alloc: Global, command: Command<'a>) -> Result<Command<'a>, Allo
     requires { (out-Command command).has_globals ≡ false }
     ensures { IfOk result (IsApp (with_cut_rules (app_of command.entry))) }
 {
-    let help = "The encoding to cut from, or with --outboard the plain copy";
+    let help = "Combined encoding to cut from, or a plain copy with --outboard";
     let command = command.arg(place(alloc, "ENC", help))?;
     let command = command.arg(place(alloc, "OUT", OF_OUT))?;
     with_mode(alloc, command)
@@ -248,10 +251,10 @@ fn cut_slice_command<'a>(alloc: Global) -> Result<Command<'a>, AllocError>
 {
     let outboard = outboard_option(
         alloc,
-        "Cuts out of a plain copy beside this outboard encoding",
+        "Outboard encoding of the blob; ENC is then a plain copy",
     );
     let command = Command::new(alloc, "cut-slice")
-        .about("Cuts the Bao slice of a range out of an encoding, and checks it under a root")
+        .about("Cut the Bao slice for a range out of an encoding, and check it under ROOT")
         .after_help(OF_CUT_SLICE)
         .arg(outboard)?;
     let command = command.arg(verbose_flag(alloc, OF_VERBOSE))?;
@@ -266,7 +269,7 @@ fn workers_option<'a>(alloc: Global) -> Arg<'a>
     option(alloc, "workers", "N")
         .value_parser(value_parser!(u32).range(1..=MOST_WORKERS))
         .default_value("4")
-        .help("How many workers gather, 1 to 64")
+        .help("Number of worker threads, 1 to 64")
 }
 
 fn long_flag<'a>(alloc: Global) -> Arg<'a>
@@ -276,7 +279,7 @@ fn long_flag<'a>(alloc: Global) -> Arg<'a>
     Arg::new(alloc, "long")
         .long("long")
         .action(ArgAction::SetTrue)
-        .help("Gathers a blob of any length, window by window; not with --capacity or --encode")
+        .help("Allow a blob of any length; not with --capacity or --encode")
 }
 
 fn salvage_flag<'a>(alloc: Global) -> Arg<'a>
@@ -286,7 +289,7 @@ fn salvage_flag<'a>(alloc: Global) -> Arg<'a>
     Arg::new(alloc, "salvage")
         .long("salvage")
         .action(ArgAction::SetTrue)
-        .help("Asks at last for each missing chunk by itself, which is slow")
+        .help("Ask for missing chunks one at a time as a last resort, which is slow")
 }
 
 fn encode_flag<'a>(alloc: Global) -> Arg<'a>
@@ -296,7 +299,7 @@ fn encode_flag<'a>(alloc: Global) -> Arg<'a>
     Arg::new(alloc, "encode")
         .long("encode")
         .action(ArgAction::SetTrue)
-        .help("Writes the blob's combined Bao encoding in place of the blob")
+        .help("Write the blob's combined encoding instead of the blob")
 }
 
 fn missing_option<'a>(alloc: Global) -> Arg<'a>
@@ -304,7 +307,7 @@ fn missing_option<'a>(alloc: Global) -> Arg<'a>
     ensures global { result.global ≡ false }
 {
     option(alloc, "missing", "LIST").help(
-        "Writes to the file LIST which bytes no FILE has, in lines of START and LEN",
+        "Write to LIST the ranges that no FILE has, a line of START and LEN for each",
     )
 }
 
@@ -315,10 +318,10 @@ fn capacity_option<'a>(alloc: Global) -> Arg<'a>
     option(alloc, "capacity", "N")
         .value_parser(value_parser!(u32).range(1..=MOST_CHUNKS))
         .default_value("65536")
-        .help("How many chunks of 1024 bytes the blob may have, 1 to 65536, which are 64 MiB")
+        .help("Longest blob to allow, in chunks of 1024 bytes, 1 to 65536 (64 MiB)")
 }
 
-// The place of one file or more.
+// The argument FILE, given once or more often.
 fn files_place<'a>(alloc: Global, help: &'a str) -> Arg<'a>
     ensures rule { rule_of result ≡ files_rule }
     ensures global { result.global ≡ false }
@@ -333,13 +336,12 @@ fn with_holders<'a>(alloc: Global, command: Command<'a>) -> Result<Command<'a>, 
 {
     let command = command.arg(place(alloc, "ROOT", OF_ROOT))?;
     let command = command.arg(place(alloc, "OUT", OF_OUT))?;
-    let help =
-        "The holders' combined Bao encodings, or with --outboard plain copies, 1 to 64 files";
+    let help = "Combined encodings, or plain copies with --outboard; 1 to 64 files";
     let command = command.arg(files_place(alloc, help))?;
     with_mode(alloc, command)
 }
 
-// The command with how many workers gather, and how long the blob may be: two options and a flag.
+// The command with the options `--workers`, `--capacity` and `--long`.
 fn with_sizes<'a>(alloc: Global, command: Command<'a>) -> Result<Command<'a>, AllocError>
     requires { (out-Command command).has_globals ≡ false }
     ensures { IfOk result (IsApp (with_rule (with_rule (with_rule (app_of command.entry) workers_rule) capacity_rule) long_rule)) }
@@ -348,25 +350,25 @@ fn with_sizes<'a>(alloc: Global, command: Command<'a>) -> Result<Command<'a>, Al
     command.arg(capacity_option(alloc))?.arg(long_flag(alloc))
 }
 
-// The command with what is gathered and written: an option and two flags.
+// The command with the options `--outboard`, `--salvage` and `--encode`.
 fn with_forms<'a>(alloc: Global, command: Command<'a>) -> Result<Command<'a>, AllocError>
     requires { (out-Command command).has_globals ≡ false }
     ensures { IfOk result (IsApp (with_rule (with_rule (with_rule (app_of command.entry) outboard_rule) salvage_rule) encode_rule)) }
 {
-    let help = "Gathers out of plain copies, beside this outboard encoding";
+    let help = "Outboard encoding of the blob; FILEs are then plain copies";
     let outboard = outboard_option(alloc, help);
     let command = command.arg(outboard)?.arg(salvage_flag(alloc))?;
     command.arg(encode_flag(alloc))
 }
 
-// The command with what is told: a flag and an option.
+// The command with the options `--verbose` and `--missing`.
 fn with_reports<'a>(alloc: Global, command: Command<'a>) -> Result<Command<'a>, AllocError>
     requires { (out-Command command).has_globals ≡ false }
     ensures { IfOk result (IsApp (with_rule (with_rule (app_of command.entry) verbose_rule) missing_rule)) }
 {
     let verbose = verbose_flag(
         alloc,
-        "Says on standard error what is wrong with each FILE, and which bytes none has",
+        "Report on standard error what is wrong with each FILE, and what none of them has",
     );
     command.arg(verbose)?.arg(missing_option(alloc))
 }
@@ -376,7 +378,7 @@ fn gather_command<'a>(alloc: Global) -> Result<Command<'a>, AllocError>
 {
     let command = Command::new(alloc, "gather")
         .about(
-            "Gathers the blob with a root out of combined Bao encodings or plain copies, and writes it",
+            "Gather the blob with hash ROOT from combined Bao encodings or plain copies, and write it",
         )
         .after_help(OF_GATHER);
     let command = with_sizes(alloc, command)?;
@@ -391,8 +393,8 @@ fn with_script<'a>(alloc: Global, command: Command<'a>) -> Result<Command<'a>, A
     ensures { IfOk result (IsApp (with_script_rules (app_of command.entry))) }
 {
     let command = command.arg(place(alloc, "ROOT", OF_ROOT))?;
-    let command = command.arg(place(alloc, "SCRIPT", "The schedule, a step a line"))?;
-    let help = "The encodings that pieces are cut from, 1 to 64 files";
+    let command = command.arg(place(alloc, "SCRIPT", "Schedule, one step per line"))?;
+    let help = "Combined encodings that slices are cut from, 1 to 64 files";
     let command = command.arg(files_place(alloc, help))?;
     with_mode(alloc, command)
 }
@@ -401,20 +403,20 @@ fn replay_command<'a>(alloc: Global) -> Result<Command<'a>, AllocError>
     ensures { IfOk result (IsApp replay_app) }
 {
     let command = Command::new(alloc, "replay")
-        .about("Runs a schedule of steps on a store of a blob's chunks, and prints the replies")
+        .about("Run a schedule of steps on a store of a blob's chunks, and print the replies")
         .after_help(OF_REPLAY)
         .arg(capacity_option(alloc))?;
     with_script(alloc, command)
 }
 
-// The program with the commands that hash and write.
+// The program with the commands that hash and encode.
 fn writers<'a>(alloc: Global) -> Result<Command<'a>, AllocError>
     ensures { IfOk result (IsApp writers_app) }
 {
     Command::new(alloc, "bao_gather")
         .version("0.1.0")
         .about(
-            "Hashes files with BLAKE3, writes and checks their Bao encodings, and gathers blobs from them",
+            "Hash files with BLAKE3, write and check their Bao encodings, and gather blobs from many copies",
         )
         .after_help(OF_PROGRAM)
         .subcommand_required(true)
@@ -424,7 +426,7 @@ fn writers<'a>(alloc: Global) -> Result<Command<'a>, AllocError>
         .subcommand(slice_command(alloc)?)
 }
 
-// The program with the commands that check a text, too.
+// The same, with the commands that check an encoding.
 fn checkers<'a>(alloc: Global) -> Result<Command<'a>, AllocError>
     ensures { IfOk result (IsApp checkers_app) }
 {
@@ -435,7 +437,7 @@ fn checkers<'a>(alloc: Global) -> Result<Command<'a>, AllocError>
         .subcommand(decode_slice_command(alloc)?)
 }
 
-/// The program's command line: `hash`, `encode`, `outboard`, `slice`, `cut-slice`, `decode`, `decode-slice`, `gather`, `replay`.
+// The program with all its commands.
 pub(crate) fn program<'a>(alloc: Global) -> Result<Command<'a>, AllocError>
     ensures { IfOk result (IsApp program_app) }
 {

@@ -3,32 +3,34 @@ use bao_text::{Encoding, Part};
 /// What the arguments ask for.
 #[derive(Debug, Drop)]
 pub struct Request<'a> {
-    /// The text of `--key`.
+    /// The value of `--key`.
     pub key: Option<&'a str>,
     /// The path of `--key-file`.
     pub key_file: Option<&'a str>,
-    /// The text of `--context`.
+    /// The value of `--context`.
     pub context: Option<&'a str>,
+    /// The command.
     pub task: Task<'a>,
 }
 
 /// A command with its arguments.
 #[derive(Debug, Drop)]
 pub enum Task<'a> {
-    /// `length` bytes, 1 to 65,536, of a file's extended output, from byte `at` on.
+    /// `hash`: prints `length` bytes, 1 to 65,536, of a file's extended output, from offset `at` on.
     Hash {
         at: u64,
         length: u32,
         file: &'a str,
     },
-    /// An encoding of a file, to the file `out`.
+    /// `encode`, `outboard` or `slice`: writes an encoding of a file to the file `out`.
     Encode {
         encoding: Encoding,
         file: &'a str,
         out: &'a str,
     },
-    /// The slice of `len` bytes from byte `start` on, cut out of a combined encoding and verified under a root, to the file `out`. With `outboard` it is
-    /// cut out of a plain copy beside the outboard encoding in that file. With `verbose` it is said where what is refused is at fault.
+    /// `cut-slice`: cuts the slice for the `len` bytes from byte `start` on out of a combined encoding, checks
+    /// it under a root and writes it to the file `out`. With `outboard`, the path of the outboard encoding, it is
+    /// cut out of a plain copy. With `verbose`, the fault of what is refused is located.
     CutSlice {
         root: &'a str,
         start: u64,
@@ -38,8 +40,8 @@ pub enum Task<'a> {
         file: &'a str,
         out: &'a str,
     },
-    /// The bytes that a text certifies under a root, to the file `out`. With `verbose` it is said where a text that is refused is at
-    /// fault.
+    /// `decode` or `decode-slice`: checks an encoding under a root, and writes the bytes that it certifies to the
+    /// file `out`. With `verbose`, the fault of an encoding that is refused is located.
     Decode {
         root: &'a str,
         part: Part,
@@ -47,8 +49,9 @@ pub enum Task<'a> {
         file: &'a str,
         out: &'a str,
     },
-    /// The bytes of a plain copy of the blob with this root, verified beside the outboard encoding in the file
-    /// `outboard`, to the file `out`. With `verbose` it is said which of them is at fault, and where.
+    /// `decode --outboard`: checks a plain copy under a root, beside the outboard encoding in the file
+    /// `outboard`, and writes it to the file `out`. With `verbose`, the fault of the file that is refused is
+    /// located.
     DecodeCopy {
         root: &'a str,
         outboard: &'a str,
@@ -56,11 +59,13 @@ pub enum Task<'a> {
         copy: &'a str,
         out: &'a str,
     },
-    /// The blob with this root, of at most `capacity` chunks, 1 to 65,536, or with `long` of any length, gathered by 1 to 64
-    /// workers out of the files, one or more, to the file `out`: its bytes, or with `encode` its combined encoding. The files are combined
-    /// encodings, or with `outboard` plain copies beside the outboard encoding in that file. With `salvage` they are asked
-    /// at last for each missing chunk by itself. With `verbose` it is said which files were left out. Which bytes no file has is written to
-    /// the file `missing`, where there is one.
+    /// `gather`: gathers the blob with this root, of at most `capacity` chunks, 1 to 65,536, or with `long` of any
+    /// length, from one or more files by 1 to 64 workers. Writes its bytes, or with `encode` its combined
+    /// encoding, to the file `out`.
+    ///
+    /// The files are combined encodings, or with `outboard`, the path of the outboard encoding, plain copies. With
+    /// `salvage`, missing chunks are asked for one at a time as a last resort. With `verbose`, what is wrong with
+    /// each file is reported. The ranges that no file has are written to the file `missing`, if it is given.
     Gather {
         root: &'a str,
         workers: u32,
@@ -74,8 +79,8 @@ pub enum Task<'a> {
         files: Vec<&'a str>,
         out: &'a str,
     },
-    /// The run of a schedule of steps on a store with this root and room for `capacity` chunks, 1 to 65,536: the
-    /// file `script` has the schedule, and its pieces are cut from the files, one or more.
+    /// `replay`: runs the schedule in the file `script` on a store of `capacity` chunks, 1 to 65,536, with this
+    /// root. Its slices are cut out of one or more files.
     Replay {
         root: &'a str,
         capacity: u32,

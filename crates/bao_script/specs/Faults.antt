@@ -1,10 +1,10 @@
--- The numbers of the faults, and those that come before a script's steps run.
+-- The numbers of the faults, and which faults precede the run of a script's steps.
 use Rattle.std.specs.Prelude.{ℕ, Option, None, Some}
 use Rattle.bao_check.specs.Faults.{number_of as check_number_of}
 use Rattle.bao_script.specs.declared.fault.ReplayScriptFault.{ReplayScriptFault}
 use Rattle.bao_script.specs.declared.fault.ReplayScriptFault.TheVariants.{Refused, Illegal, Capacity, Cutting, Replaying, Memory}
 
--- a growth was refused
+-- the fault is lack of memory
 abbrev pub IsWant : ReplayScriptFault → Type 0
 IsWant (Refused line fault) = ⊥
 IsWant (Illegal line) = ⊥
@@ -13,7 +13,7 @@ IsWant Cutting = Unit {0}
 IsWant Replaying = ⊥
 IsWant Memory = Unit {0}
 
--- or a slice that isn't accepted
+-- the fault precedes the steps: lack of memory, or a slice that isn't accepted
 abbrev pub IsEarly : ReplayScriptFault → Type 0
 IsEarly (Refused line fault) = Unit {0}
 IsEarly (Illegal line) = ⊥
@@ -22,7 +22,7 @@ IsEarly Cutting = Unit {0}
 IsEarly Replaying = ⊥
 IsEarly Memory = Unit {0}
 
--- or one that comes up while they run
+-- the fault can occur while the steps run
 abbrev pub IsLate : ReplayScriptFault → Type 0
 IsLate (Refused line fault) = ⊥
 IsLate (Illegal line) = Unit {0}
@@ -31,7 +31,7 @@ IsLate Cutting = ⊥
 IsLate Replaying = Unit {0}
 IsLate Memory = Unit {0}
 
--- the number of the fault, where its text has one
+-- the number of the fault, if its message has one
 abbrev pub script_number_of : ReplayScriptFault → Option ℕ
 script_number_of (Refused line fault) = Some (check_number_of fault)
 script_number_of (Illegal line) = Some 702

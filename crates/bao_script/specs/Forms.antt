@@ -16,7 +16,7 @@ name_of (Load seat at len) = codes "load"
 name_of (Settle seat) = codes "settle"
 name_of (Length seat) = codes "length"
 
--- the numbers after it, with the bits that each has to fit
+-- the numbers after it, each with its limit in bits
 abbrev pub numbers_of : Line → List (ℕ × ℕ)
 numbers_of (Claim seat group want) = (32, seat) ∷ (32, group) ∷ (64, want) ∷ []
 numbers_of (Hash seat file start len) = (32, seat) ∷ (64, file) ∷ (64, start) ∷ (64, len) ∷ []
@@ -28,7 +28,7 @@ numbers_of (Load seat at len) = (32, seat) ∷ (64, at) ∷ (32, len) ∷ []
 numbers_of (Settle seat) = (32, seat) ∷ []
 numbers_of (Length seat) = (32, seat) ∷ []
 
--- the words write these numbers, each of its bits, and nothing else
+-- the words write exactly these numbers, each within its bits
 abbrev pub AreWritten : List (ℕ × ℕ) → List (List ℕ) → Type 0
 AreWritten [] words = words ≡ []
 AreWritten (number ∷ numbers) words =
@@ -39,12 +39,13 @@ abbrev pub NamesFile : ℕ → Line → Type 0
 NamesFile files (Hash seat file start len) = file < files
 NamesFile files line = Unit {0}
 
--- what the words after this name say: the line of that name with these numbers, or no line of that name has them
+-- the meaning of the words after this name: the line of that name with these numbers, or none if no line of
+-- that name has them
 abbrev pub IsReading : List ℕ → List (List ℕ) → Option Line → Type 0
 IsReading name words (Some line) = (name_of line ≡ name) × AreWritten (numbers_of line) words
 IsReading name words None = (line : Line) → name_of line ≡ name → ¬ AreWritten (numbers_of line) words
 
--- the words of a line say it
+-- the words of a line mean this
 abbrev pub SaysLine : ℕ → List (List ℕ) → Line → Type 0
 SaysLine files words line =
     (rest : List (List ℕ)) × (words ≡ name_of line ∷ rest) × AreWritten (numbers_of line) rest × NamesFile files line

@@ -1,4 +1,4 @@
--- What is printed of a script's run, and where it stops.
+-- The output of a script's run, and where it stops.
 use Rattle.std.specs.Prelude.{◌≡◌, ◌⊎◌, ℕ, ◌+◌, List, ◌++◌, length, Some}
 use Rattle.bao_check.specs.declared.checked.Checked.{Checked}
 use Rattle.bao_check.specs.Pieces.{chunk_of}
@@ -15,14 +15,14 @@ use Rattle.bao_script.specs.Replies.{held_line}
 use Rattle.bao_script.specs.ScriptRuns.{RunsScript, StopsAtLine, answers_text}
 use Rattle.bao_script.specs.Slices.{ArePieces, slices_of}
 
--- A collision is exhibited from a blob and a piece of the list that holds chunk c with these bytes.
+-- A blob has a collision with a slice of the list that has chunk c with these bytes.
 pub record CollisionOfHolder (fixed : Fixed) (pieces : List Checked) (blob : List ℕ) (c : ℕ) (bytes : List ℕ) : Type 0 where
   pub piece : Piece
   pub listed : IsListed fixed pieces piece
   pub has : chunk_bytes piece c ≡ Some bytes
   pub pair : CollidesWith fixed blob piece
 
--- or from one that holds the last chunk of this length
+-- A blob has a collision with a slice of the list that has the last chunk of this length.
 pub record CollisionOfEnd (fixed : Fixed) (pieces : List Checked) (blob : List ℕ) (l : ℕ) : Type 0 where
   pub piece : Piece
   pub listed : IsListed fixed pieces piece
@@ -30,15 +30,17 @@ pub record CollisionOfEnd (fixed : Fixed) (pieces : List Checked) (blob : List �
   pub is : length_of piece ≡ l
   pub pair : CollidesWith fixed blob piece
 
--- For each blob with the root: a chunk that is held at the end is the blob's chunk of that number, and a recorded length is
--- the blob's; or a collision is exhibited from the blob and the piece, one of the list, that it comes from.
+-- For every blob with the root, each chunk held at the end is the blob's chunk of that index, and a recorded
+-- length is the blob's; or a collision is exhibited between the blob and the slice of the list that it came
+-- from.
 abbrev pub EndBinds : Fixed → List Checked → Machine → Type 0
 EndBinds fixed pieces last = (blob : List ℕ) → IsBlob fixed blob
     → ((c : ℕ) (bytes : List ℕ) → (store_of last).held c ≡ Some bytes → (chunk_of blob (fixed.base + c) ≡ Some bytes) ⊎ CollisionOfHolder fixed pieces blob c bytes)
     × ((l : ℕ) → (store_of last).recorded ≡ Some l → (l ≡ length blob) ⊎ CollisionOfEnd fixed pieces blob l)
 
--- The text is of the replies of the script's run from the empty store, over the pieces that its lines name, and of how
--- many chunks are held at the end. What is held and recorded then is the blob's, or a collision is exhibited.
+-- The text has the replies of the script's run from the empty store, over the slices that its lines name, and
+-- the number of chunks held at the end. What is held and recorded then is the blob's, or a collision is
+-- exhibited.
 pub record IsPrinted (fixed : Fixed) (files : List (List ℕ)) (script : List NumberedLine) (text : List ℕ) : Type 0 where
   pub pieces : List Checked
   pub named : ArePieces fixed.mode fixed.root.0 (slices_of files script) pieces
@@ -48,7 +50,7 @@ pub record IsPrinted (fixed : Fixed) (files : List (List ℕ)) (script : List Nu
   pub text_is : text ≡ answers_text answers ++ held_line (held_count (store_of last) fixed.capacity)
   pub binds : EndBinds fixed pieces last
 
--- over those pieces the run stops at the line with this number
+-- the run over these slices stops at the line with this number
 pub record IsStopped (fixed : Fixed) (files : List (List ℕ)) (script : List NumberedLine) (number : ℕ) : Type 0 where
   pub pieces : List Checked
   pub named : ArePieces fixed.mode fixed.root.0 (slices_of files script) pieces

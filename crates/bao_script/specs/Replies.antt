@@ -11,7 +11,7 @@ abbrev pub bytes_text : List ℕ → List ℕ
 bytes_text [] = codes "bytes"
 bytes_text (byte ∷ bytes) = codes "bytes " ++ encode_lower (byte ∷ bytes)
 
--- what a settled length met; a piece of another root makes no step
+-- the result of settling a length; with a slice of another root there is no step
 abbrev pub settling_text : Answer → List ℕ
 settling_text Settled = codes "settled"
 settling_text Known = codes "known"
@@ -32,10 +32,10 @@ reply_text (NotHeld position) = codes "missing " ++ decimal position
 reply_text (Settling answer) = settling_text answer
 reply_text (LengthIs length) = length_reply_text length
 
--- a reply to the line with this number
+-- the printed reply to the line with this number
 abbrev pub reply_line : ℕ → Reply → List ℕ
 reply_line number reply = decimal number ++ codes " " ++ reply_text reply ++ codes "\n"
 
--- how many chunks are held at the end
+-- the printed number of chunks held at the end
 abbrev pub held_line : ℕ → List ℕ
 held_line count = codes "held " ++ decimal count ++ codes "\n"

@@ -1,4 +1,4 @@
--- The micro-steps that the lines of a script stand for.
+-- The steps that the lines of a script stand for.
 use Rattle.std.specs.Prelude.{ℕ, ◌+◌, List, [], ◌∷◌, map}
 use Rattle.std.specs.List.{range_with_len}
 use Rattle.store_core.specs.declared.micro.MicroStep.{MicroStep}
@@ -11,7 +11,7 @@ use Rattle.bao_script.specs.declared.line.Line.TheVariants.{Claim, Hash, Write, 
 unfoldable pub fill_steps : ℕ → ℕ → List MicroStep
 fill_steps seat chunk = map (λ word. steps.Write seat chunk word) (range_with_len 0 129)
 
--- the steps of a line; its piece, if it has one, is that with this number of the list
+-- the steps of a line; its slice, if it has one, is the one with this index in the list
 abbrev pub steps_of : ℕ → Line → List MicroStep
 steps_of piece (Claim seat group want) = steps.Claim seat group want ∷ []
 steps_of piece (Hash seat file start len) = steps.Hash seat piece ∷ []
@@ -23,7 +23,7 @@ steps_of piece (Load seat at len) = steps.Load seat at len ∷ []
 steps_of piece (Settle seat) = steps.Settle seat ∷ []
 steps_of piece (Length seat) = steps.Length seat ∷ []
 
--- how many pieces of the list are the line's own
+-- how many slices of the list are the line's own
 abbrev pub pieces_in : Line → ℕ
 pieces_in (Hash seat file start len) = 1
 pieces_in line = 0

@@ -6,14 +6,14 @@ use bao_check::CheckFault;
 use std::alloc::{AllocError, AllocFailed};
 use thiserror::Error;
 
-/// Why a script wasn't read. Neither fault has a number, and each is told by its text alone: the one is of what was
-/// written, and the other a refused growth of this crate's own.
+/// Why a script wasn't read. The faults have messages and no numbers: one is of the script's text, the other of
+/// this crate's own memory.
 #[derive(Clone, Copy, Debug, PartialEq, Eq, Error)]
 pub enum ScriptFault {
-    /// The line with this number, counted from 1, has no form. It is the first such line.
+    /// The line with this number, from 1, is the first that has none of the forms.
     #[error("usage: script line {number}")]
     Line { number: u64 },
-    /// There was no memory for the lines.
+    /// Out of memory for the lines.
     #[error("memory")]
     Memory,
 }
@@ -21,7 +21,7 @@ pub enum ScriptFault {
 impl ScriptFault {
     ghost use Rattle.std.specs.Prelude.{None};
 
-    /// The fault's number: none.
+    /// Returns the number of the fault: none.
     pub fn code(&self) -> Option<u16>
         ensures { result ≡ None }
     {
@@ -45,27 +45,27 @@ impl<T: Drop> From<AllocFailed<T>> for ScriptFault {
     }
 }
 
-/// Why a script's run has no text. Each fault has the number of the call in which it came up; a refused growth of this
-/// crate's own has none, and is told by its text alone.
+/// Why a script's run has no output. Each fault has the number of the call that it came from, except this
+/// crate's own memory, which has only a message.
 #[derive(Clone, Copy, Debug, PartialEq, Eq, Error)]
 pub enum ReplayScriptFault {
-    /// The slice that the line with this number names wasn't accepted, with this fault. It is the first such line. No
-    /// step ran. Number 501 to 503.
+    /// The slice that this line names wasn't accepted, with this fault; it is the first such line. No step ran.
+    /// Number 501 to 503.
     #[error("line {line}: {fault}")]
     Refused { line: u64, fault: CheckFault },
-    /// A step of the line with this number isn't legal, and all before it were. Number 702.
+    /// A step of this line isn't legal, and all before it were. Number 702.
     #[error("702 illegal step at line {line}")]
     Illegal { line: u64 },
     /// The capacity isn't 1 to 65,536 chunks. Number 802.
     #[error("802 capacity")]
     Capacity,
-    /// There was no memory for a slice. Number 401.
+    /// Out of memory for a slice. Number 401.
     #[error("401 memory")]
     Cutting,
-    /// There was no memory for the schedule. Number 701.
+    /// Out of memory for the schedule. Number 701.
     #[error("701 memory")]
     Replaying,
-    /// There was no memory for the pieces, the steps or the text. It has no number.
+    /// Out of memory for the slices, the steps or the output. It has no number.
     #[error("memory")]
     Memory,
 }
@@ -73,7 +73,7 @@ pub enum ReplayScriptFault {
 impl ReplayScriptFault {
     ghost use Rattle.bao_script.specs.Faults.{script_number_of};
 
-    /// The fault's number, where it has one: 401, 501 to 503, 701, 702 or 802.
+    /// Returns the number of the fault, if it has one: 401, 501 to 503, 701, 702 or 802.
     pub fn code(&self) -> Option<u16>
         ensures { result ≡ script_number_of self.now }
     {

@@ -1,4 +1,4 @@
-//! The text of a schedule: read, and run over pieces of encodings.
+//! The text form of a schedule: parsed, and run over slices of encodings.
 #![tactic(auto)]
 
 mod fault;

@@ -1,14 +1,14 @@
-/// What a line of a script says. A mask is of the chunks of a group: bit j stands for chunk 64 * group + j.
+/// A line of a script. In a mask of a group's chunks, bit j stands for chunk 64 * group + j.
 #[derive(Clone, Copy, Debug, PartialEq, Eq)]
 pub enum Line {
-    /// `claim S G MASK`: seat S takes the mask's chunks of group G.
+    /// `claim S G MASK`: seat S claims the mask's chunks of group G.
     Claim {
         seat: u32,
         group: u32,
         want: u64,
     },
-    /// `hash S F START LEN`: the slice of LEN bytes from byte START on of file F, counted from 0, becomes the
-    /// current piece of seat S.
+    /// `hash S F START LEN`: the slice of LEN bytes from byte START on of file F (from 0) becomes the current
+    /// slice of seat S.
     Hash {
         seat: u32,
         file: usize,
@@ -31,19 +31,19 @@ pub enum Line {
         seat: u32,
         group: u32,
     },
-    /// `give S G MASK`: seat S gives its claims of the mask's chunks of group G up.
+    /// `give S G MASK`: seat S gives up its claims to the mask's chunks of group G.
     Give {
         seat: u32,
         group: u32,
         mask: u64,
     },
-    /// `load S AT LEN`: seat S loads one held word for its read of LEN bytes from position AT on.
+    /// `load S AT LEN`: seat S loads one held word for its read of LEN bytes from offset AT on.
     Load {
         seat: u32,
         at: u64,
         len: u32,
     },
-    /// `settle S`: the length is settled by the current piece of seat S.
+    /// `settle S`: seat S settles the length by its current slice.
     Settle {
         seat: u32,
     },

@@ -1,6 +1,6 @@
 use crate::line::Line;
 
-/// What a line says, with the line's number in the script's text, counted from 1.
+/// A line of a script, with its number in the script's text, from 1.
 #[derive(Clone, Copy, Debug, PartialEq, Eq)]
 pub struct NumberedLine {
     pub number: u64,

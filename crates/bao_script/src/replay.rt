@@ -13,18 +13,21 @@ use b3tree::{Hash, Mode};
 use std::alloc::Global;
 use store_core::{BadCapacity, ScheduleRun};
 
-/// Runs a script over pieces of the files, from an empty store with room for `capacity` chunks of the blob with the
-/// hash `root` in `mode`, and answers the text to print: a line for each reply, with the number of its line, and a last
-/// line with the number of chunks held.
+/// Runs a script over slices of `files` from an empty store of `capacity` chunks of the blob with the hash
+/// `root` in `mode`, and returns the text to print: a line for each reply, with the number of its script line,
+/// and a last line with the number of chunks held.
 ///
-/// Each slice that a line names is cut out of its file, a combined encoding, and checked under the root. Only when all
-/// are accepted the first step runs. `Refused` (501 to 503) is of the first line whose slice isn't accepted. After that
-/// `Capacity` (802) comes where the capacity isn't 1 to 65,536 chunks, and `Illegal` (702) with the line of the first
-/// step that isn't legal. Memory that a slice (401), the schedule (701) or the text found none of is a fault of its own.
+/// Each slice that a line names is cut out of its file, a combined encoding, and checked under `root`. The
+/// first step runs only once all are accepted.
 ///
-/// For each blob with the hash `root`, each chunk that is held at the end is the blob's chunk of that number, and a recorded
-/// length is the blob's; or a collision is exhibited, two different inputs with one chaining value, one of the blob's and one of a piece's
-/// that a line names.
+/// Refuses with `Refused` (501 to 503) for the first line whose slice isn't accepted. After that it refuses
+/// with `Capacity` (802) unless `capacity` is 1 to 65,536, and with `Illegal` (702) and the line of the first
+/// step that isn't legal. Memory for a slice (401), for the schedule (701) and for the output each have a fault
+/// of their own.
+///
+/// For every blob with the hash `root`, each chunk held at the end is the blob's chunk of that index, and a
+/// recorded length is the blob's; or the contract exhibits a collision, two different inputs with the same
+/// chaining value, one from the blob and one from a slice that a line names.
 pub fn replay_script(
     alloc: Global,
     root: Hash,

@@ -11,7 +11,7 @@ use crate::numbered::NumberedLine;
 use std::alloc::{AllocError, Global};
 use std::marker::Model;
 
-/// The lines of a script that say something, in order. Contracts see the list of them.
+/// The lines of a script that aren't empty, in order. Contracts refer to them as a list.
 #[derive(Drop)]
 pub struct Script {
     lines: Vec<NumberedLine>,
@@ -24,7 +24,7 @@ impl Model for Script {
 }
 
 impl Script {
-    /// The lines, in order.
+    /// Returns the lines, in order.
     pub fn lines(&self) -> &[NumberedLine]
         ensures { result.now ≡ self.now }
     {
@@ -62,13 +62,14 @@ fn add_line(
     }
 }
 
-/// Reads a script's text, which may name `files` files. Its lines are ended by line ends, and the last may lack its
-/// own; empty lines are skipped. Words are separated by one space. A number is one or more decimal digits, leading
-/// zeros among them, and has no sign.
+/// Parses a script that may name `files` files.
 ///
-/// Answers `Line` with the number of the first line that has none of the nine forms: of another name, with fewer or
-/// more numbers, with a number that is too large, or with a file that isn't there. A carriage return belongs to no
-/// form. `Memory` where the lines found no room.
+/// Lines end with a line feed, which the last may lack; empty lines are skipped. Words are separated by one
+/// space. A number is one or more decimal digits without a sign; leading zeros are allowed.
+///
+/// Refuses with `Line` and the number of the first line that has none of the nine forms: another name, fewer or
+/// more numbers, a number that is too large, a file that doesn't exist, or a carriage return. Refuses with
+/// `Memory` if there is none for the lines.
 pub fn parse(alloc: Global, text: &[u8], files: usize) -> Result<Script, ScriptFault>
     ensures script { IfOk result (IsScript files text.now) }
     ensures files { IfOk result (NameFiles files) }

@@ -1,5 +1,5 @@
 -- A verdict more is counted.
-use Rattle.std.proofs.Common.{◌≡◌, ◌∙◌, ℕ, ◌+◌, ◌<◌, ◌≤◌, Bool, false, cond, List, [], ◌∷◌, ◌++◌, length, get_or, refl, sym, ap, subst, inl, inr, arith}
+use Rattle.std.proofs.Common.{◌≡◌, ◌∙◌, ℕ, zero, suc, ◌+◌, ◌<◌, ◌≤◌, Bool, true, false, cond, List, [], ◌∷◌, ◌++◌, length, get_or, refl, sym, ap, subst, inl, inr, arith}
 use Rattle.std.proofs.lemmas.Bool.{cases_lt}
 use Rattle.std.proofs.lemmas.List.{get_or_append_left, get_or_push, length_push}
 use Rattle.std.proofs.lemmas.List.Sums.{count_by-le-length, sum_by_push}
@@ -31,6 +31,18 @@ more good n k d b judged is before = record {
   judged = judged_more good n before.verdicts b before.each before.judged judged;
   counted = (λ i. before.counted i + is i) ∙ sym (sum_by_push (λ (verdict : Bool). cond verdict 1 0) before.verdicts b);
 }
+
+-- Where none of the groups after them is good, all of these are refused.
+pub rest : (good : ℕ → Type 0) (n k m : ℕ) → ((g : ℕ) → n ≤ g → ¬ good g) → Refuses good n k → Refuses good (n + m) (k + m)
+rest good n k zero bad before =
+    let groups : n ≡ n + 0 = omega arith in
+    let count : k ≡ k + 0 = omega arith in
+    subst (λ (j : ℕ). Refuses good (n + 0) j) count (subst (λ (j : ℕ). Refuses good j k) groups before)
+rest good n k (suc m) bad before =
+    let groups : (n + m) + 1 ≡ n + suc m = omega arith in
+    let count : (k + m) + 1 ≡ k + suc m = omega arith in
+    let next : Refuses good ((n + m) + 1) ((k + m) + 1) = more good (n + m) (k + m) 1 true (bad (n + m) (omega arith)) refl (rest good n k m bad before) in
+    subst (λ (j : ℕ). Refuses good (n + suc m) j) count (subst (λ (j : ℕ). Refuses good j ((k + m) + 1)) groups next)
 
 -- no more are than there are groups
 pub few : (good : ℕ → Type 0) (n k : ℕ) → Refuses good n k → k ≤ n

@@ -1,8 +1,8 @@
 -- What the sources of files give, and what a try out of them answers.
 use Rattle.std.specs.Borrow.{Bor}
-use Rattle.std.proofs.Common.{◌≡◌, ◌⊎◌, ℕ, zero, suc, ◌-◌, ◌<◌, true, false, List, [], ◌∷◌, ◌++◌, length, Option, None, Some, IfSome, is_some, Result, Ok, Err, slice_get, leb, refl, sym, subst, arith, inl, inr, ◌*◌, ◌∙◌, ◌≢◌}
+use Rattle.std.proofs.Common.{◌≡◌, ◌⊎◌, ℕ, zero, suc, ◌-◌, ◌<◌, true, false, List, [], ◌∷◌, ◌++◌, length, Option, None, Some, IfSome, IsSome, is_some, MatchResult, Result, Ok, Err, slice_get, leb, refl, sym, subst, arith, inl, inr, ◌*◌, ◌∙◌, ◌≢◌}
 use Rattle.std.proofs.lemmas.Bool.Decides.{leb_tells}
-use Rattle.std.proofs.lemmas.Option.{none-some, same_Some}
+use Rattle.std.proofs.lemmas.Option.{none-some, same_Some, slice_get_within}
 use Rattle.std.specs.Bool.{⊤}
 use Rattle.b3tree.specs.declared.mode.Mode.{Mode}
 use Rattle.b3tree.specs.declared.values.Hash.{Hash}
@@ -30,10 +30,11 @@ use Rattle.bao_tasks.specs.declared.gathered_fault.GatheredFault.{GatheredFault}
 use Rattle.bao_tasks.specs.declared.gathered_fault.GatheredFault.TheVariants.{File, Gather, Outboard}
 use Rattle.bao_tasks.specs.declared.gathering.Gathering.{Gathering}
 use Rattle.bao_tasks.specs.Gathered.{IsWrittenOut}
+use Rattle.bao_tasks.specs.GatheredFaults.{IsFirstUnread}
 use Rattle.bao_tasks.specs.Givens.{most_bytes}
 use Rattle.gather.proofs.Binding.{pair_wider}
 use Rattle.bao_tasks.specs.FromFiles.{IsExcusedFile, IsExcusedGathering, IsFromFile, IsPutAt, IsTextOf, file_bytes, never_fails}
-use Rattle.bao_tasks.specs.TakenFiles.{AreOfFiles, Follows, HasSound, IsDrafted, IsOfFile, IsRightDraft, IsTried, is_open, open_fault}
+use Rattle.bao_tasks.specs.TakenFiles.{AreOfFiles, Follows, HasSound, IsDrafted, IsOfFile, IsOfWriting, IsRightDraft, IsTried, is_open, open_fault}
 
 -- what is there in a list is there where more follows
 pub still_there : {A : Type 0} (xs ys : List A) (i : ℕ) (x : A) → slice_get xs i ≡ Some x → slice_get (xs ++ ys) i ≡ Some x
@@ -251,6 +252,38 @@ pub not_other_root : (result : GatheredFault) (met : Option GatherFault) → ((f
 not_other_root result met cause helps is = elim (cause NotTheRoot is) [
   | inl same ↦ (let no : false ≡ true = subst (λ (m : Option GatherFault). IfSome m (λ fault. is_open fault ≡ true)) same helps in cc)
   | inr other ↦ (let no : NotTheRoot ≡ Unfinished = other in cc)
+]
+
+-- files that were tried before aren't tried again: no draft is made, and a fault is the want of memory
+pub untried_draft : {T : Type 0} (X : Type 0) (result : Result (Option T) GatheredFault) (found : Option T) (made : T)
+    → MatchResult result (λ f. f ≡ None) (λ fault. fault ≡ File file.Memory) → result ≡ Ok found → found ≡ Some made → X
+untried_draft {T = T} X result found made untried is there =
+    let none : found ≡ None = subst (λ (r : Result (Option T) GatheredFault). MatchResult r (λ f. f ≡ None) (λ fault. fault ≡ File file.Memory)) is untried in
+    absurd (none-some made (sym none ∙ there))
+
+pub first_unread : {T : Type 0} (files : List (Bor (List ℕ))) (result : Result (Option T) GatheredFault) (fault : GatheredFault)
+    → MatchResult result (λ f. f ≡ None) (λ fault. fault ≡ File file.Memory) → result ≡ Err fault → IsFirstUnread files fault
+first_unread {T = T} files result fault untried is =
+    inl (subst (λ (r : Result (Option T) GatheredFault). MatchResult r (λ f. f ≡ None) (λ fault. fault ≡ File file.Memory)) is untried)
+
+-- a fault of a file that is there isn't one of writing
+pub not_of_reading : (fault : GatheredFault) (path : Bor (List ℕ)) → IsOfWriting fault → fault ≡ File (file.Read path) → ⊥
+not_of_reading fault path writing is = subst IsOfWriting is writing
+
+-- all of the sources were tried, and no fault was met: there are none
+pub none_untried : {S : Type 0} (contents : S → Option (List ℕ)) (faultless : S → Type 0) (sources : List S) (count : ℕ) (met : Option GatherFault) (bytes : List ℕ) → length sources ≡ count
+    → (count ≡ 0) ⊎ IsSome met → met ≡ None → HasSound contents faultless sources bytes → ⊥
+none_untried contents faultless sources count met bytes all (inl none) is has =
+    let within : has.place < length sources = slice_get_within sources has.place has.source has.there in
+    absurd (omega (arith, all, none, within))
+none_untried contents faultless sources count met bytes all (inr some) is has = let no : false ≡ true = subst IsSome is some in cc
+
+-- nor is 802
+pub not_capacity : (result : GatheredFault) (met : Option GatherFault) → ((fault : GatherFault) → result ≡ Gather fault → (met ≡ Some fault) ⊎ (fault ≡ Unfinished))
+    → IfSome met (λ fault. is_open fault ≡ true) → result ≢ Gather gather.Capacity
+not_capacity result met cause helps is = elim (cause gather.Capacity is) [
+  | inl same ↦ (let no : false ≡ true = subst (λ (m : Option GatherFault). IfSome m (λ fault. is_open fault ≡ true)) same helps in cc)
+  | inr other ↦ (let no : gather.Capacity ≡ Unfinished = other in cc)
 ]
 
 -- nor is 805 what ended the work at once

@@ -9,3 +9,4 @@ pub mod Spots
 pub mod Taking
 pub mod Together
 pub mod Windowed
+pub mod Claims

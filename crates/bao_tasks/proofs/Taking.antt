@@ -9,14 +9,17 @@ use Rattle.bao_tasks.specs.declared.given.Given.{Given}
 use Rattle.bao_tasks.specs.declared.watched.Watched.{Watched}
 use Rattle.bao_tasks.specs.Givens.{given_contents, is_given_faultless, watched_contents, watched_faultless}
 use Rattle.bao_tasks.specs.FromFiles.{file_bytes, is_regular, taken_bytes}
+use Rattle.bao_tasks.specs.GatheredFaults.{AreAbsent}
 use Rattle.bao_tasks.specs.TakenFiles.{AreKinds, AreOfFiles, Follows, HasSound}
 use Rattle.bao_tasks.proofs.FromFiles.{files_more, last_there, sound_kept, sound_last, still_there}
 
--- Of so many files those of one kind were taken: each source is of a file, those before are kept, and a stored file is among them, or there was no room.
+-- Of so many files those of one kind were taken: each source is of a file, those before are kept, and a stored file is among them, or there was no memory;
+-- where no file is there, none was.
 pub record IsTaking {S : Type 0} (contents : S → Option (List ℕ)) (faultless : S → Type 0) (sure : Type 0) (most : ℕ) (at : List ℕ → FileState) (paths : List (Bor (List ℕ)))
     (regular : Bool) (count : ℕ) (starved_before : Bool) (before : List S) (starved : Bool) (sources : List S) : Type 0 where
   pub hungry : starved_before ≡ true → starved ≡ true
   pub files : AreOfFiles contents faultless sure (file_bytes most at) paths before → AreOfFiles contents faultless sure (file_bytes most at) paths sources
+  pub absent : AreAbsent at paths → sources ≡ before
   pub kept : (bytes : List ℕ) → HasSound contents faultless before bytes → HasSound contents faultless sources bytes
   pub there : regular ≡ true → sure → (i : ℕ) (path : Bor (List ℕ)) (bytes : List ℕ) → i < count → slice_get paths i ≡ Some path → is_regular path.now ≡ true
       → at path.now ≡ Stored bytes → (starved ≡ true) ⊎ HasSound contents faultless sources bytes
@@ -64,12 +67,12 @@ module _ {S : Type 0} (contents : S → Option (List ℕ)) (faultless : S → Ty
     (regular starved_before : Bool) (before : List S) where
   -- a file of the kind was taken, or left out
   pub taking_more : (kinds : List Bool) (count : ℕ) (hungry starved : Bool) (sources new : List S) (path : Bor (List ℕ)) → AreKinds at paths kinds → slice_get kinds count ≡ Some regular
-      → slice_get paths count ≡ Some path → (hungry ≡ true → starved ≡ true)
+      → slice_get paths count ≡ Some path → (hungry ≡ true → starved ≡ true) → (at path.now ≡ Absent → new ≡ sources)
       → (new ≡ sources) ⊎ Follows contents faultless sure (taken_bytes regular most (at path.now)) sources new
       → (regular ≡ true → sure → IsStored (at path.now) → (starved ≡ true) ⊎ Follows contents faultless sure (taken_bytes regular most (at path.now)) sources new)
       → IsTaking contents faultless sure most at paths regular count starved_before before hungry sources
       → IsTaking contents faultless sure most at paths regular (count + 1) starved_before before starved new
-  taking_more kinds count hungry starved sources new path are is at_path still taken told so =
+  taking_more kinds count hungry starved sources new path are is at_path still quiet taken told so =
       let same : taken_bytes regular most (at path.now) ≡ file_bytes most at path =
       same_taken regular (is_regular path.now) most (at path.now) (λ stored. same_Some regular (is_regular path.now) (sym is ∙ are count path at_path stored)) in
       let keeps : (bytes : List ℕ) → HasSound contents faultless sources bytes → HasSound contents faultless new bytes = λ bytes has. elim taken [
@@ -84,6 +87,7 @@ module _ {S : Type 0} (contents : S → Option (List ℕ)) (faultless : S → Ty
               files_more contents faultless sure (file_bytes most at) paths count path sources new at_path
               (subst (λ (b : Option (List ℕ)). Follows contents faultless sure b sources new) same follows) (so.files before_are)
         ];
+        absent = λ none. quiet (none count path at_path) ∙ so.absent none;
         kept = λ bytes has. keeps bytes (so.kept bytes has);
         there = λ yes surely i other bytes below there named stored. elim (cases_lt i count) [
           | inl less ↦ elim (so.there yes surely i other bytes less there named stored) [

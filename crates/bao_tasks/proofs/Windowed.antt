@@ -6,7 +6,7 @@ use Rattle.b3tree.specs.declared.mode.Mode.{Mode}
 use Rattle.b3tree.specs.declared.values.Hash.{Hash}
 use Rattle.bao_files.specs.declared.fault.FileFault.TheVariants.{Encoding, Write}
 use Rattle.gather.specs.declared.fault.GatherFault.{GatherFault}
-use Rattle.gather.specs.declared.fault.GatherFault.TheVariants.{Memory, NotTheRoot, TooLarge}
+use Rattle.gather.specs.declared.fault.GatherFault.TheVariants.{Capacity, Memory, NotTheRoot, Starved, TooLarge, Unfinished}
 use Rattle.bao_text.proofs.Laws.{length-combined_text}
 use Rattle.bao_text.specs.Choice.{chunk_count}
 use Rattle.bao_text.specs.Texts.{combined_text}
@@ -26,7 +26,7 @@ use Rattle.bao_windows.specs.declared.fault.WindowsFault.TheVariants as windows
 use Rattle.bao_windows.specs.declared.wanted.Wanted.{Wanted}
 use Rattle.bao_windows.specs.Copies.{HaveCopies, IsOwn as IsOwnWindows}
 use Rattle.bao_windows.specs.Windows.{IsFrom, fixed_for}
-use Rattle.bao_windows.specs.Written.{AreTooLong, IsWrittenOut as IsWrittenWindows, WroteBlob}
+use Rattle.bao_windows.specs.Written.{AreTooLong, IsOfWindows, IsWrittenOut as IsWrittenWindows, WroteBlob}
 use Rattle.bao_tasks.specs.declared.gathered_fault.GatheredFault.{GatheredFault}
 use Rattle.bao_tasks.specs.declared.gathered_fault.GatheredFault.TheVariants.{File, Gather}
 use Rattle.bao_tasks.specs.declared.gathering.Gathering.{Gathering}
@@ -55,6 +55,23 @@ not_large path text old new (Ok n) fault is = cc
 not_large path text old new (Err e) (inl memory) is = let same : e ≡ Gather TooLarge = cc in let no : Gather Memory ≡ Gather TooLarge = sym memory.0 ∙ same in cc
 not_large path text old new (Err e) (inr (inl encoding)) is = let same : e ≡ Gather TooLarge = cc in let no : File Encoding ≡ Gather TooLarge = sym encoding.0 ∙ same in cc
 not_large path text old new (Err e) (inr (inr written)) is = let same : e ≡ Gather TooLarge = cc in let no : File (Write path) ≡ Gather TooLarge = sym written.0 ∙ same in cc
+
+-- nor is it 802
+pub no_capacity : (path : Bor (List ℕ)) (text : List ℕ) (old new : Option (List ℕ)) (result : Result ℕ GatheredFault) → IfErr result (λ fault. IsUnwrittenWhole path text old new fault)
+    → IsErrOf result (Gather Capacity) → ⊥
+no_capacity path text old new (Ok n) fault is = cc
+no_capacity path text old new (Err e) (inl memory) is = let same : e ≡ Gather Capacity = cc in let no : Gather Memory ≡ Gather Capacity = sym memory.0 ∙ same in cc
+no_capacity path text old new (Err e) (inr (inl encoding)) is = let same : e ≡ Gather Capacity = cc in let no : File Encoding ≡ Gather Capacity = sym encoding.0 ∙ same in cc
+no_capacity path text old new (Err e) (inr (inr written)) is = let same : e ≡ Gather Capacity = cc in let no : File (Write path) ≡ Gather Capacity = sym written.0 ∙ same in cc
+
+-- nor is it one of windows
+pub windows_have_room : IsOfWindows (windows.Gather Capacity) → ⊥
+windows_have_room (inl (inl (inl is))) = let no : windows.Gather Capacity ≡ windows.Gather Unfinished = is in cc
+windows_have_room (inl (inl (inr (inl is)))) = let no : windows.Gather Capacity ≡ windows.Gather Starved = is in cc
+windows_have_room (inl (inl (inr (inr is)))) = let no : windows.Gather Capacity ≡ windows.Write = is in cc
+windows_have_room (inl (inr is)) = let no : windows.Gather Capacity ≡ windows.Gather NotTheRoot = is in cc
+windows_have_room (inr (inl is)) = let no : windows.Gather Capacity ≡ windows.Gather TooLarge = is in cc
+windows_have_room (inr (inr is)) = let no : windows.Gather Capacity ≡ windows.Gather Memory = is in cc
 
 -- what windows answered, as gathering answers it
 abbrev pub in_gathered : Bor (List ℕ) → Result ℕ WindowsFault → Result ℕ GatheredFault

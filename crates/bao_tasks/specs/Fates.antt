@@ -1,4 +1,4 @@
--- what became of a file
+-- What became of a file.
 use Rattle.std.specs.Prelude.{List, ℕ, None, Option, Some, codes}
 use Rattle.bao_tasks.specs.declared.file_fate.Fate.{Fate}
 use Rattle.bao_tasks.specs.declared.file_fate.Fate.TheVariants.{Taken, Unread, Starved, Unopened}

@@ -1,5 +1,4 @@
--- What is said of a blob that is gathered out of files, where bytes of these are known: one true file among any others is enough, and so are several that have
--- it together.
+-- Gathering a blob from files whose bytes are known: one true file among any others suffices, and so do several that have it together.
 use Rattle.std.specs.Borrow.{Bor}
 use Rattle.std.specs.Prelude.{◌≡◌, ◌≢◌, ◌⊎◌, ℕ, ◌-◌, ◌^◌, ◌<◌, ◌≤◌, Bool, true, false, not, if◌then◌else◌, List, [], length, take, codes, MatchResult, Option, None, Some, Result, slice_get, ⊤}
 use Rattle.std.specs.Str.{bytes_eq}
@@ -32,17 +31,17 @@ use Rattle.bao_tasks.specs.declared.gathering.Gathering.{Gathering}
 use Rattle.bao_tasks.specs.Gathered.{gathered_text}
 use Rattle.bao_tasks.specs.Givens.{most_bytes}
 
--- whether a stored file is read by position: all are but the one at the path of standard input
+-- whether a stored file is read by position: all are except standard input, at the path `-`
 abbrev pub is_regular : List ℕ → Bool
 is_regular path = not (bytes_eq path (codes "-"))
 
--- The bytes that are taken of a file, where they are known: of a regular one all, of another so many of the first. Where none is there are none.
+-- the bytes taken from a file, if they are known: all of a regular file, the first `most` of any other, none if there is no file
 abbrev pub taken_bytes : Bool → ℕ → FileState → Option (List ℕ)
 taken_bytes regular most Unknown = None
 taken_bytes regular most Absent = Some []
 taken_bytes regular most (Stored bytes) = Some (if regular then bytes else take most bytes)
 
--- those of the file at this path
+-- those taken from the file at this path
 abbrev pub file_bytes : ℕ → (List ℕ → FileState) → Bor (List ℕ) → Option (List ℕ)
 file_bytes most at path = taken_bytes (is_regular path.now) most (at path.now)
 
@@ -50,59 +49,59 @@ file_bytes most at path = taken_bytes (is_regular path.now) most (at path.now)
 abbrev pub never_fails : Bor (List ℕ) → Type 0
 never_fails path = ⊤
 
--- The piece is a slice that is cut out of one of these files; or it is made of an outline's parents and of a part of one of them. Of a file
--- whose bytes are unknown it may be any.
+-- The slice is cut from one of these files, or made from an outline's parents and a range of one of them. From a file whose bytes are unknown, it may
+-- be any slice.
 abbrev pub IsFromFile : Form → ℕ → (List ℕ → FileState) → List (Bor (List ℕ)) → Piece → Type 0
 IsFromFile form capacity at paths = IsFromSource form (file_bytes (most_bytes form capacity) at) never_fails paths
 
--- A blob of so many bytes has room: it may have any length, and isn't encoded; or it has no more chunks than the capacity.
+-- a blob of n bytes fits: it may have any length and isn't encoded, or it has at most as many chunks as the capacity
 abbrev pub HasRoom : Gathering → ℕ → Type 0
 HasRoom how n = ((how.encode ≡ false) × (how.long ≡ true)) ⊎ (chunk_count n ≤ how.capacity)
 
--- The text makes a true file of the blob: it is its combined encoding, or beside its own outboard encoding the blob.
+-- a file with these bytes is true: they are the blob's combined encoding or, beside the blob's own outboard encoding, the blob
 abbrev pub IsTextOf : Form → Fixed → List ℕ → List ℕ → Type 0
 IsTextOf Slices fixed blob text = text ≡ combined_text fixed.mode blob
 IsTextOf (Bare outline) fixed blob text = IsOwnOutline fixed outline.now blob × (text ≡ blob)
 
--- One of the texts of which `Has` holds makes a true file of the blob, and has fewer than 2^64 bytes.
+-- one of the files, those for whose bytes `Has` holds, is true and has fewer than 2^64 bytes
 pub record HasWhole (Has : List ℕ → Type 0) (form : Form) (fixed : Fixed) (blob : List ℕ) : Type 0 where
   pub text : List ℕ
   pub has : Has text
   pub text_is : IsTextOf form fixed blob text
   pub few : length text < 2 ^ 64
 
--- What is cut out of one of them as the slice (start, len) is the blob's slice.
+-- the slice (start, len) cut from one of them is the blob's slice
 pub record HasCut (Has : List ℕ → Type 0) (mode : Mode) (blob : List ℕ) (start len : ℕ) : Type 0 where
   pub text : List ℕ
   pub has : Has text
   pub few : length text < 2 ^ 64
   pub cut : cut_text text start len ≡ slice_text mode blob start len
 
--- They have the blob's combined encoding together: one has the slice of the last byte, and one the slice that a chunk is asked for by, for each chunk.
+-- They have the blob's combined encoding together: one has the slice of the last byte, and for each chunk one has the slice by which it is asked for.
 pub record HaveCuts (Has : List ℕ → Type 0) (grain : Grain) (mode : Mode) (blob : List ℕ) : Type 0 where
   pub few : length blob < 2 ^ 64
   pub end : HasCut Has mode blob (2 ^ 64 - 1) 1
   pub each : (c start len : ℕ) → c < chunk_count (length blob) → IsAskedBy grain c start len → HasCut Has mode blob start len
 
--- So many bytes of one of them, from a place on, are those that the blob has there.
+-- one of them has the blob's `len` bytes from offset `start` on in their place
 pub record HasBytes (Has : List ℕ → Type 0) (blob : List ℕ) (start len : ℕ) : Type 0 where
   pub text : List ℕ
   pub has : Has text
   pub few : length text < 2 ^ 64
   pub bytes : part text start len ≡ part blob start len
 
--- They have the blob's bytes together: one has the last chunk, and one the part that a chunk is asked for by, for each chunk.
+-- They have the blob's bytes together: one has the last chunk, and for each chunk one has the range by which it is asked for.
 pub record HaveBytes (Has : List ℕ → Type 0) (grain : Grain) (blob : List ℕ) : Type 0 where
   pub few : length blob < 2 ^ 64
   pub end : (start len : ℕ) → IsPartBy ByChunk (length blob) (chunk_count (length blob) - 1) start len → HasBytes Has blob start len
   pub each : (c start len : ℕ) → c < chunk_count (length blob) → IsPartBy grain (length blob) c start len → HasBytes Has blob start len
 
--- they have together what a blob is made of in this form
+-- they have the blob together, in this form
 abbrev pub HaveTogether : Form → Fixed → Grain → List ℕ → (List ℕ → Type 0) → Type 0
 HaveTogether Slices fixed grain blob Has = HaveCuts Has grain fixed.mode blob
 HaveTogether (Bare outline) fixed grain blob Has = IsOwnOutline fixed outline.now blob × HaveBytes Has grain blob
 
--- Such texts are enough for a blob, which has the root and room: one makes a true file of it, or they have it together.
+-- such files suffice for a blob that has the root and fits: one of them is true, or they have it together
 pub record AreEnough (form : Form) (fixed : Fixed) (how : Gathering) (blob : List ℕ) (Has : List ℕ → Type 0) : Type 0 where
   pub root : IsBlob fixed blob
   pub room : HasRoom how (length blob)
@@ -112,7 +111,7 @@ pub record AreEnough (form : Form) (fixed : Fixed) (how : Gathering) (blob : Lis
 abbrev pub IsInFile : (List ℕ → FileState) → List (Bor (List ℕ)) → List ℕ → Type 0
 IsInFile at paths text = (i : ℕ) × (path : Bor (List ℕ)) × (slice_get paths i ≡ Some path) × (is_regular path.now ≡ true) × (at path.now ≡ Stored text)
 
--- there was no memory, or writing failed
+-- memory was refused, or writing failed
 abbrev pub IsExcusedFile : FileFault → Type 0
 IsExcusedFile (Read path) = ⊥
 IsExcusedFile (Write path) = Unit {0}
@@ -120,37 +119,35 @@ IsExcusedFile Output = ⊥
 IsExcusedFile Encoding = Unit {0}
 IsExcusedFile Memory = Unit {0}
 
--- the fault isn't one of the files
+-- the fault isn't the files'
 abbrev pub IsExcusedGathering : GatheredFault → Type 0
 IsExcusedGathering (File fault) = IsExcusedFile fault
 IsExcusedGathering (Outboard fault) = ⊥
 IsExcusedGathering (Gather fault) = IsExcused fault
 
--- This blob's text was put at the path, and the answer is its length; or the fault isn't one of the files.
+-- this blob, or its encoding, was put at the path, and its length returned; or the fault isn't the files'
 abbrev pub IsPutAt : (List ℕ → FileState) → (List ℕ → FileState) → List ℕ → Gathering → Mode → List ℕ → Result ℕ GatheredFault → Type 0
 IsPutAt old new path how mode blob result =
     MatchResult result (λ count. (count ≡ length blob) × Puts old new path (Some (gathered_text how.encode mode blob))) IsExcusedGathering
 
--- What is answered is right of this blob: where a blob's text was put at the path it is this one's, and the answer is its length; and 902 isn't
--- answered.
+-- the result is right for this blob: if a blob, or its encoding, was put at the path, it is this one, and its length was returned; and the fault isn't 902
 abbrev pub IsRightAt : (List ℕ → FileState) → (List ℕ → FileState) → List ℕ → Gathering → Mode → List ℕ → Result ℕ GatheredFault → Type 0
 IsRightAt old new path how mode blob result =
     MatchResult result (λ count. (count ≡ length blob) × Puts old new path (Some (gathered_text how.encode mode blob))) (λ fault. fault ≢ Gather NotTheRoot)
 
--- A collision is exhibited beside the blob's own outboard encoding, from a piece that is made of that one's parents and of a part of one of
--- the files.
+-- a collision is exhibited beside the blob's own outboard encoding, from a slice made from its parents and a range of one of the files
 pub record CollidesBeside (fixed : Fixed) (capacity : ℕ) (at : List ℕ → FileState) (paths : List (Bor (List ℕ))) (blob : List ℕ) : Type 0 where
   pub form : Form
   pub own : IsOwn form fixed blob
   pub pair : HasCollision (IsFromFile form capacity at paths) fixed blob
 
--- the form's outline is this encoding, accepted under the root in the mode
+-- the form's outline is of this encoding, which is accepted under the root in the mode
 abbrev pub IsOutlineIn : Form → Fixed → List ℕ → Type 0
 IsOutlineIn Slices fixed text = ⊥
 IsOutlineIn (Bare outline) fixed text = IsOutline outline.now fixed.mode fixed.root.0 text
 
--- A collision is exhibited beside an outboard encoding that was accepted, the file's at this path as far as that is known: from a piece that is
--- made of its parents and of a part of one of the files.
+-- a collision is exhibited beside an accepted outboard encoding, that in the file at this path if its bytes are known: from a slice made from its parents
+-- and a range of one of the files
 pub record CollidesBesideOutline (fixed : Fixed) (capacity : ℕ) (at : List ℕ → FileState) (outboard : List ℕ) (paths : List (Bor (List ℕ))) (blob : List ℕ) : Type 0 where
   pub text : List ℕ
   pub of : AreOf (at outboard) text

@@ -1,4 +1,4 @@
--- what is written of a gathered blob
+-- What is written of a gathered blob.
 use Rattle.std.specs.Borrow.{Bor}
 use Rattle.std.specs.Prelude.{◌≡◌, ◌⊎◌, ℕ, ◌*◌, ◌≤◌, Bool, true, false, if◌then◌else◌, List, MatchResult, Option, Result, length}
 use Rattle.std.specs.Io.KnownBytes.{Appends, Keeps}
@@ -22,15 +22,15 @@ use Rattle.bao_check.specs.Faults.{IsFirstFault}
 use Rattle.bao_files.specs.Disks.{AreOf, FileState, Stored}
 use Rattle.bao_files.specs.Printed.{AppendsBeginning}
 
--- what is written of a gathered blob: its combined encoding, or its bytes
+-- what is written of a blob: its combined encoding, or its bytes
 abbrev pub gathered_text : Bool → Mode → List ℕ → List ℕ
 gathered_text encode mode blob = if encode then combined_text mode blob else blob
 
--- the blob has this root, and no more bytes than as many chunks as the capacity
+-- the blob has this root, and at most as many bytes as the capacity has in chunks
 abbrev pub IsGathered : Gathering → Mode → List ℕ → List ℕ → Type 0
 IsGathered how mode root blob = (hash mode blob ≡ root) × (length blob ≤ 1024 * how.capacity)
 
--- a blob of so many bytes may have any length, or has no more than as many chunks as the capacity
+-- a blob of n bytes may have any length, or has at most as many bytes as the capacity has in chunks
 abbrev pub Fits : Bool → ℕ → ℕ → Type 0
 Fits true capacity n = Unit {0}
 Fits false capacity n = n ≤ 1024 * capacity
@@ -39,50 +39,48 @@ Fits false capacity n = n ≤ 1024 * capacity
 abbrev pub HasRootAndFits : Gathering → Mode → List ℕ → List ℕ → Type 0
 HasRootAndFits how mode root blob = (hash mode blob ≡ root) × Fits how.long how.capacity (length blob) × AreBytes blob
 
--- there was no memory for the encoding, and nothing was written, or writing to this path failed, and a beginning of it was
+-- memory for the encoding was refused and nothing was written, or writing to this path failed after a beginning of the text
 abbrev pub IsUnwritten : Bor (List ℕ) → List ℕ → Option (List ℕ) → Option (List ℕ) → FileFault → Type 0
 IsUnwritten path text old new fault = ((fault ≡ Encoding) × Keeps old new) ⊎ ((fault ≡ Write path) × AppendsBeginning old new text)
 
--- there was no memory to read the blob from its store, or for its encoding, and nothing was written; or writing to this path failed, and
--- a beginning of it was
+-- memory to read the blob from its store, or for its encoding, was refused and nothing was written; or writing to this path failed after a beginning of
+-- the text
 abbrev pub IsUnwrittenWhole : Bor (List ℕ) → List ℕ → Option (List ℕ) → Option (List ℕ) → GatheredFault → Type 0
 IsUnwrittenWhole path text old new fault =
     ((fault ≡ Gather Memory) × Keeps old new) ⊎ ((fault ≡ File Encoding) × Keeps old new) ⊎ ((fault ≡ File (Write path)) × AppendsBeginning old new text)
 
--- the text of such a blob, made of `count` bytes, was written
+-- such a blob, of `count` bytes, or its encoding was written
 abbrev pub WritesBlob : Gathering → Mode → List ℕ → Option (List ℕ) → Option (List ℕ) → ℕ → Type 0
 WritesBlob how mode root old new count =
     (blob : List ℕ) × IsGathered how mode root blob × (count ≡ length blob) × Appends old new (gathered_text how.encode mode blob) × AreBytes blob
 
--- a beginning of that of such a blob was written
+-- a beginning of such a blob, or of its encoding, was written
 abbrev pub BeginsBlob : Gathering → Mode → List ℕ → Option (List ℕ) → Option (List ℕ) → Type 0
 BeginsBlob how mode root old new = (blob : List ℕ) × IsGathered how mode root blob × AppendsBeginning old new (gathered_text how.encode mode blob)
 
--- no blob was gathered, or there was no memory to read it from its store or to encode it, and nothing was written; or writing to this
--- path failed
+-- no blob was gathered, or memory to read it from its store or to encode it was refused, and nothing was written; or writing to this path failed
 abbrev pub LeavesBlob : Gathering → Mode → List ℕ → Bor (List ℕ) → Option (List ℕ) → Option (List ℕ) → GatheredFault → Type 0
 LeavesBlob how mode root path old new fault =
     (((cause : GatherFault) × (fault ≡ Gather cause)) × Keeps old new)
     ⊎ ((fault ≡ File Encoding) × Keeps old new)
     ⊎ ((fault ≡ File (Write path)) × BeginsBlob how mode root old new)
 
--- the fault isn't one of what was gathered from
+-- the fault isn't the sources'
 abbrev pub IsExcusedWrite : GatheredFault → Type 0
 IsExcusedWrite (File fault) = Unit {0}
 IsExcusedWrite (Outboard fault) = ⊥
 IsExcusedWrite (Gather fault) = IsExcused fault
 
--- this blob's text was written, or the fault isn't one of what was gathered from, or a collision is exhibited from the blob and a piece
--- that was handed over
+-- this blob, or its encoding, was written, or the fault isn't the sources', or a collision is exhibited from the blob and a slice that was supplied
 abbrev pub IsWrittenOut : (Piece → Type 0) → Fixed → Gathering → List ℕ → Option (List ℕ) → Option (List ℕ) → Result ℕ GatheredFault → Type 0
 IsWrittenOut handed fixed how blob old new result =
     MatchResult result (λ count. (count ≡ length blob) × Appends old new (gathered_text how.encode fixed.mode blob)) IsExcusedWrite ⊎ HasCollision handed fixed blob
 
--- the file's bytes, as far as they are known, are accepted as the outboard encoding of a blob with this root
+-- the bytes of the file, if they are known, are accepted as the outboard encoding of a blob with this root
 abbrev pub HasOutlineIn : FileState → Mode → List ℕ → Type 0
 HasOutlineIn state mode root = (text : List ℕ) × AreOf state text × IsAccepted mode root text (outboard_nodes text)
 
--- a fault of an outboard encoding is the first one of the file's bytes, where they are known
+-- a fault of the outboard encoding is the first fault of the file's bytes, if they are known
 abbrev pub IsFaultOfOutline : FileState → Mode → List ℕ → GatheredFault → Type 0
 IsFaultOfOutline state mode root (File fault) = Unit {0}
 IsFaultOfOutline state mode root (Outboard fault) = (text : List ℕ) → state ≡ Stored text → IsFirstFault mode root text (outboard_nodes text) fault

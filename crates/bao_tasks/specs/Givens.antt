@@ -1,4 +1,4 @@
--- What the files of a gathering give.
+-- The bytes of the files that a blob is gathered from.
 use Rattle.std.specs.Prelude.{ℕ, ◌+◌, ◌*◌, List, Option, Some}
 use Rattle.bao_tasks.specs.declared.given.Given.{Given}
 use Rattle.bao_tasks.specs.declared.given.Given.TheVariants.{Placed, Held}
@@ -7,23 +7,23 @@ use Rattle.bao_text.specs.Nodes.{subtree_size}
 use Rattle.gather.specs.declared.form.Form.{Form}
 use Rattle.gather.specs.declared.form.Form.TheVariants.{Slices, Bare}
 
--- the bytes that a file has, where they are known, or those that are held
+-- the bytes of a file, if they are known, or those that are held in memory
 abbrev pub given_contents : {I : Type 0} → (I → Option (List ℕ)) → Given I → Option (List ℕ)
 given_contents contents (Placed file) = contents file
 given_contents contents (Held text) = Some text.items
 
--- no read of it answers a fault
+-- no read of it fails
 abbrev pub is_given_faultless : {I : Type 0} → (I → Type 0) → Given I → Type 0
 is_given_faultless faultless (Placed file) = faultless file
 is_given_faultless faultless (Held text) = Unit {0}
 
--- How many bytes of a file can help, of a blob of so many chunks: those of the longest encoding, or of the longest plain copy, and one
--- more, by which a text that is too long is known.
+-- How many bytes of a file can help, for a blob of at most `capacity` chunks: those of the longest encoding, or plain copy, and one more, by which a longer
+-- file is told.
 abbrev pub most_bytes : Form → ℕ → ℕ
 most_bytes Slices capacity = 8 + subtree_size (1024 * capacity) + 1
 most_bytes (Bare outline) capacity = 1024 * capacity + 1
 
--- a file that is watched has the same bytes, and fails where it does
+-- a file whose reads are reported has the same bytes and faults
 abbrev pub watched_contents : {S P : Type 0} → (S → Option (List ℕ)) → Watched S P → Option (List ℕ)
 watched_contents contents watched = contents watched.given
 

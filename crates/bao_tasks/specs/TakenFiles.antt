@@ -1,4 +1,4 @@
--- What is known while files are taken and a blob is gathered out of them.
+-- What is known while files are taken and a blob is gathered from them.
 use Rattle.std.specs.Borrow.{Bor}
 use Rattle.std.specs.Prelude.{◌≡◌, ◌≢◌, ◌⊎◌, ℕ, Bool, true, false, if◌then◌else◌, List, [], ◌∷◌, ◌++◌, length, IfSome, MatchResult, Option, None, Some, Result, Ok, Err, slice_get}
 use Rattle.std.specs.Io.KnownBytes.{Appends}
@@ -16,7 +16,7 @@ use Rattle.bao_tasks.specs.declared.gathering.Gathering.{Gathering}
 use Rattle.bao_tasks.specs.Gathered.{gathered_text}
 use Rattle.bao_tasks.specs.FromFiles.{IsExcusedFile, IsExcusedGathering, is_regular}
 
--- of each of these files that is known to be stored it is told whether it is regular
+-- for each of these files that is known to be stored, it is right whether it is regular
 abbrev pub AreKinds : (List ℕ → FileState) → List (Bor (List ℕ)) → List Bool → Type 0
 AreKinds at paths kinds = (i : ℕ) (path : Bor (List ℕ)) → slice_get paths i ≡ Some path → IsStored (at path.now) → slice_get kinds i ≡ Some (is_regular path.now)
 
@@ -28,36 +28,36 @@ pub record HasSound {S : Type 0} (contents : S → Option (List ℕ)) (faultless
   pub known : contents source ≡ Some bytes
   pub sound : faultless source
 
--- A source has these bytes, where they are known, and never fails where that is sure.
+-- A source has these bytes, if they are known, and never fails if that is sure.
 pub record IsSourceOf {S : Type 0} (contents : S → Option (List ℕ)) (faultless : S → Type 0) (sure : Type 0) (bytes : Option (List ℕ)) (source : S) : Type 0 where
   pub known : IfSome bytes (λ s. contents source ≡ Some s)
   pub sound : sure → faultless source
 
--- such a source follows
+-- one such source was added
 pub record Follows {S : Type 0} (contents : S → Option (List ℕ)) (faultless : S → Type 0) (sure : Type 0) (bytes : Option (List ℕ)) (old new : List S) : Type 0 where
   pub source : S
   pub is : new ≡ old ++ source ∷ []
   pub of : IsSourceOf contents faultless sure bytes source
 
--- it is the source of one of these files
+-- the source is of one of these files
 pub record IsOfFile {S : Type 0} (contents : S → Option (List ℕ)) (faultless : S → Type 0) (sure : Type 0) (bytes_of : Bor (List ℕ) → Option (List ℕ)) (paths : List (Bor (List ℕ))) (source : S) : Type 0 where
   pub place : ℕ
   pub path : Bor (List ℕ)
   pub there : slice_get paths place ≡ Some path
   pub of : IsSourceOf contents faultless sure (bytes_of path) source
 
--- each of the sources is
+-- each of the sources is of one of them
 abbrev pub AreOfFiles : {S : Type 0} → (S → Option (List ℕ)) → (S → Type 0) → Type 0 → (Bor (List ℕ) → Option (List ℕ)) → List (Bor (List ℕ)) → List S → Type 0
 AreOfFiles contents faultless sure bytes_of paths sources =
     (i : ℕ) (source : _) → slice_get sources i ≡ Some source → IsOfFile contents faultless sure bytes_of paths source
 
--- the fault is one of gathering, or there was no memory, or writing failed
+-- gathering failed, memory was refused, or writing failed
 abbrev pub IsOfWriting : GatheredFault → Type 0
 IsOfWriting (File fault) = IsExcusedFile fault
 IsOfWriting (Outboard fault) = ⊥
 IsOfWriting (Gather fault) = Unit {0}
 
--- whether another file may help where gathering has this fault
+-- whether another file may help after this fault of gathering
 abbrev pub is_open : GatherFault → Bool
 is_open Store = false
 is_open Capacity = false
@@ -68,30 +68,30 @@ is_open NotTheRoot = false
 is_open gather.Memory = false
 is_open Starved = true
 
--- the fault of what was answered, if another file may help
+-- the fault of the result, if another file may help after it
 abbrev pub open_fault : Result ℕ GatheredFault → Option GatherFault
 open_fault (Ok count) = None
 open_fault (Err (File fault)) = None
 open_fault (Err (Outboard fault)) = None
 open_fault (Err (Gather fault)) = if is_open fault then Some fault else None
 
--- What is answered is right of this blob: where a blob was written it is this one, and 902 isn't answered; or a collision is exhibited.
+-- the result is right for this blob: if a blob was written, it is this one, and the fault isn't 902; or a collision is exhibited
 abbrev pub IsRightOf : (Piece → Type 0) → Fixed → Gathering → List ℕ → Option (List ℕ) → Option (List ℕ) → Result ℕ GatheredFault → Type 0
 IsRightOf handed fixed how blob old new result =
     MatchResult result (λ count. ((count ≡ length blob) × Appends old new (gathered_text how.encode fixed.mode blob)) ⊎ HasCollision handed fixed blob)
     (λ fault. fault ≡ Gather NotTheRoot → HasCollision handed fixed blob)
 
--- This blob's text is in the draft that was made, and the answer is its length; or the fault isn't one of the files.
+-- this blob, or its encoding, is in the draft that was made, and its length was returned; or the fault isn't the files'
 abbrev pub IsDrafted : {T : Type 0} → (T → Option (List ℕ)) → Gathering → Mode → List ℕ → Result (ℕ × T) GatheredFault → Type 0
 IsDrafted contents how mode blob result =
     MatchResult result (λ made. (made.0 ≡ length blob) × (contents made.1 ≡ Some (gathered_text how.encode mode blob))) IsExcusedGathering
 
--- so it is of a draft, if one was made
+-- the same for a draft, if one was made
 abbrev pub IsTried : {T : Type 0} → (T → Option (List ℕ)) → Gathering → Mode → List ℕ → Result (Option (ℕ × T)) GatheredFault → Type 0
 IsTried contents how mode blob result =
     MatchResult result (λ found. IfSome found (λ made. (made.0 ≡ length blob) × (contents made.1 ≡ Some (gathered_text how.encode mode blob)))) IsExcusedGathering
 
--- What is answered is right of this blob: where a draft was made it has the blob's text, and 902 isn't answered.
+-- the result is right for this blob: if a draft was made, this blob, or its encoding, is in it, and the fault isn't 902
 abbrev pub IsRightDraft : {T : Type 0} → (T → Option (List ℕ)) → Gathering → Mode → List ℕ → Result (ℕ × T) GatheredFault → Type 0
 IsRightDraft contents how mode blob result =
     MatchResult result (λ made. (made.0 ≡ length blob) × (contents made.1 ≡ Some (gathered_text how.encode mode blob))) (λ fault. fault ≢ Gather NotTheRoot)

@@ -2,17 +2,17 @@ ghost use Rattle.std.specs.Prelude.{◌↔◌, IsNone};
 
 use crate::worth::Worth;
 
-/// What became of a file that a gathering was given.
+/// What became of a file that a blob was to be gathered from.
 #[derive(Clone, Copy, Debug)]
 pub enum Fate {
-    /// Its bytes were read. It has what they are worth, where that was asked for and there was memory to count it.
+    /// It was opened, and its bytes were used. Its worth, if that was asked for and there was memory to count it.
     Taken(Option<Worth>),
     /// It can't be opened or read.
     Unread,
-    /// Out of memory for it.
+    /// There was no memory for it.
     Starved,
-    /// The work ended before it was opened: it isn't a regular file, and the regular ones ended the work, or the outboard
-    /// encoding did.
+    /// Gathering ended before it was opened: it isn't a regular file, and the regular ones, or a fault of the
+    /// outboard encoding, ended the work.
     Unopened,
 }
 
@@ -21,7 +21,7 @@ impl Fate {
     ghost use Rattle.std.specs.Option.{option_copied};
     ghost use Rattle.bao_tasks.specs.Fates.{IsTaken, reason_of};
 
-    /// Why the file was left out, if it was.
+    /// Returns why the file was left out, if it was.
     pub fn reason(self) -> Option<&'static str>
         ensures taken { IsNone result ↔ IsTaken self }
         ensures text { option_copied result ≡ reason_of self }

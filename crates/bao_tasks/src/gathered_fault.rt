@@ -3,16 +3,16 @@ use bao_files::FileFault;
 use gather::GatherFault;
 use thiserror::Error;
 
-/// Why a blob was not gathered and written, with the text that the program prints of it.
+/// Why a blob was not gathered and written, with the message that the program prints.
 #[derive(Clone, Copy, Debug, Error)]
 pub enum GatheredFault<'a> {
-    /// A file was not read or written.
+    /// A file can't be read or written.
     #[error("{0}")]
     File(FileFault<'a>),
-    /// The outboard encoding was not accepted: its first fault.
+    /// The outboard encoding wasn't accepted: its first fault.
     #[error("{0}")]
     Outboard(CheckFault),
-    /// No blob came together, or there was no memory to read it from its store.
+    /// No blob was gathered, or there was no memory to read it from its store.
     #[error("{0}")]
     Gather(GatherFault),
 }
@@ -21,7 +21,8 @@ impl GatheredFault<'_> {
     ghost use Rattle.std.specs.Prelude.{◌≡◌};
     ghost use Rattle.bao_tasks.specs.GatheredFaults.{gathered_number_of};
 
-    /// The fault's number, where its text has one: 401, 501 to 504, 801, 802, 805, 806, 901 to 903, or 911.
+    /// Returns the number of the fault, if its message has one: 401, 501 to 504, 801, 802, 805, 806, 901 to 903, or
+    /// 911.
     pub fn code(&self) -> Option<u16>
         ensures { result ≡ gathered_number_of self.now }
     {

@@ -1,7 +1,7 @@
 ghost use Rattle.std.specs.Borrow.{Bor};
-ghost use Rattle.std.specs.Prelude.{◌≡◌, ◌⊎◌, ◌<◌, ◌≤◌, ◌^◌, ℕ, List, [], IfErr, IfOk, IfSome, IsErrOf, IsSome, IsTrue, Ok, OnErr, OnOk, None, Some, false, length, slice_get, true};
+ghost use Rattle.std.specs.Prelude.{◌≡◌, ◌≢◌, ◌⊎◌, ◌<◌, ◌≤◌, ◌^◌, ℕ, List, [], IfErr, IfOk, IfSome, IsErrOf, IsSome, IsTrue, MatchResult, Ok, OnErr, OnOk, None, Some, false, length, slice_get, true};
 ghost use Rattle.std.specs.Io.KnownBytes.{Appends};
-ghost use Rattle.bao_files.specs.Disks.{IsKnown, IsStored, KeepsFiles, Puts, Stored};
+ghost use Rattle.bao_files.specs.Disks.{Absent, IsKnown, IsStored, KeepsFiles, Puts, Stored};
 ghost use Rattle.bao_files.specs.declared.fault.FileFault.TheVariants as FileFault;
 ghost use Rattle.bao_text.specs.Choice.{chunk_count};
 ghost use Rattle.bao_text.specs.Texts.{outboard_text};
@@ -15,7 +15,8 @@ ghost use Rattle.gather.specs.Lists.{IsFromSource};
 ghost use Rattle.store_core.specs.Laws.{IsBlob};
 ghost use Rattle.bao_tasks.specs.FromFiles.{AreEnough, CollidesBeside, CollidesBesideOutline, HasRoom, HaveBytes, IsExcusedGathering, IsFromFile, IsInFile, IsPutAt, IsRightAt, file_bytes, is_regular, taken_bytes};
 ghost use Rattle.bao_tasks.specs.TakenFiles.{AreKinds, AreOfFiles, Follows, HasSound, IsDrafted, IsOfWriting, IsRightDraft, IsRightOf, IsTried, is_open, open_fault};
-ghost use Rattle.bao_tasks.specs.GatheredFaults.{IsOfFiles, IsQuietGathered, NamesBeside, NamesFirst};
+ghost use Rattle.bao_tasks.specs.GatheredFaults.{AreAbsent, IsFirstUnread, IsOfFiles, IsQuietGathered, LooksUnfinished, NamesBeside, NamesFirst, StopsBeside};
+ghost use Rattle.bao_tasks.specs.declared.missing.Lack.TheVariants as Lack;
 ghost use Rattle.bao_tasks.specs.Gathered.{Fits, HasOutlineIn, HasRootAndFits, IsFaultOfOutline, IsWrittenOut, gathered_text};
 ghost use Rattle.bao_tasks.specs.Givens.{given_contents, is_given_faultless, most_bytes, watched_contents, watched_faultless};
 ghost use Rattle.bao_tasks.specs.Worth.{IsWorthAs};
@@ -40,30 +41,30 @@ use std::alloc::{AllocError, Global};
 use std::io::Write;
 use std::thread::Threads;
 
-// Of files of fewer bytes it isn't shown how far they have been read.
+// The progress of shorter files isn't reported.
 const LEAST_SHOWN_LEN: u64 = 4 << 20;
 
-/// How a blob is gathered, and what is written of it.
+/// How a blob is gathered, and what is written and noted.
 #[derive(Clone, Copy, Debug)]
 pub struct Gathering {
-    /// How many workers gather, 1 to 64: a number beyond counts as the nearest.
+    /// How many workers gather, 1 to 64. A number outside counts as the nearest of these.
     pub workers: u32,
-    /// The most chunks that the blob may have, where it isn't `long`. Of a file that isn't regular no more is held than the longest
-    /// text of such a blob has, and what a file is worth is counted no farther.
+    /// The most chunks that the blob may have, unless it is `long`. At most one byte more is read of a file that isn't
+    /// regular than the longest encoding, or copy, of such a blob has.
     pub capacity: u32,
     /// Whether the blob may have any length.
     pub long: bool,
-    /// Whether the blob's combined encoding is written in its place.
+    /// Whether the blob's combined encoding is written in place of the blob.
     pub encode: bool,
-    /// Whether it is counted what each file that is read is worth.
+    /// Whether the worth of each file that is taken is counted.
     pub count: bool,
-    /// The most parts that are noted of what no file has, where the blob stays unfinished. With 0 it isn't looked for.
+    /// The most missing ranges to show if the blob stays unfinished. With 0 they aren't looked for.
     pub parts: usize,
-    /// The smallest part that the files are asked for.
+    /// The smallest unit that the files are asked for.
     pub grain: Grain,
 }
 
-// What is gathered out of files: the blob with this root in this mode, how, and what the files are.
+// What is gathered from files: the blob with this root in this mode, how, and in which form the files are.
 #[derive(Clone, Copy)]
 struct Wanted<'a> {
     mode: &'a Mode,
@@ -73,7 +74,7 @@ struct Wanted<'a> {
 }
 
 impl<'a> Wanted<'a> {
-    // The same, as it is gathered window by window.
+    // The same for `write_windows`.
     fn windows(&self) -> Windows<'a>
         ensures root { result.root ≡ self.now.root.now }
         ensures mode { result.mode ≡ self.now.mode.now }
@@ -90,7 +91,7 @@ impl<'a> Wanted<'a> {
     }
 }
 
-// What the files give that were taken so far, how many bytes the longest of them has, and whether there was no room for one.
+// The files taken so far, the length in bytes of the longest, and whether memory was refused for one.
 #[derive(Drop)]
 struct Taken<'p, S: Source + Drop, P: Progress> {
     givens: Vec<Watched<'p, S, P>>,
@@ -99,22 +100,22 @@ struct Taken<'p, S: Source + Drop, P: Progress> {
     progress: &'p P,
 }
 
-// Out of how many files the blob was gathered last, and the fault that was met there, if another file may help.
+// How many files the last attempt had, and the fault it ended with, if another file may help.
 #[derive(Drop)]
 struct Tried {
     count: usize,
     met: Option<GatherFault>,
 }
 
-// Notes what became of the file at this place.
+// Notes what became of the file with this index.
 fn note(fates: &mut [Fate], place: usize, fate: Fate) {
     if let Some(noted) = fates.get_mut(place) {
         *noted = fate;
     }
 }
 
-// Whether the file at this path is regular, so that it is read by position, and what is noted of it before it is read. Standard input isn't
-// regular. What can't be asked about can't be read, as long as nothing else is noted.
+// Returns whether the file at this path is regular, so that it can be read by position, and what to note of it until
+// it is opened. Standard input isn't regular.
 fn kind_of<D: Disk>(disk: &D, path: &str) -> (bool, Fate)
     ensures { IsStored (D.at disk.now path.now) → result.0 ≡ is_regular path.now }
 {
@@ -127,7 +128,7 @@ fn kind_of<D: Disk>(disk: &D, path: &str) -> (bool, Fate)
     }
 }
 
-// Which of the files are regular. Each is asked about once, so that it has its turn whatever becomes of it.
+// Returns which of the files are regular. Each is looked at once, so that it is taken exactly once even if it changes.
 fn kinds_of<D: Disk>(
     alloc: Global,
     disk: &D,
@@ -146,11 +147,10 @@ fn kinds_of<D: Disk>(
     Ok(kinds)
 }
 
-// What a file is worth, where that is asked for and there is memory to count it: as a plain copy beside the outline, where there is
-// one.
+// Counts the worth of a file, if that is asked for and memory isn't refused.
 fn counted<I: Source>(alloc: Global, wanted: &Wanted<'_>, given: &Given<I>) -> Option<Worth>
     ensures asked { IsSome result → IsTrue wanted.now.how.count }
-    ensures worth { IfSome result (IsWorthAs wanted.now.form.now wanted.now.mode.now wanted.now.root.now.0 wanted.now.how.capacity (given_contents I.contents given.now) (is_given_faultless I.faultless given.now)) }
+    ensures worth { IfSome result (IsWorthAs wanted.now.form.now wanted.now.mode.now wanted.now.root.now.0 (given_contents I.contents given.now) (is_given_faultless I.faultless given.now)) }
 {
     let Wanted {
         mode,
@@ -162,12 +162,12 @@ fn counted<I: Source>(alloc: Global, wanted: &Wanted<'_>, given: &Given<I>) -> O
         return None;
     }
     match form {
-        Form::Slices => worth_of_encoding(alloc, mode, root, how.capacity, given).ok(),
-        Form::Bare(outline) => worth_of_copy(alloc, outline, how.capacity, given).ok(),
+        Form::Slices => worth_of_encoding(alloc, mode, root, given).ok(),
+        Form::Bare(outline) => worth_of_copy(alloc, outline, given).ok(),
     }
 }
 
-// What a file gives, which is regular or not, and how many bytes that is.
+// Opens a file, which is regular or not, and returns it with its length.
 fn opened<'a, D: Disk>(
     alloc: Global,
     disk: &D,
@@ -177,6 +177,7 @@ fn opened<'a, D: Disk>(
 ) -> Result<(Given<D::Input>, u64), FileFault<'a>>
     ensures bytes { IfOk result (λ made. IfSome (taken_bytes regular (most_bytes wanted.now.form.now wanted.now.how.capacity) (D.at disk.now path.now)) (λ bytes. given_contents D.Input.contents made.0 ≡ Some bytes)) }
     ensures sure { IfOk result (λ made. D.faultless disk.now → is_given_faultless D.Input.faultless made.0) }
+    ensures found { OnOk result (D.at disk.now path.now ≢ Absent) }
     ensures there { IfErr result (λ fault. regular ≡ true → D.faultless disk.now → IsStored (D.at disk.now path.now) → fault ≡ FileFault.Memory) }
 {
     if regular {
@@ -186,7 +187,7 @@ fn opened<'a, D: Disk>(
     }
 }
 
-// Takes a file, which is regular or not, and answers what became of it.
+// Takes a file, which is regular or not, and returns what became of it.
 fn take<D: Disk, P: Progress>(
     alloc: Global,
     disk: &D,
@@ -196,6 +197,7 @@ fn take<D: Disk, P: Progress>(
     taken: &mut Taken<'_, Given<D::Input>, P>,
 ) -> Fate
     ensures starved { taken.old.starved ≡ true → taken.new.starved ≡ true }
+    ensures absent { D.at disk.now path.now ≡ Absent → taken.new.givens.items ≡ taken.old.givens.items }
     ensures taken { (taken.new.givens.items ≡ taken.old.givens.items)
         ⊎ Follows (watched_contents (given_contents D.Input.contents)) (watched_faultless (is_given_faultless D.Input.faultless)) (D.faultless disk.now) (taken_bytes regular (most_bytes wanted.now.form.now wanted.now.how.capacity) (D.at disk.now path.now)) taken.old.givens.items taken.new.givens.items }
     ensures there { regular ≡ true → D.faultless disk.now → IsStored (D.at disk.now path.now) → (taken.new.starved ≡ true)
@@ -221,7 +223,7 @@ fn take<D: Disk, P: Progress>(
     }
 }
 
-// The first of the regular files, open once more: while the others are opened it keeps a descriptor, with which OUT is made later.
+// Opens the first regular file once more. This reserves a file descriptor for OUT while the others are opened.
 fn spare<D: Disk>(disk: &D, paths: &[&str], kinds: &[bool]) -> Option<D::Input> {
     for (path, is_regular) in paths.iter().zip(kinds) {
         if *is_regular {
@@ -231,7 +233,7 @@ fn spare<D: Disk>(disk: &D, paths: &[&str], kinds: &[bool]) -> Option<D::Input> 
     None
 }
 
-// Takes the files of one kind.
+// Takes the files of one kind: the regular ones, or the others.
 fn take_files<D: Disk, P: Progress>(
     alloc: Global,
     disk: &D,
@@ -245,6 +247,7 @@ fn take_files<D: Disk, P: Progress>(
     requires count { length kinds.now ≡ length paths.now }
     requires kinds { AreKinds (D.at disk.now) paths.now kinds.now }
     ensures starved { taken.old.starved ≡ true → taken.new.starved ≡ true }
+    ensures absent { AreAbsent (D.at disk.now) paths.now → taken.new.givens.items ≡ taken.old.givens.items }
     ensures files { AreOfFiles (watched_contents (given_contents D.Input.contents)) (watched_faultless (is_given_faultless D.Input.faultless)) (D.faultless disk.now) (file_bytes (most_bytes wanted.now.form.now wanted.now.how.capacity) (D.at disk.now)) paths.now taken.old.givens.items
         → AreOfFiles (watched_contents (given_contents D.Input.contents)) (watched_faultless (is_given_faultless D.Input.faultless)) (D.faultless disk.now) (file_bytes (most_bytes wanted.now.form.now wanted.now.how.capacity) (D.at disk.now)) paths.now taken.new.givens.items }
     ensures kept { (bytes : List ℕ) → HasSound (watched_contents (given_contents D.Input.contents)) (watched_faultless (is_given_faultless D.Input.faultless)) taken.old.givens.items bytes → HasSound (watched_contents (given_contents D.Input.contents)) (watched_faultless (is_given_faultless D.Input.faultless)) taken.new.givens.items bytes }
@@ -265,7 +268,7 @@ fn take_files<D: Disk, P: Progress>(
     }
 }
 
-// Whether another holder's text might make the blob whole.
+// Returns whether another file may help after this fault.
 fn is_unfinished(fault: GatherFault) -> bool
     ensures { result ≡ is_open fault }
 {
@@ -279,7 +282,7 @@ fn is_unfinished(fault: GatherFault) -> bool
     }
 }
 
-// The fault after which another holder's text might make the blob whole, if the work ended with such a one.
+// Returns the fault that an attempt ended with, if another file may help after it.
 fn unfinished_by(ended: &Result<u64, GatheredFault<'_>>) -> Option<GatherFault>
     ensures { result ≡ open_fault ended.now }
 {
@@ -289,7 +292,8 @@ fn unfinished_by(ended: &Result<u64, GatheredFault<'_>>) -> Option<GatherFault>
     }
 }
 
-// Why no blob came together: there was no memory for a file; what gathering from those that were taken met; or none was taken.
+// Returns why no blob was gathered: there was no memory for a file; the fault of the last attempt; or no file could be
+// taken, and the first is named.
 fn cause_of<'a>(
     starved: bool,
     met: Option<GatherFault>,
@@ -301,6 +305,9 @@ fn cause_of<'a>(
     ensures paths { NamesFirst files.now path.entry result }
     ensures cause { (fault : Cause) → result ≡ GatheredFault.Gather fault → (met ≡ Some fault) ⊎ (fault ≡ GatherFault.Unfinished) }
     ensures excused { (starved ≡ true) ⊎ (met ≡ Some GatherFault.Starved) → IsExcusedGathering result }
+    ensures met { starved ≡ false → IfSome met (λ fault. result ≡ GatheredFault.Gather fault) }
+    ensures none { met ≡ None → IsFirstUnread files.now result }
+    ensures unread { (file : Bor (List ℕ)) → result ≡ GatheredFault.File (FileFault.Read file) → (starved ≡ false) × (met ≡ None) }
 {
     if starved {
         return GatheredFault::File(FileFault::Memory);
@@ -312,13 +319,15 @@ fn cause_of<'a>(
     }
 }
 
-// What none of the files has that were taken, where the blob stayed unfinished for that, and it is asked for.
+// Looks for what none of the files taken has, if that is asked for and is why the blob stayed unfinished.
 fn lack_left<S: Source + Drop, P: Progress>(
     alloc: Global,
     wanted: &Wanted<'_>,
     met: Option<GatherFault>,
     taken: &Taken<'_, S, P>,
-) -> Lack {
+) -> Lack
+    ensures { ((met ≡ Some GatherFault.Unfinished) × (taken.now.starved ≡ false)) ⊎ (result ≡ Lack.Unasked) }
+{
     match met {
         Some(GatherFault::Unfinished) if wanted.how.parts > 0 && !taken.starved => {
             let windows = wanted.windows();
@@ -338,8 +347,8 @@ fn most_chunks(how: &Gathering) -> u64
     if how.long { u64::MAX } else { capacity }
 }
 
-// Whether the blob is gathered in a store before any of it is written: where its encoding is wanted, and where what is written can't be
-// taken back and the blob hasn't any length.
+// Returns whether the blob is gathered in a store before any of it is written: to encode it, or because its length is
+// limited and OUT can't be replaced.
 fn is_stored(how: &Gathering, is_replaced: bool) -> bool
     ensures stored { result ≡ true → (how.now.encode ≡ true) ⊎ (how.now.long ≡ false) }
     ensures windows { result ≡ false → how.now.encode ≡ false }
@@ -347,8 +356,8 @@ fn is_stored(how: &Gathering, is_replaced: bool) -> bool
     how.encode || !(how.long || is_replaced)
 }
 
-// Gathers the blob out of the files that were taken, and writes it. Where what is written can be taken back, and wherever the blob may have
-// any length, it is written window by window, as it comes; else once all of it is there, out of a store.
+// Gathers the blob from the files taken, and writes it: from a store once it is complete, or window by window as it is
+// gathered, if OUT is replaced or the blob may have any length.
 fn write_taken<
     'a,
     R: AllocGlobal + Threads + Sync,
@@ -369,6 +378,7 @@ fn write_taken<
     ensures files { IfErr result IsOfFiles }
     ensures paths { IfErr result (λ fault. (inputs : List (Bor (List ℕ))) → NamesFirst inputs path.entry fault) }
     ensures writing { IfErr result IsOfWriting }
+    ensures capacity { IsErrOf result (GatheredFault.Gather GatherFault.Capacity) → (wanted.now.how.capacity ≡ 0) ⊎ (65536 < wanted.now.how.capacity) }
     ensures right { (blob : List ℕ) → IsBlob (fixed_as wanted.now.root.now wanted.now.mode.now wanted.now.how.capacity) blob
         → IsRightOf (IsFromSource wanted.now.form.now (watched_contents S.contents) (watched_faultless S.faultless) taken.now.givens.items) (fixed_as wanted.now.root.now wanted.now.mode.now wanted.now.how.capacity) wanted.now.how blob (W.contents out.old) (W.contents out.new) result }
     ensures too_large { AreSlices wanted.now.form.now → IsErrOf result (GatheredFault.Gather GatherFault.TooLarge) → AreTooLong (IsFromSource wanted.now.form.now (watched_contents S.contents) (watched_faultless S.faultless) taken.now.givens.items) (fixed_as wanted.now.root.now wanted.now.mode.now wanted.now.how.capacity) wanted.now.how.capacity }
@@ -394,8 +404,8 @@ fn write_taken<
     }
 }
 
-// Tells that work on the longest file begins, where it is long: so many bytes are read where each part comes from one file, and no more of
-// them can help than the longest encoding has of a blob that fits.
+// Reports the number of bytes that are read if each range comes from one file: the length of the longest, but no more
+// than the longest encoding of a blob that fits has. Short files aren't reported.
 fn begin<P: Progress>(how: &Gathering, longest: u64, progress: &P) {
     let len = if how.long {
         longest
@@ -407,15 +417,17 @@ fn begin<P: Progress>(how: &Gathering, longest: u64, progress: &P) {
     }
 }
 
-// Whether all files are taken first: what is written before all was verified can't be taken back where it isn't replaced.
+// Returns whether all files have to be taken first. A `long` blob is written to an OUT that can't be replaced as it
+// is gathered, so there is only one attempt.
 fn is_too_early(how: &Gathering, first: bool, is_replaced: bool) -> bool
-    ensures { is_replaced ≡ true → result ≡ false }
+    ensures replaced { is_replaced ≡ true → result ≡ false }
+    ensures again { first ≡ false → result ≡ false }
 {
     first && how.long && !is_replaced
 }
 
-// Gathers the blob out of the files that were taken, where these are more than were tried before, into a draft of the file at `path`, and
-// answers how many bytes it has. It answers none where another file may help, and notes why.
+// Gathers the blob from the files taken, if these are more than in the last attempt, into a draft of the file at `path`
+// and returns its length in bytes with the draft. Returns `None`, and notes the fault, if another file may help.
 fn attempt<
     'a,
     R: AllocGlobal + Threads + Sync,
@@ -439,6 +451,12 @@ fn attempt<
     ensures right { IsKnown (D.at disk.now path.now) → (blob : List ℕ) → IsBlob (fixed_as wanted.now.root.now wanted.now.mode.now wanted.now.how.capacity) blob
         → IsTried D.Draft.contents wanted.now.how wanted.now.mode.now blob result ⊎ HasCollision (IsFromSource wanted.now.form.now (watched_contents S.contents) (watched_faultless S.faultless) taken.now.givens.items) (fixed_as wanted.now.root.now wanted.now.mode.now wanted.now.how.capacity) blob }
     ensures closed { IfErr result (λ fault. open_fault (Err fault) ≡ None) }
+    ensures none { length taken.now.givens.items ≡ tried.old.count → MatchResult result (λ found. found ≡ None) (λ fault. fault ≡ GatheredFault.File FileFault.Memory) }
+    ensures same { length taken.now.givens.items ≡ tried.old.count → tried.new ≡ tried.old }
+    ensures unmet { result ≡ Ok None → (tried.old.count ≡ 0) ⊎ IsSome tried.old.met
+        → (first ≡ false → length taken.now.givens.items ≡ tried.new.count) × ((tried.new.count ≡ 0) ⊎ IsSome tried.new.met) }
+    ensures writing { IfErr result IsOfWriting }
+    ensures capacity { IsErrOf result (GatheredFault.Gather GatherFault.Capacity) → (wanted.now.how.capacity ≡ 0) ⊎ (65536 < wanted.now.how.capacity) }
     ensures met { IfSome tried.old.met (λ fault. is_open fault ≡ true) → IfSome tried.new.met (λ fault. is_open fault ≡ true) }
     ensures too_large { AreSlices wanted.now.form.now → tried.new.met ≡ Some GatherFault.TooLarge → (tried.old.met ≡ Some GatherFault.TooLarge)
         ⊎ AreTooLong (IsFromSource wanted.now.form.now (watched_contents S.contents) (watched_faultless S.faultless) taken.now.givens.items) (fixed_as wanted.now.root.now wanted.now.mode.now wanted.now.how.capacity) wanted.now.how.capacity }
@@ -470,7 +488,7 @@ fn attempt<
     }
 }
 
-// Gathers the blob, as `gather_on` says, and answers how many bytes it has and the draft of the file at `path` that it was written to.
+// Gathers the blob, as `gather_on` does, and returns its length in bytes with the draft of the file at `path`.
 fn drafted<'a, R: AllocGlobal + Threads + Sync, D: Disk, P: Progress + Sync>(
     rt: &R,
     disk: &D,
@@ -485,12 +503,16 @@ fn drafted<'a, R: AllocGlobal + Threads + Sync, D: Disk, P: Progress + Sync>(
     ensures err { IfErr result IsQuietGathered }
     ensures files { IfErr result IsOfFiles }
     ensures paths { IfErr result (NamesFirst files.now path.entry) }
+    ensures absent { AreAbsent (D.at disk.now) files.now → MatchResult result (λ _. ⊥) (IsFirstUnread files.now) }
+    ensures unread { (file : Bor (List ℕ)) → IsErrOf result (GatheredFault.File (FileFault.Read file)) → D.faultless disk.now → (text : List ℕ) → IsInFile (D.at disk.now) files.now text → ⊥ }
     ensures right { D.faultless disk.now → IsKnown (D.at disk.now path.now) → (blob : List ℕ) → IsBlob (fixed_as wanted.now.root.now wanted.now.mode.now wanted.now.how.capacity) blob
         → IsRightDraft D.Draft.contents wanted.now.how wanted.now.mode.now blob result ⊎ HasCollision (IsFromFile wanted.now.form.now wanted.now.how.capacity (D.at disk.now) files.now) (fixed_as wanted.now.root.now wanted.now.mode.now wanted.now.how.capacity) blob }
     ensures too_large { AreSlices wanted.now.form.now → D.faultless disk.now → IsErrOf result (GatheredFault.Gather GatherFault.TooLarge)
         → AreTooLong (IsFromFile wanted.now.form.now wanted.now.how.capacity (D.at disk.now) files.now) (fixed_as wanted.now.root.now wanted.now.mode.now wanted.now.how.capacity) wanted.now.how.capacity }
     ensures available { D.faultless disk.now → IsKnown (D.at disk.now path.now) → (blob : List ℕ) → AreEnough wanted.now.form.now (fixed_as wanted.now.root.now wanted.now.mode.now wanted.now.how.capacity) wanted.now.how blob (IsInFile (D.at disk.now) files.now)
         → IsDrafted D.Draft.contents wanted.now.how wanted.now.mode.now blob result ⊎ HasCollision (IsFromFile wanted.now.form.now wanted.now.how.capacity (D.at disk.now) files.now) (fixed_as wanted.now.root.now wanted.now.mode.now wanted.now.how.capacity) blob }
+    ensures capacity { IsErrOf result (GatheredFault.Gather GatherFault.Capacity) → (wanted.now.how.capacity ≡ 0) ⊎ (65536 < wanted.now.how.capacity) }
+    ensures looked { LooksUnfinished result notes.old.lack notes.new.lack }
 {
     let alloc = rt.alloc();
     let Ok(kinds) = kinds_of(alloc, disk, files, notes.fates.as_mut_slice()) else {
@@ -525,45 +547,50 @@ fn drafted<'a, R: AllocGlobal + Threads + Sync, D: Disk, P: Progress + Sync>(
     Err(cause_of(taken.starved, tried.met, files, path))
 }
 
-/// Gathers the blob with this root, of at most `capacity` chunks, or with `long` of any length, out of the files on `disk`. Writes it,
-/// or its combined encoding, to the file at `path` there, and answers how many bytes the blob has. Each file is from a holder that
-/// nobody trusts. As the form says it is a combined encoding, or a plain copy beside an outboard encoding that was accepted
-/// under this root and in this mode.
+/// Gathers the blob with this root from untrusted files on `disk`; writes it, or with `encode` its combined encoding,
+/// to the file at `path` there; and returns the length of the blob in bytes.
 ///
-/// The blob is written window by window, as it comes ([`write_windows`]), in the memory of one window. The file is
-/// replaced once all of the blob was verified. What can't be replaced at once ([`Disk::is_replaced`]), as a device or a
-/// pipe: a blob that isn't `long` is gathered in a store first, and written once it was verified. A `long` one is written
-/// there as it comes, so that after a fault a beginning of it may stand there. An encoding is made of a blob that was
-/// gathered in a store, of at most `capacity` chunks.
+/// The blob has at most `capacity` chunks, or with `long` any length, but with `encode` never more than `capacity`. As
+/// the form says, the files are combined encodings, or plain copies beside an outboard encoding that was accepted under
+/// this root in this mode.
 ///
-/// Regular files are read where they lie, and only the parts that workers ask for. What isn't a regular file, as a pipe, is
-/// opened only where the regular ones leave the blob unfinished, but at once for a `long` blob where the file can't be
-/// replaced. No more of it is read, and held, than the longest encoding, or copy, of a blob of `capacity` chunks has, and
-/// one byte. A file is left out that can't be opened or read, or for which there is no descriptor or no memory. One
-/// descriptor is kept for `path`. What became of each file is noted in `notes` at its place, as far as these have places,
-/// whatever is answered. With `count` it is noted, too, what each one that was taken is worth (`worth_of_encoding`, or
-/// `worth_of_copy`), where there was memory to count it. And where the blob stays unfinished, it is noted there what none of
-/// them has ([`lack_of`]), if `parts` asks for it; else that is left as it is. How many bytes workers have read of the files, of how many the longest
-/// one has, where these are at least 4 MiB, is told to `progress`, which has no part in the answer.
+/// The file at `path` is replaced once the whole blob is verified; until then the blob is written to a draft, window by
+/// window ([`write_windows`]), in the memory of two windows. A file that can't be replaced ([`Disk::is_replaced`]), such
+/// as a device or a pipe, is written once the blob is complete in a store. A `long` blob is written there as it is
+/// gathered, so a beginning may be there after a fault. An encoding is always made from a blob in a store.
 ///
-/// Refuses files of which none can be read (`File` with `Read` of the first), a blob that did not come together (`Gather`,
-/// or `File` with `Memory` where there was none for one of the files), one for whose encoding there was no memory (`File`
-/// with `Encoding`), and an output that can't be made or written (`File` with `Write`). After each fault all files are as they were, but one
-/// that can't be replaced.
+/// Regular files are read by position, only where workers ask for bytes. Other files, such as pipes, are opened only if
+/// the regular ones leave the blob unfinished, or from the start for a `long` blob and a `path` that can't be replaced. At
+/// most one byte more is read of them than the longest encoding, or copy, of a blob of `capacity` chunks has. A file that
+/// can't be opened or read, or for which there is no descriptor or no memory, is left out.
 ///
-/// One true file among any others is enough, on a disk where no call fails but for memory and what is at `path` is known. That is a
-/// file whose bytes are the combined encoding of a blob with this root, or, beside the blob's own outboard encoding, a copy of the blob, which
-/// has at least one byte. Nor need any file be whole: it is enough that the slice of the last byte that is cut out of one of them is the blob's, and for each
-/// group of its chunks the group's slice, or with `Grain::Chunk` for each chunk the chunk's; or of copies that one has the blob's last chunk in its place,
-/// and for each group, or chunk, one has the blob's bytes there. Then that blob, or its encoding, is put at `path` and its length answered; or there was no
-/// memory, or writing failed; or a collision is exhibited, two different inputs with one chaining value, one of the blob's and one of a slice's that is
-/// accepted under the root and is cut out of one of the files, or made of a part of one. With `long` and without `encode` the blob may have any
-/// length, where its files have fewer than 2^64 bytes; else it has at most `capacity` chunks. The files that have it aren't standard input, `-`: of that no
-/// more bytes are read than help a blob of `capacity` chunks.
+/// What became of each file is noted in `notes.fates` under its index, as far as that goes, whatever the result; with
+/// `count` also its worth ([`worth_of_encoding`] or [`worth_of_copy`]), unless memory is refused. If the blob stays
+/// unfinished (901), `notes.lack` says what no file has ([`lack_of`]), if `parts` asks for it; otherwise it is unchanged
+/// or `Unasked`. The bytes read are reported to `progress` if the longest file has at least 4 MiB; this doesn't affect
+/// the result.
 ///
-/// Whatever the files are, on such a disk what is put at `path` is each blob with this root, and at 902 `NotTheRoot` there is none; or a
-/// collision is exhibited. Of combined encodings at 805 `TooLarge` each blob with this root has more chunks than `capacity`, or a collision
-/// is exhibited.
+/// Refuses with `File` and `Read` of the first file if no file can be read; with `File` and `Memory` if there is none
+/// for a file; with `Gather` if the blob was not gathered (802 only if no store has the capacity); with `File` and
+/// `Encoding` if there is no memory for the encoding; and with `File` and `Write` if `path` can't be created or written.
+/// All files are then unchanged, except one that can't be replaced.
+///
+/// If no file is at any of the paths, the fault is `Read` of the first, or memory was refused: never 901. If calls of
+/// the disk fail for want of memory alone and one of the files, other than standard input, is there, it isn't `Read`.
+///
+/// On a disk whose calls fail for want of memory alone, and if it is known what is at `path`, one true file among any
+/// others suffices: the combined encoding of a blob with this root or, beside the blob's own outboard encoding, a copy of
+/// the blob, which then has at least one byte. No file need be complete: it suffices that the slice of the last byte cut
+/// from some file is the blob's, and so for each group, or with `Grain::Chunk` each chunk; or that some copy has the
+/// blob's last chunk in its place, and for each group, or chunk, some copy has the blob's bytes there. The blob, or its
+/// encoding, is then put at `path`, unless memory is refused, writing fails or a collision is exhibited: two different
+/// inputs with the same chaining value, one from the blob and one from a slice that is accepted under the root and is cut
+/// from a file, or made from a range of one. Files with the blob have fewer than 2^64 bytes each, and none of them is
+/// standard input, `-`, of which only a limited number of bytes is read.
+///
+/// Whatever the files are, on such a disk what is put at `path` is every blob with this root, and at 902 `NotTheRoot`
+/// there is none; or a collision is exhibited. At 805 `TooLarge`, every blob with this root has more chunks than
+/// `capacity`, or a collision is exhibited; this is for combined encodings only.
 pub fn gather_on<'a, R: AllocGlobal + Threads + Sync, D: Disk, P: Progress + Sync>(
     rt: &R,
     disk: &mut D,
@@ -582,6 +609,8 @@ pub fn gather_on<'a, R: AllocGlobal + Threads + Sync, D: Disk, P: Progress + Syn
     ensures err { IfErr result IsQuietGathered }
     ensures files { IfErr result IsOfFiles }
     ensures paths { IfErr result (NamesFirst files.now path.entry) }
+    ensures absent { AreAbsent (D.at disk.old) files.now → MatchResult result (λ _. ⊥) (IsFirstUnread files.now) }
+    ensures unread { (file : Bor (List ℕ)) → IsErrOf result (GatheredFault.File (FileFault.Read file)) → D.faultless disk.old → (text : List ℕ) → IsInFile (D.at disk.old) files.now text → ⊥ }
     ensures right { D.faultless disk.old → IsKnown (D.at disk.old path.now) → (blob : List ℕ) → IsBlob (fixed_as root.now mode.now how.capacity) blob
         → IsRightAt (D.at disk.old) (D.at disk.new) path.now how mode.now blob result
         ⊎ HasCollision (IsFromFile form.now how.capacity (D.at disk.old) files.now) (fixed_as root.now mode.now how.capacity) blob }
@@ -590,6 +619,8 @@ pub fn gather_on<'a, R: AllocGlobal + Threads + Sync, D: Disk, P: Progress + Syn
     ensures available { D.faultless disk.old → IsKnown (D.at disk.old path.now) → (blob : List ℕ) → AreEnough form.now (fixed_as root.now mode.now how.capacity) how blob (IsInFile (D.at disk.old) files.now)
         → IsPutAt (D.at disk.old) (D.at disk.new) path.now how mode.now blob result
         ⊎ HasCollision (IsFromFile form.now how.capacity (D.at disk.old) files.now) (fixed_as root.now mode.now how.capacity) blob }
+    ensures capacity { IsErrOf result (GatheredFault.Gather GatherFault.Capacity) → (how.capacity ≡ 0) ⊎ (65536 < how.capacity) }
+    ensures looked { LooksUnfinished result notes.old.lack notes.new.lack }
 {
     let wanted = Wanted {
         mode,
@@ -602,19 +633,22 @@ pub fn gather_on<'a, R: AllocGlobal + Threads + Sync, D: Disk, P: Progress + Syn
     Ok(count)
 }
 
-/// As [`gather_on`], out of plain copies of the blob beside its outboard encoding, which is read, as far as it can
-/// matter, and checked first, under this root and in this mode, before any of the files is looked at: each of these may be
-/// whole, cut, changed, or any bytes. Of a copy that isn't a regular file no more is read than 1,024 bytes a chunk of the
-/// capacity, and one byte. What they are worth is counted by `worth_of_copy`.
+/// Gathers the blob as [`gather_on`] does, from plain copies beside the outboard encoding in the file at `outboard`.
 ///
-/// Refuses an outboard encoding that can't be read (`File` with `Read`, or with `Memory`) or isn't accepted (`Outboard`), by its first
-/// fault, and then as `gather_on` does.
+/// The outboard encoding is read, as far as it matters, and checked under this root in this mode before any copy is
+/// looked at. Copies may be complete, cut, changed, or any bytes.
 ///
-/// One copy among any other files is enough, beside the outboard encoding of a blob of at least one byte, on such a disk as `gather_on` speaks
-/// of, and so are several that have its bytes together, as is said there: then that blob, or its encoding, is put at `path` and its length answered; or there was no memory, or writing failed; or a collision is
-/// exhibited, one input of the blob's and one of a slice's that is made of its outboard encoding's parents and of a part of one of the files.
-/// Whatever the files are, what is put is each blob with this root, and at 902 there is none; or such a collision is exhibited beside the
-/// outboard encoding that was accepted.
+/// Refuses an outboard encoding that can't be read (`File` and `Read` with its path, or `File` and `Memory`) or isn't
+/// accepted (`Outboard` with its first fault, 501 to 504); then as [`gather_on`] does. If no file is at any of the
+/// copies' paths, the fault is one of the outboard encoding, or `Read` of the first copy, or memory was refused.
+///
+/// On a disk as for [`gather_on`], beside the outboard encoding of a blob of at least one byte, one copy among any other
+/// files suffices, and so do several that have its bytes together. The blob, or its encoding, is then put at `path`,
+/// unless memory is refused, writing fails or a collision is exhibited, one input from the blob and one from a slice that
+/// is made from the parents of its outboard encoding and a range of a file.
+///
+/// Whatever the files are, what is put at `path` is every blob with this root, and at 902 there is none; or such a
+/// collision is exhibited beside the outboard encoding that was accepted.
 pub fn gather_beside_on<'a, R: AllocGlobal + Threads + Sync, D: Disk, P: Progress + Sync>(
     rt: &R,
     disk: &mut D,
@@ -634,6 +668,8 @@ pub fn gather_beside_on<'a, R: AllocGlobal + Threads + Sync, D: Disk, P: Progres
     ensures outboard { IfErr result (IsFaultOfOutline (D.at disk.old outboard.now) mode.now root.now.0) }
     ensures err { IfErr result IsQuietGathered }
     ensures paths { IfErr result (NamesBeside outboard.entry files.now path.entry) }
+    ensures absent { AreAbsent (D.at disk.old) files.now → MatchResult result (λ _. ⊥) (λ fault. StopsBeside outboard.entry fault ⊎ IsFirstUnread files.now fault) }
+    ensures unread { (file : Bor (List ℕ)) → IsErrOf result (GatheredFault.File (FileFault.Read file)) → D.faultless disk.old → (text : List ℕ) → IsInFile (D.at disk.old) files.now text → file ≡ outboard.entry }
     ensures right { D.faultless disk.old → IsKnown (D.at disk.old path.now) → (blob : List ℕ) → IsBlob (fixed_as root.now mode.now how.capacity) blob
         → IsRightAt (D.at disk.old) (D.at disk.new) path.now how mode.now blob result
         ⊎ CollidesBesideOutline (fixed_as root.now mode.now how.capacity) how.capacity (D.at disk.old) outboard.now files.now blob }
@@ -642,6 +678,8 @@ pub fn gather_beside_on<'a, R: AllocGlobal + Threads + Sync, D: Disk, P: Progres
         → IsInFile (D.at disk.old) files.now blob ⊎ HaveBytes (IsInFile (D.at disk.old) files.now) how.grain blob
         → IsPutAt (D.at disk.old) (D.at disk.new) path.now how mode.now blob result
         ⊎ CollidesBeside (fixed_as root.now mode.now how.capacity) how.capacity (D.at disk.old) files.now blob }
+    ensures capacity { IsErrOf result (GatheredFault.Gather GatherFault.Capacity) → (how.capacity ≡ 0) ⊎ (65536 < how.capacity) }
+    ensures looked { LooksUnfinished result notes.old.lack notes.new.lack }
 {
     // For the prover alone: the flags of a mode are apart from the tree's.
     mode.is_keyed();

@@ -1,5 +1,5 @@
-ghost use Rattle.std.specs.Prelude.{◌≡◌, ◌⊎◌, IfErr, IfOk, IfSome, Some, false, take, true};
-ghost use Rattle.bao_files.specs.Disks.{IsStored};
+ghost use Rattle.std.specs.Prelude.{◌≡◌, ◌≢◌, ◌⊎◌, IfErr, IfOk, IfSome, OnOk, Some, false, take, true};
+ghost use Rattle.bao_files.specs.Disks.{Absent, IsStored};
 ghost use Rattle.bao_files.specs.declared.fault.FileFault.TheVariants as FileFault;
 ghost use Rattle.bao_tasks.specs.FromFiles.{taken_bytes};
 ghost use Rattle.bao_tasks.specs.Givens.{given_contents, is_given_faultless, most_bytes};
@@ -13,12 +13,13 @@ use std::alloc::Global;
 use std::io;
 use std::io::Read;
 
-/// What a file of a gathering gives: a regular one is read where it lies, and of any other the bytes that came of it are held.
+/// The bytes of a file that a blob is gathered from. A regular file is read by position; the bytes of any other
+/// are held in memory.
 #[derive(Drop)]
 pub enum Given<I> {
-    /// A regular file, which is open.
+    /// An open regular file.
     Placed(I),
-    /// What came of a file that can't be read by position, as a pipe.
+    /// The bytes read from a file that can't be read by position, such as a pipe.
     Held(Vec<u8>),
 }
 
@@ -44,16 +45,17 @@ impl<I: Source> Source for Given<I> {
     }
 }
 
-/// A regular file, which is opened, and how many bytes it is said to have: none where nothing is said.
+/// Opens a regular file and returns it with the length that the disk reports, or 0 if it reports none.
 ///
-/// Where it can't be opened, or a first read of it answers a fault, the fault is `Read`, and `Memory` where there was no memory to
-/// open it.
+/// Refuses with `Read` and the path if the file can't be opened or a first read of it fails, and with `Memory` if
+/// there is none to open it.
 pub(crate) fn placed<'a, D: Disk>(
     disk: &D,
     path: &'a str,
 ) -> Result<(Given<D::Input>, u64), FileFault<'a>>
     ensures bytes { IfOk result (λ made. IfSome (taken_bytes true 0 (D.at disk.now path.now)) (λ bytes. given_contents D.Input.contents made.0 ≡ Some bytes)) }
     ensures sure { IfOk result (λ made. D.faultless disk.now → is_given_faultless D.Input.faultless made.0) }
+    ensures found { OnOk result (D.at disk.now path.now ≢ Absent) }
     ensures there { IfErr result (λ fault. D.faultless disk.now → IsStored (D.at disk.now path.now) → fault ≡ FileFault.Memory) }
     ensures fault { IfErr result (λ fault. (fault ≡ FileFault.Memory) ⊎ (fault ≡ FileFault.Read path.entry)) }
 {
@@ -68,7 +70,7 @@ pub(crate) fn placed<'a, D: Disk>(
     Ok((Given::Placed(file), len))
 }
 
-// How many bytes of a text can help, where the blob has at most so many chunks, and one more.
+// The length in bytes of the longest encoding, or copy, of a blob of at most `capacity` chunks, and one more.
 fn most_bytes(form: &Form<'_>, capacity: u32) -> u64
     ensures { result ≡ most_bytes form.now capacity }
 {
@@ -79,7 +81,7 @@ fn most_bytes(form: &Form<'_>, capacity: u32) -> u64
     }
 }
 
-// The first `most` bytes that `input`, the file at `path`, has from where it stands on, or all of them.
+// Reads the next `most` bytes of `input`, the file at `path`, or all that are left.
 fn read_most<'a, I: Read + Drop>(
     alloc: Global,
     input: I,
@@ -93,10 +95,10 @@ fn read_most<'a, I: Read + Drop>(
     read_input(alloc, &mut input, 0, path)
 }
 
-/// What comes of a file that isn't regular, held, and how many bytes that is: no more of it is read than can help, where the blob has
-/// at most so many chunks, and one byte.
+/// Reads a file that isn't regular into memory and returns its bytes with their number.
 ///
-/// Where it can't be opened or read the fault is `Read`, and `Memory` where the bytes found no room.
+/// At most one byte more is read than the longest encoding, or copy, of a blob of `capacity` chunks has. Refuses
+/// with `Read` and the path if the file can't be opened or read, and with `Memory` if there is none for its bytes.
 pub(crate) fn held<'a, D: Disk>(
     alloc: Global,
     disk: &D,
@@ -106,6 +108,7 @@ pub(crate) fn held<'a, D: Disk>(
 ) -> Result<(Given<D::Input>, u64), FileFault<'a>>
     ensures bytes { IfOk result (λ made. IfSome (taken_bytes false (most_bytes form.now capacity) (D.at disk.now path.now)) (λ bytes. given_contents D.Input.contents made.0 ≡ Some bytes)) }
     ensures sure { IfOk result (λ made. D.faultless disk.now → is_given_faultless D.Input.faultless made.0) }
+    ensures found { OnOk result (D.at disk.now path.now ≢ Absent) }
     ensures fault { IfErr result (λ fault. (fault ≡ FileFault.Memory) ⊎ (fault ≡ FileFault.Read path.entry)) }
 {
     let file = disk.open(path)?;

@@ -1,4 +1,4 @@
-//! Each task of the program over files: a file checked and what it certifies written, a schedule run, a blob gathered.
+//! The program's tasks over files: gather a blob from untrusted files, say what they lack, and run a schedule.
 #![tactic(auto)]
 
 pub use file_fate::Fate;

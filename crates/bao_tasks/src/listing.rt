@@ -1,4 +1,4 @@
-// A list of what a blob lacks, for whoever fetches it.
+// A list of the ranges that a blob lacks, for whoever fetches them.
 
 ghost use Rattle.std.specs.Prelude.{◌≡◌, ◌⊎◌, IfErr, OnErr, OnOk, Some};
 ghost use Rattle.std.specs.Io.KnownBytes.{Appends};
@@ -11,7 +11,7 @@ use bao_files::{Disk, FileFault};
 use std::io;
 use std::io::Write;
 
-// Writes the line of a part.
+// Writes the line of one range.
 fn write_part<W: Write>(part: Span, out: &mut W) -> io::Result<()>
     ensures { OnOk result (Appends (W.contents out.old) (W.contents out.new) (line_of_part part)) }
 {
@@ -19,8 +19,10 @@ fn write_part<W: Write>(part: Span, out: &mut W) -> io::Result<()>
     writeln!(out, "{start} {len}")
 }
 
-/// Writes a line for each part, in their order: its first byte and how many bytes it has, in decimal digits with a space between them.
-/// After a fault a beginning of the lines may have been written.
+/// Writes a line for each range, in order: its offset and its length in bytes, in decimal digits, separated by a
+/// space.
+///
+/// Fails if a write does; a beginning of the lines may then have been written.
 pub fn write_parts<W: Write>(parts: &[Span], out: &mut W) -> io::Result<()>
     ensures { OnOk result (Appends (W.contents out.old) (W.contents out.new) (lines_of_parts parts.now)) }
 {
@@ -30,10 +32,11 @@ pub fn write_parts<W: Write>(parts: &[Span], out: &mut W) -> io::Result<()>
     Ok(())
 }
 
-/// Puts the lines of these parts ([`write_parts`]) at `path` on the disk, in place of what is there. No parts make an empty file.
+/// Writes the lines of these ranges, as [`write_parts`] does, to the file at `path`, which is replaced. Without
+/// ranges the file is empty.
 ///
-/// `Memory` where there is no memory for that, and `Write` where it can't be made or written: all files are as they were then, but one
-/// that can't be replaced at once, as a device.
+/// Refuses with `Memory`, or with `Write` and the path if the file can't be created or written. All files are then
+/// unchanged, except one that can't be replaced, such as a device.
 pub fn list_parts<'a, D: Disk>(
     disk: &mut D,
     parts: &[Span],

@@ -1,57 +1,62 @@
 ghost use Rattle.std.specs.Prelude.{◌≡◌, ℕ, ◌+◌, ◌-◌, ◌*◌, ◌^◌, ◌<◌, ◌≤◌, ◌++◌, ◌∷◌, List, [], min, not, take, true, false, None, IfOk, IfSome, OnOk};
 ghost use Rattle.bao_text.specs.Choice.{chunk_count};
 ghost use Rattle.bao_check.specs.Outline.{outline_claimed};
-ghost use Rattle.gather.specs.Forms.{IsLengthOf};
-ghost use Rattle.bao_tasks.specs.Missing.{AreGaps, AreGoodChunks, AreParts, BeginsWithin, GoesUpTo, HasChunks, HasUnit, IsGoodSlice, IsLackOf, IsNextGap, IsUnit, JudgesUnit, Tells, place_of, span_len, span_of, unit_chunks, units_in};
+ghost use Rattle.gather.specs.Forms.{AreSlices, IsLengthOf};
+ghost use Rattle.bao_tasks.specs.Missing.{AreGaps, AreGoodChunks, AreParts, BeginsWithin, ClaimsIn, ClaimsLength, GoesUpTo, HasChunks, HasSome, HasUnit, IsGoodSlice, IsLackBy, IsLackOf, IsNextGap, IsUnit, JudgesClaim, JudgesUnit, Tells, claim_in, place_of, span_len, span_of, unit_chunks, units_in};
 ghost use Rattle.bao_tasks.specs.Worth.{IsSaidOf, JudgesGroup};
 
 use b3tree::{CHUNK_LEN, Hash, Mode};
 use bao_check::{GROUP_BYTES, GROUP_LEN, Outline, check_bare, check_slice};
-use bao_read::Source;
-use bao_text::{Memory, chunk_count};
+use bao_read::{Source, fill};
+use bao_text::{LENGTH_LEN, Memory, chunk_count, claimed};
 use bao_windows::{Wanted, certified_length};
 use gather::{Encoded, Form, GatherFault, Grain, Holder, HolderFault, Plain};
 use std::alloc::Global;
 
-// The most groups, or chunks, that are looked for: a length that a root's maker has made up has no end that can be reached.
+// The most groups, or chunks, that are looked for. Whoever made the root may have certified an absurd length.
 const MOST_UNITS: u64 = 1 << 22;
 
-/// Bytes of a blob, from `at` up to and without `end`.
+// The most groups, or chunks, that are tried to see whether a length that a source claims holds.
+const MOST_TRIED: u64 = 64;
+
+/// A range of a blob: the bytes from offset `at` up to but not including `end`.
 #[derive(Clone, Copy, Debug, PartialEq, Eq)]
 pub struct Span {
     pub at: u64,
     pub end: u64,
 }
 
-/// What no source has of a blob: parts of it that don't touch each other.
+/// What no source has of a blob, as ranges that don't touch each other.
 #[derive(Debug, Drop)]
 pub struct MissingParts {
-    /// How many bytes the blob has.
+    /// The length of the blob in bytes.
     pub total: u64,
-    /// How many of them, from its beginning on, were looked for: all, where it has no more than 2^22 groups, or chunks.
+    /// Whether a source certifies that length. Otherwise the outboard encoding, or a source, only claims it.
+    pub certified: bool,
+    /// How many bytes, from the beginning on, were looked for: all, if it has at most 2^22 groups, or chunks.
     pub looked: u64,
-    /// The first parts in their order, as many as were asked for.
+    /// The first ranges in order, at most as many as were asked for.
     pub shown: Vec<Span>,
-    /// How many parts there are.
+    /// How many ranges there are.
     pub count: u64,
-    /// How many bytes they have.
+    /// How many bytes they have together.
     pub bytes: u64,
 }
 
-/// What is known of why a blob stayed unfinished.
+/// What is known about why a blob stayed unfinished.
 #[derive(Debug, Drop)]
 pub enum Lack {
-    /// Nothing was looked for.
+    /// It wasn't looked for.
     Unasked,
-    /// There was no memory to look.
+    /// There was no memory to look for it.
     Starved,
-    /// No source has the end of the blob, so that its length isn't known.
+    /// No source certifies the length of the blob, and none claims one that holds.
     End,
-    /// No source has these parts of it.
+    /// No source has these ranges of it.
     Missing(MissingParts),
 }
 
-// Whether the slice of `len` bytes from byte `start` on, cut out of the encoding, is refused.
+// Returns whether the slice (`start`, `len`), cut from the encoding, is refused.
 fn lacks_slice<S: Source>(
     alloc: Global,
     mode: &Mode,
@@ -73,7 +78,7 @@ fn lacks_slice<S: Source>(
     Ok(checked.is_err())
 }
 
-// Whether at most `most` chunks of a plain copy, from chunk `first` on, are refused beside the outline.
+// Returns whether at most `most` chunks of a plain copy, from chunk `first` on, are refused beside the outline.
 fn lacks_chunks<S: Source>(
     outline: &Outline<'_>,
     source: &S,
@@ -99,7 +104,7 @@ fn lacks_chunks<S: Source>(
     Ok(check_bare(outline, first, count, room.as_slice()).is_err())
 }
 
-// Whether a source lacks one of at most `most` chunks from chunk `first` on, as the form has it.
+// Returns whether a source lacks one of at most `most` chunks from chunk `first` on.
 fn lacks_part<S: Source>(
     alloc: Global,
     wanted: &Wanted<'_>,
@@ -127,7 +132,7 @@ fn lacks_part<S: Source>(
     }
 }
 
-// How many chunks are asked for together.
+// How many chunks a unit has: a group or a chunk.
 fn unit_chunks(grain: Grain) -> u64
     ensures value { result ≡ unit_chunks grain }
     ensures some { 0 < result }
@@ -139,7 +144,7 @@ fn unit_chunks(grain: Grain) -> u64
     }
 }
 
-// Whether a source lacks a unit, which is as large as the grain.
+// Returns whether a source lacks a unit.
 fn lacks_unit<S: Source>(
     alloc: Global,
     wanted: &Wanted<'_>,
@@ -154,7 +159,7 @@ fn lacks_unit<S: Source>(
     lacks_part(alloc, wanted, source, most * unit, most, room)
 }
 
-// Whether all sources lack a unit. They are asked in their order, up to the first that has it.
+// Returns whether all sources lack a unit. They are asked in order, up to the first that has it.
 fn is_lacked<S: Source>(
     alloc: Global,
     wanted: &Wanted<'_>,
@@ -173,8 +178,8 @@ fn is_lacked<S: Source>(
     Ok(true)
 }
 
-// The first of the units from `from` on that is lacked, or with `lacked` the first that isn't, or how many units there are, where there is
-// none.
+// Returns the first unit from `from` on that all sources lack, or with `lacked` the first that some source has; or
+// `units` if there is none.
 fn up_to<S: Source>(
     alloc: Global,
     wanted: &Wanted<'_>,
@@ -198,7 +203,7 @@ fn up_to<S: Source>(
     Ok(at)
 }
 
-// The next units that all sources lack, from `from` on: those from the first number up to and without the second.
+// Returns the next units from `from` on that all sources lack: the first, and the one after the last.
 fn next_gap<S: Source>(
     alloc: Global,
     wanted: &Wanted<'_>,
@@ -230,7 +235,7 @@ fn units_of(grain: Grain, total: u64) -> u64
     }
 }
 
-// With which byte a unit begins, in a blob of `total` bytes, or where that ends.
+// The offset of a unit in a blob of `total` bytes, or `total` if the unit is past the end.
 fn place_of(grain: Grain, total: u64, unit: u64) -> u64
     ensures { result ≡ place_of grain total unit }
 {
@@ -240,7 +245,7 @@ fn place_of(grain: Grain, total: u64, unit: u64) -> u64
     }
 }
 
-// The bytes of a gap in a blob of `total` bytes.
+// The range of these units in a blob of `total` bytes.
 fn bytes_of(grain: Grain, total: u64, gap: (u64, u64)) -> Span
     ensures { result ≡ span_of grain total gap }
 {
@@ -251,9 +256,10 @@ fn bytes_of(grain: Grain, total: u64, gap: (u64, u64)) -> Span
 }
 
 impl MissingParts {
-    // Shows a part more, where so many are not there yet.
+    // Adds a range to those shown, if these are fewer than `most`.
     fn show(&mut self, most: usize, part: Span) -> Result<(), Memory>
         ensures total { self.new.total ≡ self.old.total }
+        ensures certified { self.new.certified ≡ self.old.certified }
         ensures looked { self.new.looked ≡ self.old.looked }
         ensures count { self.new.count ≡ self.old.count }
         ensures bytes { self.new.bytes ≡ self.old.bytes }
@@ -268,12 +274,13 @@ impl MissingParts {
         }
     }
 
-    // Counts a part more, and shows it, where so many are not there yet.
+    // Counts a range, and adds it to those shown, if these are fewer than `most`.
     fn add(&mut self, most: usize, part: Span) -> Result<(), Memory>
         requires order { part.at ≤ part.end }
         requires count { self.old.count < 2 ^ 64 - 1 }
         requires bytes { self.old.bytes + span_len part < 2 ^ 64 }
         ensures total { self.new.total ≡ self.old.total }
+        ensures certified { self.new.certified ≡ self.old.certified }
         ensures looked { self.new.looked ≡ self.old.looked }
         ensures count { OnOk result (self.new.count ≡ self.old.count + 1) }
         ensures bytes { OnOk result (self.new.bytes ≡ self.old.bytes + span_len part) }
@@ -286,22 +293,25 @@ impl MissingParts {
     }
 }
 
-// All parts of a blob of `total` bytes that no source has, of which the first are shown, so many at most.
+// Returns all ranges of a blob of `total` bytes, certified or claimed, that no source has. At most `most` are shown.
 fn parts_of<S: Source>(
     alloc: Global,
     wanted: &Wanted<'_>,
     sources: &[S],
     most: usize,
     total: u64,
+    certified: bool,
 ) -> Result<MissingParts, Memory>
     requires { (u : ℕ) → u < units_in wanted.now.grain total → IsUnit wanted.now u }
     ensures parts { IfOk result (AreParts S.contents S.faultless wanted.now sources.now most) }
     ensures total { IfOk result (λ parts. parts.total ≡ total) }
+    ensures certified { IfOk result (λ parts. parts.certified ≡ certified) }
 {
     let units = units_of(wanted.grain, total);
     let mut room = Vec::new(alloc);
     let mut parts = MissingParts {
         total,
+        certified,
         looked: place_of(wanted.grain, total, units),
         shown: Vec::new(alloc),
         count: 0,
@@ -318,37 +328,145 @@ fn parts_of<S: Source>(
     Ok(parts)
 }
 
-// The length by which parts are told: that which was certified, or beside an outline that which this claims.
-fn total_for(form: &Form<'_>, certified: u64) -> u64
-    ensures same { IsLengthOf form.now certified → result ≡ certified }
+// The length for the ranges: `length`, which beside an outboard encoding is the one that it claims.
+fn total_for(form: &Form<'_>, length: u64) -> u64
+    ensures same { IsLengthOf form.now length → result ≡ length }
     ensures within { (first : ℕ) → 1024 * first < result → BeginsWithin form.now first }
     ensures first { BeginsWithin form.now 0 }
 {
     match form {
-        Form::Slices => certified,
+        Form::Slices => length,
         Form::Bare(outline) => outline.claimed(),
     }
 }
 
-/// What none of the sources has of the blob with this root: its end, so that its length isn't known, or parts of it. These are of whole
-/// groups of 64 chunks, or with `Grain::Chunk` of chunks, and the first `most` of them are shown. The sources are asked for each group, or
-/// chunk, in their order, up to the first whose slice, or beside an outline whose bytes, are accepted under the root in the mode. One of which a
-/// read answers a fault hasn't what it was asked for.
+// Returns those ranges for this length, unless memory is refused.
+fn lack_by<S: Source>(
+    alloc: Global,
+    wanted: &Wanted<'_>,
+    sources: &[S],
+    most: usize,
+    length: u64,
+    certified: bool,
+) -> Lack
+    ensures { IsLengthOf wanted.now.form length → IsLackBy S.contents S.faultless wanted.now sources.now most length certified result }
+{
+    let total = total_for(&wanted.form, length);
+    match parts_of(alloc, wanted, sources, most, total, certified) {
+        Ok(parts) => Lack::Missing(parts),
+        Err(Memory) => Lack::Starved,
+    }
+}
+
+// The length that a source begins with, if it has one.
+fn claim_in<S: Source>(source: &S) -> Option<u64>
+    ensures { IsSaidOf (S.contents source.now) (S.faultless source.now) (λ text. result ≡ claim_in text) }
+{
+    let mut first = [0; LENGTH_LEN];
+    match fill(source, 0, &mut first) {
+        Ok(()) => Some(claimed(&first)),
+        Err(_) => None,
+    }
+}
+
+// Returns whether a source lacks each of the first 64 units of a blob of `total` bytes.
+fn lacks_first<S: Source>(
+    alloc: Global,
+    wanted: &Wanted<'_>,
+    source: &S,
+    total: u64,
+    room: &mut Vec<u8>,
+) -> Result<bool, Memory>
+    requires { AreSlices wanted.now.form }
+    ensures { IfOk result (λ lacks. IsSaidOf (S.contents source.now) (S.faultless source.now) (λ bytes. JudgesGroup lacks (HasSome wanted.now total bytes))) }
+{
+    let units = units_of(wanted.grain, total).min(MOST_TRIED);
+    for first in 0..units {
+        if !lacks_unit(alloc, wanted, source, first, room)? {
+            return Ok(false);
+        }
+    }
+    Ok(true)
+}
+
+// Returns the length that a combined encoding claims, if one of its first 64 units is accepted for it.
+fn claimed_by<S: Source>(
+    alloc: Global,
+    wanted: &Wanted<'_>,
+    source: &S,
+    room: &mut Vec<u8>,
+) -> Result<Option<u64>, Memory>
+    requires { AreSlices wanted.now.form }
+    ensures { IfOk result (λ found. IsSaidOf (S.contents source.now) (S.faultless source.now) (λ text. JudgesClaim wanted.now text found)) }
+{
+    let Some(total) = claim_in(source) else {
+        return Ok(None);
+    };
+    if lacks_first(alloc, wanted, source, total, room)? {
+        return Ok(None);
+    }
+    Ok(Some(total))
+}
+
+// Returns the first length that one of the encodings claims and that holds for it.
+fn first_claim<S: Source>(
+    alloc: Global,
+    wanted: &Wanted<'_>,
+    sources: &[S],
+) -> Result<Option<u64>, Memory>
+    requires { AreSlices wanted.now.form }
+    ensures { IfOk result (ClaimsIn S.contents S.faultless wanted.now sources.now) }
+{
+    let mut room = Vec::new(alloc);
+    for source in sources {
+        match claimed_by(alloc, wanted, source, &mut room)? {
+            Some(total) => return Ok(Some(total)),
+            None => {}
+        }
+    }
+    Ok(None)
+}
+
+// Returns the length to use if none is certified: the one that the outline claims, or the first one that an encoding
+// claims and that holds for it.
+fn claimed_length<S: Source>(
+    alloc: Global,
+    wanted: &Wanted<'_>,
+    sources: &[S],
+) -> Result<Option<u64>, Memory>
+    ensures { IfOk result (ClaimsLength S.contents S.faultless wanted.now sources.now wanted.now.form) }
+{
+    match wanted.form {
+        Form::Slices => first_claim(alloc, wanted, sources),
+        Form::Bare(outline) => Ok(Some(outline.claimed())),
+    }
+}
+
+/// Returns which ranges of the blob with this root no source has, in whole groups of 64 chunks, or with
+/// `Grain::Chunk` in whole chunks. The first `most` ranges are shown, and all are counted.
 ///
-/// No more than the blob's first 2^22 groups, or chunks, are looked for: 256 GiB, or 4 GiB. So it ends in practice, too, where a root's maker
-/// has claimed a length that no source has.
+/// For each group, or chunk, the sources are asked in order, up to the first whose slice, or beside an outboard
+/// encoding whose bytes, are accepted under the root in the mode. A source whose read fails lacks what it was asked
+/// for.
 ///
-/// It takes memory for one slice at a time and for the parts that it shows, 16 bytes each, and answers `Starved` where there is none.
+/// The length of the blob is the one that the first source with its last chunk certifies. If no source has that
+/// chunk, `certified` is false, and the length is only claimed: by the outboard encoding, or by the first combined
+/// encoding that has one of the first 64 groups, or chunks, accepted for the length that it claims. Without such an
+/// encoding the result is `End`.
+///
+/// At most the first 2^22 groups (256 GiB) or chunks (4 GiB) are looked for, so an absurd length doesn't keep this
+/// from ending. The memory is that of one slice and 16 bytes for each range shown; the result is `Starved` if it is
+/// refused.
 pub fn lack_of<S: Source>(alloc: Global, wanted: &Wanted<'_>, sources: &[S], most: usize) -> Lack
     ensures { IsLackOf S.contents S.faultless wanted.now sources.now most result }
 {
-    let total = match certified_length(alloc, wanted, sources) {
-        Ok(certified) => total_for(&wanted.form, certified),
-        Err(GatherFault::Unfinished) => return Lack::End,
-        Err(_) => return Lack::Starved,
-    };
-    match parts_of(alloc, wanted, sources, most, total) {
-        Ok(parts) => Lack::Missing(parts),
-        Err(Memory) => Lack::Starved,
+    match certified_length(alloc, wanted, sources) {
+        Ok(length) => lack_by(alloc, wanted, sources, most, length, true),
+        Err(GatherFault::Unfinished) => match claimed_length(alloc, wanted, sources) {
+            Ok(Some(length)) => lack_by(alloc, wanted, sources, most, length, false),
+            Ok(None) => Lack::End,
+            Err(Memory) => Lack::Starved,
+        },
+        Err(_) => Lack::Starved,
     }
 }

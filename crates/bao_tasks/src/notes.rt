@@ -6,17 +6,17 @@ use crate::file_fate::Fate;
 use crate::missing::Lack;
 use std::alloc::{AllocError, Global};
 
-/// What is noted while a blob is gathered out of files.
+/// Notes about a gathering from files.
 #[derive(Debug, Drop)]
 pub struct Notes {
-    /// What became of each file, at its place.
+    /// What became of each file, in the order of the files.
     pub fates: Vec<Fate>,
-    /// What none of them has, where the blob stayed unfinished and that was asked for.
+    /// What none of them has, if the blob stayed unfinished and that was asked for.
     pub lack: Lack,
 }
 
 impl Notes {
-    /// Nothing is noted of so many files, none of which was opened.
+    /// Returns notes on `files` files, none of which was opened. Refuses with `AllocError`.
     pub fn new(alloc: Global, files: usize) -> Result<Notes, AllocError>
         ensures fates { IfOk result (λ notes. notes.fates.items ≡ replicate files Fate.Unopened) }
         ensures lack { IfOk result (λ notes. notes.lack ≡ Lack.Unasked) }

@@ -15,7 +15,7 @@ use bao_files::{Disk, FileFault, read_input};
 use bao_script::{ScriptFault, parse, replay_script};
 use std::alloc::Global;
 
-// All bytes of the file at `path`.
+// Returns all bytes of the file at `path`.
 fn read_one<'a, D: Disk>(alloc: Global, disk: &D, path: &'a str) -> Result<Vec<u8>, FileFault<'a>>
     ensures bytes { IfOk result (λ bytes. AreOf (D.at disk.now path.now) bytes.items) }
     ensures fault { IfErr result (λ fault. (fault ≡ FileFault.Memory) ⊎ (fault ≡ FileFault.Read path.entry)) }
@@ -30,7 +30,7 @@ fn read_one<'a, D: Disk>(alloc: Global, disk: &D, path: &'a str) -> Result<Vec<u
     Ok(bytes)
 }
 
-// The bytes of all files, in the order of the paths. The fault names the first that can't be read.
+// Returns the bytes of all files, in the order of the paths. The fault names the first that can't be read.
 fn read_all<'a, D: Disk>(
     alloc: Global,
     disk: &D,
@@ -50,11 +50,14 @@ fn read_all<'a, D: Disk>(
     Ok(files)
 }
 
-/// What is printed of a run of the schedule whose text is `script` over pieces of the files, combined encodings, from an
-/// empty store with room for `capacity` chunks of the blob with this root: the replies, and how many chunks are held then.
+/// Runs the schedule `script` on an empty store of `capacity` chunks for the blob with this root and returns what is
+/// printed: the replies, and how many chunks are held in the end. The slices that its lines name are cut from `files`,
+/// which are combined encodings.
 ///
-/// Refuses the first line that has no form (`Script` with its number), the first piece that isn't accepted, a capacity that no store
-/// has and the first step that isn't legal, in this order (`Replay`), and answers `File` with `Memory` out of memory.
+/// Refuses with `Script` and the number of the first malformed line; and with `Replay`, in this order, for the first
+/// slice that isn't accepted (501 to 503), for a capacity that isn't 1 to 65,536 (802) and for the first step that
+/// isn't legal (702). If memory is refused, the fault is `File` with `Memory` (401) or one of `Replay` (401, 701, or
+/// without a number).
 pub fn replay_text<'a>(
     alloc: Global,
     mode: &Mode,
@@ -86,9 +89,10 @@ pub fn replay_text<'a>(
     }
 }
 
-/// Runs the schedule in the file `script` over pieces of the files, all on `disk`, as `replay_text` says.
+/// Runs the schedule in the file `script` with slices of `files`, all on `disk`, as [`replay_text`] does.
 ///
-/// Refuses, in the order of the arguments, a file that can't be read (`File` with `Read`), before all else.
+/// Refuses with `File` and `Read` the first file that can't be read, in the order of the arguments, before the
+/// schedule is parsed; then as [`replay_text`] does.
 pub fn replay_on<'a, D: Disk>(
     alloc: Global,
     disk: &D,

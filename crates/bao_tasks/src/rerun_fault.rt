@@ -2,16 +2,16 @@ use bao_files::FileFault;
 use bao_script::ReplayScriptFault;
 use thiserror::Error;
 
-/// Why a schedule was not run to its end, with the text that the program prints of it.
+/// Why a schedule was not run to its end, with the message that the program prints.
 #[derive(Clone, Copy, Debug, Error)]
 pub enum RerunFault<'a> {
-    /// A file was not read.
+    /// A file can't be read.
     #[error("{0}")]
     File(FileFault<'a>),
-    /// The line of the schedule with this number, counted from 1, has no form.
+    /// The line of the schedule with this number, counted from 1, is malformed.
     #[error("usage: script line {0}")]
     Script(u64),
-    /// A piece isn't accepted, or a step isn't legal.
+    /// A slice isn't accepted, no store has the capacity, or a step isn't legal.
     #[error("{0}")]
     Replay(ReplayScriptFault),
 }
@@ -20,7 +20,7 @@ impl RerunFault<'_> {
     ghost use Rattle.std.specs.Prelude.{◌≡◌};
     ghost use Rattle.bao_tasks.specs.RerunFaults.{rerun_number_of};
 
-    /// The fault's number, where its text has one: 401, 501 to 504, 701, 702 or 802.
+    /// Returns the number of the fault, if its message has one: 401, 501 to 504, 701, 702 or 802.
     pub fn code(&self) -> Option<u16>
         ensures { result ≡ rerun_number_of self.now }
     {

@@ -1,4 +1,4 @@
-// Which bytes of a blob a node of its encoding is of.
+// Which bytes of a blob a node of its encoding covers.
 
 ghost use Rattle.std.specs.Prelude.{◌≡◌, ℕ, ◌+◌, ◌-◌, ◌*◌, ◌^◌, ◌<◌, ◌≤◌, true, List};
 ghost use Rattle.bao_text.specs.Choice.{of_outboard, wants};
@@ -9,24 +9,24 @@ use crate::missing::Span;
 use b3tree::{CHUNK_LEN, left_len};
 use bao_text::{Choice, LENGTH_LEN, PARENT_LEN};
 
-/// What a node of an encoding is of.
+/// The range of the blob that a node of an encoding covers.
 #[derive(Clone, Copy, Debug, PartialEq, Eq)]
 pub struct Spot {
-    /// Whether it is a chunk, and not a parent.
+    /// Whether the node is a chunk; otherwise it is a parent.
     pub is_chunk: bool,
-    /// The bytes of the blob that the chunk has, or that lie below the parent.
+    /// The bytes of the chunk, or those below the parent.
     pub bytes: Span,
 }
 
-// What is met of nodes where one is looked for by its place in the encoding.
+// The result of looking among some nodes for the one at an offset of the encoding.
 enum Walk {
-    // All of them begin before it, and end here.
+    // All of them begin before it. They end at this offset.
     Past(u128),
-    // The first that doesn't, if it begins there.
+    // The first that doesn't begin before it, if it begins exactly there.
     Met(Option<Spot>),
 }
 
-// What the node over `n` bytes from chunk `number` on is of, if it begins at the place `at`, and not after that, at `here`.
+// Returns what the node over `n` bytes from chunk `number` on covers, if `here`, where it begins, is `at`.
 fn spot_met(is_chunk: bool, number: u64, n: u64, here: u128, at: u64) -> Option<Spot>
     requires range { 1024 * number + n ≤ 2 ^ 64 - 1 }
     requires order { at ≤ here }
@@ -45,7 +45,7 @@ fn spot_met(is_chunk: bool, number: u64, n: u64, here: u128, at: u64) -> Option<
     })
 }
 
-// Looks for the node at the place `at` where there is one chunk, or none, the chunk of this number with `n` bytes, at `here`.
+// Looks for the node at offset `at` where the only node, if any, is the chunk of this number with `n` bytes at `here`.
 fn find_chunk(choice: &Choice, number: u64, n: u64, here: u128, at: u64) -> Walk
     requires one { n ≤ 1024 }
     requires wanted { wants choice.now (1024 * number) n ≡ true }
@@ -63,8 +63,8 @@ fn find_chunk(choice: &Choice, number: u64, n: u64, here: u128, at: u64) -> Walk
     Walk::Met(spot_met(true, number, n, here, at))
 }
 
-// Looks for the node at the place `at` among those of the subtree over `n` bytes from chunk `number` on, of which the first is at
-// `here`.
+// Looks for the node at offset `at` among those of the subtree over `n` bytes from chunk `number` on, the first of
+// which is at `here`.
 fn find(choice: &Choice, number: u64, n: u64, here: u128, at: u64) -> Walk
     requires range { 1024 * number + n ≤ 2 ^ 64 - 1 }
     requires room { here + subtree_size n < 2 ^ 128 }
@@ -90,7 +90,7 @@ fn find(choice: &Choice, number: u64, n: u64, here: u128, at: u64) -> Walk
     }
 }
 
-// What the node at the place `at` is of, in an encoding of a blob of `total` bytes.
+// Returns what the node at offset `at` covers, in an encoding of a blob of `total` bytes.
 fn spot_in(choice: &Choice, total: u64, at: u64) -> Option<Spot>
     ensures { result ≡ spot_at at (placed_nodes 8 (chosen_nodes choice.now total)) }
 {
@@ -100,16 +100,20 @@ fn spot_in(choice: &Choice, total: u64, at: u64) -> Option<Spot>
     }
 }
 
-/// What the node that begins at byte `at` of a slice is of, which is that of `len` bytes from byte `start` on of a blob of `total` bytes.
-/// `None` where no node begins there. It takes the time of the nodes before that one, and no memory.
+/// Returns what the node at offset `at` of the slice (`start`, `len`) of a blob of `total` bytes covers, or `None` if
+/// no node begins there.
+///
+/// It takes time in proportion to the nodes before that one, and no memory.
 pub fn spot_in_slice(total: u64, start: u64, len: u64, at: u64) -> Option<Spot>
     ensures { result ≡ spot_at at (placed_nodes 8 (nodes total start len)) }
 {
     spot_in(&Choice::of_slice(total, start, len), total, at)
 }
 
-/// What the parent that begins at byte `at` of the outboard encoding of a blob of `total` bytes is of. `None` where none begins there. It takes the
-/// time of the nodes before that one, and no memory.
+/// Returns what the parent at offset `at` of the outboard encoding of a blob of `total` bytes covers, or `None` if no
+/// parent begins there.
+///
+/// It takes time in proportion to the nodes before that one, and no memory.
 pub fn spot_in_outboard(total: u64, at: u64) -> Option<Spot>
     ensures { result ≡ spot_at at (placed_nodes 8 (chosen_nodes (of_outboard total) total)) }
 {

@@ -2,7 +2,7 @@ use bao_files::Progress;
 use bao_read::Source;
 use std::io;
 
-/// What a file of a gathering gives, of which `progress` is told how many bytes each read by position gave.
+/// A source that reports to `progress` how many bytes each read by position returned.
 pub(crate) struct Watched<'p, S, P> {
     given: S,
     progress: &'p P,
@@ -20,7 +20,7 @@ impl<S: Drop, P> Drop for Watched<'_, S, P> {
 impl<'p, S, P> Watched<'p, S, P> {
     ghost use Rattle.std.specs.Prelude.{◌≡◌};
 
-    /// The same file, watched.
+    /// Wraps a source.
     pub(crate) fn new(given: S, progress: &'p P) -> Watched<'p, S, P>
         ensures { result.given ≡ given }
     {

@@ -15,7 +15,7 @@ use gather::GatherFault;
 use std::alloc::Global;
 use std::io::Write;
 
-// Writes the bytes of a blob from its store, as many at a time as the part has room for.
+// Writes the bytes of a blob from its store, through the buffer `part`.
 fn write_parts<W: Write>(blob: &mut Whole, part: &mut [u8], out: &mut W) -> Result<(), WriteFault>
     requires room { 0 < length part.old }
     ensures same { blob.new ≡ blob.old }
@@ -37,7 +37,7 @@ fn write_parts<W: Write>(blob: &mut Whole, part: &mut [u8], out: &mut W) -> Resu
     Ok(())
 }
 
-// Writes a blob from its store to `out`, which is flushed, and answers how many bytes it has.
+// Writes a blob from its store to `out`, which is flushed, and returns its length in bytes.
 fn write_in_parts<'a, W: Write>(
     alloc: Global,
     blob: &mut Whole,
@@ -82,7 +82,7 @@ fn write_blob<W: Write>(
     }
 }
 
-// Writes the blob, or its combined encoding, to `out`, which is flushed, and answers how many bytes the blob has.
+// Writes the blob, or its combined encoding, to `out`, which is flushed, and returns the length of the blob in bytes.
 fn write_whole<'a, W: Write>(
     alloc: Global,
     mode: &Mode,
@@ -106,8 +106,8 @@ fn write_whole<'a, W: Write>(
     Ok(blob.len() as u64)
 }
 
-// Writes a blob from its store, or its combined encoding, for which it is taken out of there, to `out`, which is flushed, and
-// answers how many bytes the blob has.
+// Writes a blob from its store, or with `encode` its combined encoding, to `out`, which is flushed, and returns the
+// length of the blob in bytes. For the encoding the blob is copied into memory first.
 pub(crate) fn write_found<'a, W: Write>(
     alloc: Global,
     mode: &Mode,

@@ -1,4 +1,4 @@
-ghost use Rattle.std.specs.Prelude.{◌≡◌, ◌≤◌, ℕ, List, IfErr, IfOk, IsErrOf, Some, length, slice_get};
+ghost use Rattle.std.specs.Prelude.{◌≡◌, ◌⊎◌, ◌<◌, ◌≤◌, ℕ, List, IfErr, IfOk, IsErrOf, Some, length, slice_get};
 ghost use Rattle.bao_text.specs.Choice.{chunk_count};
 ghost use Rattle.bao_text.specs.Texts.{combined_text};
 ghost use Rattle.bao_tasks.specs.declared.gathered_fault.GatheredFault.TheVariants as GatheredFault;
@@ -25,12 +25,12 @@ use std::io::Write;
 use std::thread::Threads;
 use store_core::Fixed;
 
-// How many chunks a blob may have that is gathered from such holders: beside an outboard encoding those of the length that it claims
-// are enough room.
+// The capacity of the store: beside an outboard encoding no more chunks than the length that it claims.
 fn capacity_for(form: &Form<'_>, capacity: u32) -> u32
     ensures most { result ≤ capacity }
     ensures slices { AreSlices form.now → result ≡ capacity }
     ensures bare { (n : ℕ) → IsLengthOf form.now n → chunk_count n ≤ capacity → chunk_count n ≤ result }
+    ensures none { result ≡ 0 → capacity ≡ 0 }
 {
     match form {
         Form::Slices => capacity,
@@ -38,7 +38,7 @@ fn capacity_for(form: &Form<'_>, capacity: u32) -> u32
     }
 }
 
-// How many chunks the first store has room for: as many as the outboard encoding claims, where there is one.
+// The capacity of the first store to try: beside an outboard encoding it is already the last.
 fn first_room(form: &Form<'_>, room: u32, capacity: u32) -> u32 {
     match form {
         Form::Slices => room,
@@ -46,29 +46,33 @@ fn first_room(form: &Form<'_>, room: u32, capacity: u32) -> u32 {
     }
 }
 
-/// Gathers the blob with this root in this mode out of sources that are read by position, as files are, each from a holder that
-/// nobody trusts: combined encodings, or plain copies beside an outboard encoding. Writes it, or its combined encoding, to `out`,
-/// which is flushed, and answers how many bytes the blob has. What the sources have takes no memory but for the parts that workers ask
-/// for.
+/// Gathers the blob with this root in this mode in a store, from untrusted sources that are read by position, such as
+/// files; writes it, or with `encode` its combined encoding, to `out`, which is flushed; and returns the length of the
+/// blob in bytes.
 ///
-/// The store has room for `room` chunks at first, and for `capacity` where those are too few. Beside an outboard encoding it has room
-/// for as many as the length that this claims asks for, at most `capacity`. The blob is written from that store, a part of 256 KiB at a
-/// time; with `encode` it is taken out first, into memory of its own.
+/// As the form says, the sources are combined encodings, or plain copies beside an outboard encoding. Only the bytes
+/// that workers ask for are read. A store of `room` chunks is tried first, and one of `capacity` chunks if that is too
+/// small; beside an outboard encoding, one store of as many chunks as its claimed length has, at most `capacity`. The
+/// blob is written from the store in pieces of 256 KiB. To encode it, it is copied into memory first.
 ///
-/// Nothing is written before the blob was verified. After `Gather`, where no blob with this root and at most `capacity` chunks came
-/// together, or where there was no memory to read it from its store, and after `File` with `Encoding`, where there was none for the
-/// encoding, nothing was written; after `File` with `Write` and the path a beginning of it may stand.
+/// Nothing is written before the blob is verified. Refuses with `Gather` if no blob with this root and at most
+/// `capacity` chunks was gathered, or if there is no memory to read it from the store (903), and with `File` and
+/// `Encoding` if there is none for the encoding: nothing is then written. After `File` and `Write` with the path, a
+/// beginning may be.
 ///
-/// Where one of the sources never fails, its bytes are known, and they are the combined encoding of a blob with the root, of at most
-/// `capacity` chunks, that blob is written, or there was no memory, or writing failed, or a collision is exhibited, one input of the
-/// blob's and one of a slice's that is cut out of one of the sources. Nor need any source be whole, as `crews::gather` says.
+/// It suffices that one source never fails, that its bytes are known, and that they are the combined encoding of a blob
+/// with the root of at most `capacity` chunks. That blob is then written, unless memory is refused, writing fails or a
+/// collision is exhibited, one input from the blob and one from a slice that is cut from a source. No source need be
+/// complete: what must be supplied is the slice of the last byte and that of each group, or with `Grain::Chunk` of each
+/// chunk, as for [`crews::gather`].
 ///
-/// So it is of plain copies beside the outboard encoding of a blob of at least one byte: one that never fails and whose bytes are the blob is
-/// enough. Nor need any copy be whole, beside an outboard encoding that claims the blob's length: it is enough that what the bytes that one gives
-/// make with its parents is the blob's slice, of the last chunk, and for each group, or with `Grain::Chunk` each chunk, of that.
+/// The same holds for plain copies of a blob of at least one byte, beside its own outboard encoding. No copy need be
+/// complete, beside any outboard encoding that claims the blob's length: the bytes supplied as the last chunk and as
+/// each group, or chunk, must make the blob's slice with its parents.
 ///
-/// Whatever the sources are, what is written is each blob with the root, and at 902 there is none; or a collision is exhibited. Of combined
-/// encodings at 805 each blob with the root has more chunks than `capacity`, or a collision is exhibited.
+/// Whatever the sources are, what is written is every blob with the root, and at 902 there is none; or a collision is
+/// exhibited. At 805, every blob with the root has more chunks than `capacity`, or a collision is exhibited; this is
+/// for combined encodings only.
 pub fn write_gathered<'a, R: AllocGlobal + Threads + Sync, S: Source + Sync, W: Write>(
     rt: &R,
     mode: &Mode,
@@ -88,6 +92,7 @@ pub fn write_gathered<'a, R: AllocGlobal + Threads + Sync, S: Source + Sync, W: 
     ensures beside { (blob : List ℕ) → IsBlob (fixed_as root.now mode.now how.capacity) blob → chunk_count (length blob) ≤ how.capacity
         → IsBareFor form.now (fixed_as root.now mode.now how.capacity) blob → HaveParts form.now how.grain (part_gives S.contents S.faultless) mode.now blob sources.now
         → IsWrittenOut (IsFromSource form.now S.contents S.faultless sources.now) (fixed_as root.now mode.now how.capacity) how blob (W.contents out.old) (W.contents out.new) result }
+    ensures capacity { IsErrOf result (GatheredFault.Gather GatherFault.Capacity) → (how.capacity ≡ 0) ⊎ (65536 < how.capacity) }
     ensures too_large { AreSlices form.now → IsErrOf result (GatheredFault.Gather GatherFault.TooLarge)
         → AreTooLong (IsFromSource form.now S.contents S.faultless sources.now) (fixed_as root.now mode.now how.capacity) how.capacity }
     ensures right { (blob : List ℕ) → IsBlob (fixed_as root.now mode.now how.capacity) blob

@@ -7,13 +7,14 @@ use Rattle.bao_text.specs.Nodes.{TreeNode, nodes, size}
 abbrev pub has : List ℕ → TreeNode → Bool
 has text node = nat_le (node.source + size node) (length text)
 
--- the bytes of the nodes one after another, up to the first that isn't wholly there and with what is there of it
+-- the bytes of the nodes one after another, up to the first that is incomplete, with the bytes of it that are
+-- there
 abbrev pub cut_nodes : List ℕ → List TreeNode → List ℕ
 cut_nodes text [] = []
 cut_nodes text (node ∷ rest) =
     if has text node then take (size node) (drop node.source text) ++ cut_nodes text rest else drop node.source text
 
--- whether all nodes are wholly there
+-- whether all nodes are complete
 abbrev pub has_all : List ℕ → List TreeNode → Bool
 has_all text [] = true
 has_all text (node ∷ rest) = has text node && has_all text rest
@@ -31,8 +32,8 @@ cut_text text start len =
 abbrev pub slice_len : ℕ → ℕ → ℕ → ℕ
 slice_len total start len = 8 + sum_by size (nodes total start len)
 
--- The nodes follow as they are cut out of the bytes, whichever these are, and it is told whether all were there, but of a
--- tree over no byte; they are no more bytes than the nodes have.
+-- `new` is `old` followed by the nodes, cut out of the bytes, whichever these are, and by no more bytes than
+-- the nodes have. The result says whether all nodes are complete, unless the nodes have no bytes.
 pub record Cuts (Holds : List ℕ → Type 0) (old new : List ℕ) (nodes : List TreeNode) (n : ℕ) (whole : Bool) : Type 0 where
   pub cut : (bytes : List ℕ) → Holds bytes → new ≡ old ++ cut_nodes bytes nodes
   pub all : (bytes : List ℕ) → Holds bytes → 0 < n → whole ≡ has_all bytes nodes

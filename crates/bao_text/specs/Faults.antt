@@ -4,19 +4,19 @@ use Rattle.std.specs.Io.KnownBytes.{Appends, Keeps}
 use Rattle.bao_text.specs.declared.fault.WriteFault.{WriteFault}
 use Rattle.bao_text.specs.declared.fault.WriteFault.TheVariants.{Memory, Writer}
 
--- its number
+-- the number of the fault
 abbrev pub number_of : WriteFault → ℕ
 number_of Memory = 401
 number_of (Writer written) = 402
 
--- what a writer that held the bytes `old` holds after it: out of memory nothing of the encoding went
--- out, else exactly its first bytes, and not all
+-- The writer had written `old`. If out of memory it has written nothing more; after a failed write it has
+-- written exactly the first bytes of the encoding, and not all.
 abbrev pub WroteOnly : Option (List ℕ) → Option (List ℕ) → List ℕ → WriteFault → Type 0
 WroteOnly old new text Memory = Keeps old new
 WroteOnly old new text (Writer written) = (written < length text) × Appends old new (take written text)
 
--- what a writer that held the bytes `old` holds after the encoding was given to it, `before` bytes of a
--- larger encoding having gone out before: the encoding, or exactly its first bytes, and not all
+-- The writer had written `old`, the last `before` bytes of which belong to a larger encoding. It has now
+-- written this encoding as well; or, after a failed write, exactly its first bytes, and not all.
 abbrev pub Writes : ℕ → Option (List ℕ) → Option (List ℕ) → List ℕ → Result Unit WriteFault → Type 0
 Writes before old new text (Ok done) = Appends old new text
 Writes before old new text (Err Memory) = ⊥

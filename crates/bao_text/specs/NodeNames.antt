@@ -18,20 +18,20 @@ boundary node = node.number + left_len node.len / 1024
 abbrev pub name : TreeNode → Node
 name node = if node.is_chunk then Chunk node.number else Parent (boundary node)
 
--- the wanted nodes of a subtree by name: neither the way to it nor its place in an encoding matters
+-- the names of the wanted nodes of a subtree, wherever the subtree and its encoding are
 abbrev pub node_names : Choice → ℕ → ℕ → List Node
 node_names choice number n = map name (subtree_nodes choice number n [] 0)
 
--- those of the slice (start, len) of a blob of `total` bytes
+-- the names of the nodes of the slice (start, len) of a blob of `total` bytes
 abbrev pub slice_names : ℕ → ℕ → ℕ → List Node
 slice_names total start len = map name (nodes total start len)
 
--- those of subtrees that wait, the last of them first
+-- the names of the nodes of waiting subtrees, the last of them first
 abbrev pub waiting_names : Choice → List WaitingSubtree → List Node
 waiting_names choice [] = []
 waiting_names choice (subtree ∷ rest) = waiting_names choice rest ++ node_names choice subtree.number subtree.len
 
--- a wanted subtree of at most so many levels of parents
+-- a wanted subtree with at most so many levels of parents
 abbrev pub IsWaiting : Choice → ℕ → WaitingSubtree → Type 0
 IsWaiting choice levels subtree =
     (wants choice (1024 * subtree.number) subtree.len ≡ true) × ((1024 * subtree.number + subtree.len ≤ 2 ^ 64 - 1) × (subtree.len ≤ 1024 * 2 ^ levels))
@@ -39,7 +39,7 @@ IsWaiting choice levels subtree =
 IsWaiting-prop : (choice : Choice) (levels : ℕ) (subtree : WaitingSubtree) → IsProp (IsWaiting choice levels subtree)
 IsWaiting-prop choice levels subtree = ×_prop (Bool-set (wants choice (1024 * subtree.number) subtree.len) true) (×_prop le_prop le_prop)
 
--- each that waits has fewer levels than the one before it
+-- each waiting subtree is wanted, and has fewer levels than the one before it
 abbrev pub AreWaiting : Choice → ℕ → List WaitingSubtree → Type 0
 AreWaiting choice levels [] = Unit {0}
 AreWaiting choice levels (subtree ∷ rest) = IsWaiting choice levels subtree × AreWaiting choice (levels - 1) rest

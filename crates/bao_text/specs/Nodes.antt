@@ -5,7 +5,7 @@ use Rattle.b3tree.specs.Tree.{left_len}
 use Rattle.bao_text.specs.declared.choice.Choice.{Choice}
 use Rattle.bao_text.specs.Choice.{chunk_count, of_slice, wants}
 
--- which part of its parent a subtree is
+-- which child of its parent a subtree is
 pub data Side : Type 0 where
   left : Side
   right : Side
@@ -17,16 +17,16 @@ pub record TreeNode : Type 0 where
   pub number : ℕ
   -- how many bytes of the blob the subtree has
   pub len : ℕ
-  -- the way from the root
+  -- the path from the root
   pub sides : List Side
   -- where the node begins in the combined encoding
   pub source : ℕ
 
--- how many bytes of an encoding the node is
+-- the length in bytes of the node in an encoding
 abbrev pub size : TreeNode → ℕ
 size node = if node.is_chunk then node.len else 64
 
--- how many bytes of the combined encoding the subtree of n bytes is
+-- the length in bytes of a subtree over n bytes in the combined encoding
 abbrev pub subtree_size : ℕ → ℕ
 subtree_size n = n + 64 * (chunk_count n - 1)
 

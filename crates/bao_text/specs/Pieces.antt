@@ -4,7 +4,7 @@ use Rattle.b3tree.specs.declared.mode.Mode.{Mode}
 use Rattle.bao_text.specs.Choice.{chunk_count, of_combined, of_outboard}
 use Rattle.bao_text.specs.Texts.{subtree_text}
 
--- so many bytes have a subtree's parents: 64 each, one fewer than there are chunks
+-- the parents of a subtree over these bytes have this length: 64 bytes each, one fewer than chunks
 abbrev pub HasSize : List ℕ → List ℕ → Type 0
 HasSize parents s = length parents + 64 ≡ 64 * chunk_count (length s)
 
@@ -19,8 +19,8 @@ pub record HasParents (total : ℕ) (mode : Mode) (first : ℕ) (parents s : Lis
   pub end : 1024 * first + length s ≤ total
   pub text : parents ≡ subtree_text (of_outboard total) mode first s
 
--- the subtree over s has as its parts the subtrees over `left` and `right`, each with its parents, and
--- its own parent's encoding is `parent`
+-- the subtree over s has the subtrees over `left` and `right` as its children, each with its parents, and
+-- `parent` is the encoding of its own parent node
 pub record HasParts (total : ℕ) (mode : Mode) (first : ℕ) (s parent left_parents left right_parents right : List ℕ) : Type 0 where
   pub right_first : ℕ
   pub near : HasParents total mode first left_parents left

@@ -1,4 +1,4 @@
--- What a walk over a slice's nodes has still to give.
+-- The rest of a walk over a slice's nodes.
 use Rattle.std.specs.Prelude.{List}
 use Rattle.bao_text.specs.declared.walk.Node.{Node}
 use Rattle.bao_text.specs.declared.walk.Nodes.{Nodes}

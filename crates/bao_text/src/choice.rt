@@ -1,6 +1,6 @@
 ghost use Rattle.std.specs.Prelude.{◌≡◌, ◌+◌, ◌≤◌, ◌↔◌, max, IsTrue};
 
-/// The positions of a blob that an encoding is of, and whether it has the chunks.
+/// The positions of a blob that an encoding covers, and whether the encoding has the chunks.
 #[derive(Clone, Copy, Debug)]
 pub struct Choice {
     pub(crate) start: u64,
@@ -11,7 +11,7 @@ pub struct Choice {
 impl Choice {
     ghost use Rattle.bao_text.specs.Choice.{of_combined, of_nothing, of_outboard, of_slice, wants};
 
-    /// What a combined encoding of a blob of `total` bytes is of: everything.
+    /// Returns the choice of a combined encoding of a blob of `total` bytes: everything.
     pub fn of_combined(total: u64) -> Choice
         ensures { result ≡ of_combined total }
     {
@@ -22,7 +22,7 @@ impl Choice {
         }
     }
 
-    /// What an outboard encoding of a blob of `total` bytes is of: everything but the chunks.
+    /// Returns the choice of an outboard encoding of a blob of `total` bytes: everything but the chunks.
     pub fn of_outboard(total: u64) -> Choice
         ensures { result ≡ of_outboard total }
     {
@@ -32,7 +32,7 @@ impl Choice {
         }
     }
 
-    /// What no text is of: nothing, as where a hash alone is asked for.
+    /// Returns the choice of nothing: only a hash is wanted.
     pub fn of_nothing() -> Choice
         ensures { result ≡ of_nothing }
     {
@@ -42,10 +42,10 @@ impl Choice {
         }
     }
 
-    /// What the slice of `len` bytes from byte `start` on of a blob of `total` bytes is of.
+    /// Returns the choice of the slice of `len` bytes from byte `start` on of a blob of `total` bytes.
     ///
-    /// A length of 0 counts as 1, a start at or past the end is the last position, and the sum of the two
-    /// never wraps.
+    /// A `len` of 0 counts as 1, a `start` at or past the end as the last position, and `start + len` never
+    /// wraps.
     pub fn of_slice(total: u64, start: u64, len: u64) -> Choice
         ensures { result ≡ of_slice total start len }
     {
@@ -58,35 +58,35 @@ impl Choice {
         }
     }
 
-    /// Whether the `n` bytes from position `at` on are wanted; no bytes count as one.
+    /// Returns whether any of the `n` bytes from position `at` on is wanted; an `n` of 0 counts as 1.
     pub fn wants(&self, at: u64, n: u64) -> bool
         ensures { result ≡ wants self.now at n }
     {
         at < self.end && (self.start < at || self.start - at < n.max(1))
     }
 
-    /// Whether all of the `n` bytes from position `at` on are wanted; no bytes count as one.
+    /// Returns whether all of the `n` bytes from position `at` on are wanted; an `n` of 0 counts as 1.
     pub fn covers(&self, at: u64, n: u64) -> bool
         ensures { IsTrue result ↔ ((self.now.start ≤ at) × (at + max n 1 ≤ self.now.end)) }
     {
         at >= self.start && at < self.end && n.max(1) <= self.end - at
     }
 
-    /// The first wanted position.
+    /// Returns the first wanted position.
     pub fn start(&self) -> u64
         ensures { result ≡ self.now.start }
     {
         self.start
     }
 
-    /// The position after the last wanted one.
+    /// Returns the position after the last wanted one.
     pub fn end(&self) -> u64
         ensures { result ≡ self.now.end }
     {
         self.end
     }
 
-    /// Whether the encoding has the chunks.
+    /// Returns whether the encoding has the chunks.
     pub fn has_chunks(&self) -> bool
         ensures { result ≡ self.now.chunks }
     {

@@ -11,7 +11,7 @@ use crate::sizes::{LENGTH_LEN, PARENT_LEN, subtree_size};
 use b3tree::{CHUNK_LEN, left_len};
 use std::alloc::Global;
 
-/// The length that the first 8 bytes of an encoding claim, in bytes (little-endian). Nobody has checked it.
+/// Returns the length in bytes that the first 8 bytes of an encoding claim, little-endian. It isn't verified.
 pub fn claimed(text: &[u8]) -> u64
     requires { 8 ≤ length text.now }
     ensures { result ≡ claimed text.now }
@@ -65,13 +65,13 @@ fn append_nodes<P: Places>(
     )
 }
 
-/// Appends the encoding of the slice (`start`, `len`) as it is cut out of the combined encoding that lies at these places,
-/// and checks nothing.
+/// Appends to `into` the slice (`start`, `len`), copied out of the combined encoding that is read from
+/// `places`, and verifies nothing.
 ///
-/// Fewer than 8 bytes come as they are. Otherwise the length is read from the first 8 bytes, and the slice's nodes are
-/// copied in order; the first that isn't wholly there ends the encoding, with the bytes of it that are there. No growth is
-/// sized by the claimed length, but by what is copied. After a fault, which is one of the places, `into` begins with what
-/// it had.
+/// The length is read from the first 8 bytes, and the slice's nodes are copied in order. An encoding that ends
+/// early is copied as far as it goes: the first incomplete node ends the slice, with the bytes of it that are
+/// there. Memory grows with what is copied, not with the claimed length. Fails only with a fault of `places`;
+/// `into` then still begins with what it had.
 pub fn append_cut<P: Places>(
     places: &P,
     start: u64,
@@ -93,8 +93,10 @@ pub fn append_cut<P: Places>(
     Ok(())
 }
 
-/// The encoding of the slice (`start`, `len`), cut out of the combined encoding `text` as `append_cut` cuts it: nothing is
-/// checked. Of the combined encoding of a blob it is the blob's slice. Answers `Memory` (401) where a growth was refused.
+/// Returns the slice (`start`, `len`), cut out of the combined encoding `text` as `append_cut` does, and
+/// verifies nothing.
+///
+/// If `text` is a blob's combined encoding, the result is the blob's slice. Refuses with `Memory` (401).
 #[tactic(auto, using(crate::proofs::Laws::laws))]
 pub fn cut_slice(alloc: Global, text: &[u8], start: u64, len: u64) -> Result<Vec<u8>, Memory>
     ensures cut { IfOk result (λ v. v.items ≡ cut_text text.now start len) }

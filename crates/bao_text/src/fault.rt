@@ -8,7 +8,7 @@ use thiserror::Error;
 pub struct Memory;
 
 impl Memory {
-    /// The fault's number: 401.
+    /// Returns the number of the fault: 401.
     pub fn code(&self) -> u16
         ensures { result ≡ 401 }
     {
@@ -16,13 +16,14 @@ impl Memory {
     }
 }
 
-/// Why an encoding was not written whole.
+/// Why an encoding was not written, or not all of it.
 #[derive(Clone, Copy, Debug, PartialEq, Eq, Error)]
 pub enum WriteFault {
     /// Out of memory for the encoding; nothing was written. Number 401.
     #[error("401 memory")]
     Memory,
-    /// A write answered a fault, or took no byte; the first `written` bytes of the encoding went out. Number 402.
+    /// A write failed or wrote no byte; exactly the first `written` bytes of the encoding were written. Number
+    /// 402.
     #[error("402 writer failed after {written} bytes")]
     Writer { written: u128 },
 }
@@ -40,7 +41,7 @@ impl From<Memory> for WriteFault {
 impl WriteFault {
     ghost use Rattle.bao_text.specs.Faults.{number_of};
 
-    /// The fault's number: 401 or 402.
+    /// Returns the number of the fault: 401 or 402.
     pub fn code(&self) -> u16
         ensures { result ≡ number_of self.now }
     {

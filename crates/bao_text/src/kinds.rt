@@ -1,4 +1,4 @@
-/// Which part of a blob an encoding is of.
+/// What of a blob an encoding covers.
 #[derive(Clone, Copy, Debug)]
 pub enum Part {
     /// All of it: a combined encoding.
@@ -7,13 +7,13 @@ pub enum Part {
     Slice { start: u64, len: u64 },
 }
 
-/// Which encoding of a blob is written.
+/// A format of a blob's encoding.
 #[derive(Clone, Copy, Debug)]
 pub enum Encoding {
     /// The combined encoding.
     Combined,
     /// The outboard encoding.
     Outboard,
-    /// The slice for `len` bytes from `start` on.
+    /// The slice of `len` bytes from byte `start` on.
     Slice { start: u64, len: u64 },
 }

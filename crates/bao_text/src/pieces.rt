@@ -13,16 +13,17 @@ use std::io::Write;
 // The largest subtree whose encoding goes out at once, in bytes of the blob.
 const WRITTEN_LEN: usize = 64 * CHUNK_LEN;
 
-/// How many levels of larger subtrees a blob has at most: 2^64 bytes are 2^48 pieces.
+/// The most levels of subtrees larger than what is written at once: 2^64 bytes are 2^48 groups.
 pub(crate) const LEVELS: u32 = 48;
 
-/// The room for what goes out at once: the length, a parent of each level, and a piece with its parents.
+/// The largest buffer that is written at once: the length, a parent of each level, and a group with its
+/// parents.
 pub(crate) const ROOM_LEN: usize = LENGTH_LEN
     + PARENT_LEN * LEVELS as usize
     + WRITTEN_LEN
     + PARENT_LEN * 63;
 
-/// A subtree's bytes, beside the encoding of its parents in pre-order.
+/// A subtree's bytes, beside its parents in pre-order.
 #[derive(Clone, Copy)]
 pub(crate) struct SubtreeBytes<'a> {
     pub(crate) parents: &'a [u8],

@@ -4,9 +4,9 @@ ghost use Rattle.b3tree.specs.Pieces.{piece};
 use crate::fault::Memory;
 use crate::texts::extend;
 
-/// Bytes of which parts are copied by position: they lie in memory, or each part is read, which may fail.
+/// Bytes that are copied by position, from memory or by reads that may fail.
 pub trait Places {
-    /// Why a part wasn't copied.
+    /// Why bytes were not copied.
     type Fault: Drop;
 
     // That its bytes are these.
@@ -15,10 +15,10 @@ pub trait Places {
     // That a copy may answer this fault.
     ghost fails: { Self → Self.Fault → Type 0 };
 
-    /// Appends the `len` bytes from the place `at` on, or those of them that are there, and answers whether all were: of
-    /// no bytes, always.
+    /// Appends the `len` bytes from offset `at` on, or those of them that exist, and returns whether all of
+    /// them do.
     ///
-    /// After a fault `into` begins with what it had.
+    /// After a fault `into` still begins with what it had.
     fn append(&self, at: u128, len: u128, into: &mut Vec<u8>) -> Result<bool, Self::Fault>
         requires { at + len < 2 ^ 128 }
         ensures part { (bytes : List ℕ) → holds self.now bytes → OnOk result (into.new.items ≡ into.old.items ++ piece bytes at len) }
@@ -30,7 +30,7 @@ pub trait Places {
         ensures fault { IfErr result (λ fault. fails self.now fault) };
 }
 
-/// The `len` bytes from the place `at` on, or those of them that are there.
+/// Returns the `len` bytes from offset `at` on, or those of them that exist.
 pub fn part_of(bytes: &[u8], at: u128, len: u128) -> &[u8]
     ensures { result.now ≡ piece bytes.now at len }
 {

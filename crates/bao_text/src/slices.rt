@@ -4,8 +4,8 @@ ghost use Rattle.bao_text.specs.Rest.{rest_of};
 
 use crate::walk::Nodes;
 
-/// The nodes of the slice (`start`, `len`) of a blob of `length` bytes: those whose bytes are in the slice's encoding, in
-/// its order. It takes no memory.
+/// Returns the nodes of the slice (`start`, `len`) of a blob of `length` bytes, in the order of its encoding.
+/// It doesn't allocate.
 pub fn nodes(length: u64, start: u64, len: u64) -> Nodes
     ensures { rest_of result ≡ slice_names length start len }
 {

@@ -35,8 +35,7 @@ pub(crate) fn parent_bytes(left: &Cv, right: &Cv) -> [u8; 64]
     bytes
 }
 
-/// Writes the 64 bytes of the parent of two subtrees with these chaining values over those of `text` from
-/// place `at` on.
+/// Overwrites the 64 bytes of `text` from offset `at` on with the parent that has these children.
 pub fn put_parent(text: &mut Vec<u8>, at: usize, left: &Cv, right: &Cv)
     requires { at + 64 ≤ vec_len text.old }
     ensures { text.new.items ≡ take at text.old.items
@@ -45,11 +44,10 @@ pub fn put_parent(text: &mut Vec<u8>, at: usize, left: &Cv, right: &Cv)
     text.as_mut_slice()[at..at + PARENT_LEN].copy_from_slice(&parent_bytes(left, right));
 }
 
-/// Appends the encoding of the subtree over `bytes`, whose first chunk has the number `first`, to `text`: what the
-/// choice wants of it, as it stands in the encoding of the blob in which the subtree lies. Answers the subtree's last
-/// compression, as `top_input` does.
+/// Appends to `text` what the choice wants of the subtree over `bytes`, which begins with chunk `first`, as it
+/// is in the encoding of the whole blob. Returns the subtree's last compression, as `top_input` does.
 ///
-/// Answers `Memory` (401) where a growth was refused. What the encoding has then is not said.
+/// Refuses with `Memory` (401); the content of `text` is then unspecified.
 #[tactic(auto, using(crate::proofs::ParentPut::put_together))]
 pub fn append_subtree(
     choice: &Choice,
@@ -110,9 +108,7 @@ fn chosen(
     Ok((root_hash(&rooted(&top)), text))
 }
 
-/// The combined encoding of `bytes` in `mode`, and their hash.
-///
-/// Answers `Memory` (401) where a growth was refused.
+/// Returns the hash of `bytes` in `mode` and their combined encoding. Refuses with `Memory` (401).
 pub fn combined(alloc: Global, mode: &Mode, bytes: &[u8]) -> Result<(Hash, Vec<u8>), Memory>
     ensures hash { IfOk result (λ r. r.0.0 ≡ hash mode.now bytes.now) }
     ensures text { IfOk result (λ r. r.1.items ≡ combined_text mode.now bytes.now) }
@@ -129,9 +125,7 @@ pub fn combined(alloc: Global, mode: &Mode, bytes: &[u8]) -> Result<(Hash, Vec<u
     )
 }
 
-/// The outboard encoding of `bytes` in `mode`, and their hash.
-///
-/// Answers `Memory` (401) where a growth was refused.
+/// Returns the hash of `bytes` in `mode` and their outboard encoding. Refuses with `Memory` (401).
 pub fn outboard(alloc: Global, mode: &Mode, bytes: &[u8]) -> Result<(Hash, Vec<u8>), Memory>
     ensures hash { IfOk result (λ r. r.0.0 ≡ hash mode.now bytes.now) }
     ensures text { IfOk result (λ r. r.1.items ≡ outboard_text mode.now bytes.now) }
@@ -148,10 +142,10 @@ pub fn outboard(alloc: Global, mode: &Mode, bytes: &[u8]) -> Result<(Hash, Vec<u
     )
 }
 
-/// The slice of `bytes` in `mode` for `len` bytes from `start` on, and the hash of all bytes.
+/// Returns the hash of all of `bytes` in `mode` and their slice of `len` bytes from byte `start` on.
 ///
-/// `start + len` never wraps, a length of 0 counts as 1, and a start at or past the end wants the last
-/// chunk. Answers `Memory` (401) where a growth was refused.
+/// A `len` of 0 counts as 1, a `start` at or past the end selects the last chunk, and `start + len` never
+/// wraps. Refuses with `Memory` (401).
 pub fn slice(
     alloc: Global,
     mode: &Mode,

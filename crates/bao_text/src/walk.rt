@@ -8,9 +8,9 @@ use b3tree::{CHUNK_LEN, left_len};
 /// A node of a blob's tree.
 #[derive(Clone, Copy, Debug, PartialEq, Eq)]
 pub enum Node {
-    /// The parent whose right part begins at the chunk of this number.
+    /// The parent whose right child begins with the chunk of this index.
     Parent(u64),
-    /// The chunk of this number.
+    /// The chunk of this index.
     Chunk(u64),
 }
 
@@ -21,13 +21,13 @@ struct WaitingSubtree {
     len: u64,
 }
 
-/// The most parts of a tree that wait at once in pre-order: it has at most 54 levels of parents, on each the
-/// right part waits, and at last a chunk.
+/// The most subtrees that wait at once in a pre-order walk: the right child at each of at most 54 levels, and a
+/// chunk.
 pub const WAITING_LEN: usize = 55;
 
 type Waiting = ArrayVec<WaitingSubtree, WAITING_LEN>;
 
-/// The nodes of a slice in pre-order. It takes no memory.
+/// Iterates over the nodes of a slice in pre-order. It doesn't allocate.
 #[derive(Drop)]
 pub struct Nodes {
     choice: Choice,

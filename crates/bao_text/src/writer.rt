@@ -39,11 +39,10 @@ pub(crate) fn write_after<W: Write>(
     Ok(())
 }
 
-/// Writes all of `text` to `out`, by as many writes as it takes.
+/// Writes all of `text` to `out`, in as many writes as needed, and doesn't flush.
 ///
-/// Answers `Writer` (402) only where a write answered a fault, one of the kind `Interrupted` too, or took
-/// no byte: then exactly the first `written` bytes of the encoding went out, and not all. The writer is not
-/// flushed. `Memory` is never answered.
+/// Refuses with `Writer` (402) only if a write fails (also with the kind `Interrupted`) or writes no byte:
+/// exactly the first `written` bytes were then written, and not all. It never returns `Memory`.
 pub fn write_text<W: Write>(text: &[u8], out: &mut W) -> Result<(), WriteFault>
     ensures text { OnOk result (Appends (W.contents out.old) (W.contents out.new) text.now) }
     ensures err { IfErr result (WroteOnly (W.contents out.old) (W.contents out.new) text.now) }
@@ -52,8 +51,7 @@ pub fn write_text<W: Write>(text: &[u8], out: &mut W) -> Result<(), WriteFault>
     write_after(0, text, out)
 }
 
-/// Writes all of `texts` to `out`, one after another, as `write_text` writes one: its faults are of the encoding that
-/// they make together.
+/// Writes `texts` to `out`, one after another, as `write_text` does: `written` counts from the first.
 pub fn write_texts<W: Write>(texts: &[Vec<u8>], out: &mut W) -> Result<(), WriteFault>
     ensures text { OnOk result (Appends (W.contents out.old) (W.contents out.new) (joined texts.now)) }
     ensures err { IfErr result (WroteOnly (W.contents out.old) (W.contents out.new) (joined texts.now)) }
@@ -86,14 +84,12 @@ fn write_beside<W: Write>(
     write_subtree(whole, LEVELS, room, LENGTH_LEN, 0, out)
 }
 
-/// Writes the combined encoding of `bytes` in `mode` to `out`, and answers their hash.
+/// Writes the combined encoding of `bytes` in `mode` to `out`, and returns their hash. It doesn't flush.
 ///
-/// The memory that it takes is that of the parents, a sixteenth of the bytes, and less than 72 KiB. It is
-/// had before the first write.
-///
-/// Answers `Memory` (401) where a growth was refused, with nothing written, and `Writer` (402) only where
-/// a write answered a fault, one of the kind `Interrupted` too, or took no byte: then exactly the first
-/// `written` bytes of the encoding went out. The writer is not flushed.
+/// The memory is that of the parents, a sixteenth of the bytes, and less than 72 KiB; it is allocated before
+/// the first write. Refuses with `Memory` (401), with nothing written, and with `Writer` (402) only if a write
+/// fails (also with the kind `Interrupted`) or writes no byte: exactly the first `written` bytes were then
+/// written.
 #[tactic(auto, using(crate::proofs::Laws::laws))]
 pub fn write_combined<W: Write>(
     alloc: Global,

@@ -8,11 +8,7 @@ use Rattle.bao_text.specs.Choice.{chunk_count}
 use Rattle.gather.specs.Large.{HasCollision}
 use Rattle.store_core.specs.declared.fixed.Fixed.{Fixed}
 use Rattle.store_core.specs.declared.history.Piece.{Piece}
-use Rattle.bao_windows.specs.Windows.{Adds, AreBytesAt}
-
--- the bytes are the blob's from this place on, each of them, or it is so
-abbrev pub AreAt : List ℕ → Type 0 → ℕ → List ℕ → Type 0
-AreAt blob P at bytes = (i : ℕ) → i < length bytes → (slice_get blob (at + i) ≡ Some (slice_index bytes i)) ⊎ P
+use Rattle.bao_windows.specs.Windows.{Adds, AllAt, AreBytesAt, IsAt, IsOfAccepted}
 
 pub place_of : (i n : ℕ) → (i < n) ⊎ (n ≤ i)
 place_of i n = elim (cases_order i n) [
@@ -22,28 +18,20 @@ place_of i n = elim (cases_order i n) [
 ]
 
 -- those of one place and those that come next
-pub both : (blob : List ℕ) (P : Type 0) (at : ℕ) (xs ys : List ℕ) → AreAt blob P at xs → AreAt blob P (at + length xs) ys → AreAt blob P at (xs ++ ys)
-both blob P at xs ys first second i less = elim (place_of i (length xs)) [
-  | inl low ↦ elim (first i low) [
-    | inl same ↦ inl (same ∙ ap (λ (x : ℕ). Some x) (sym (get_or_append_left xs ys 0 i low)))
-    | inr named ↦ inr named
-  ]
-  | inr high ↦ elim (second (i - length xs) (omega (arith, less, high, length-append xs ys))) [
-    | inl same ↦
-        let place : at + length xs + (i - length xs) ≡ at + i = omega (arith, high) in
-        inl (ap (λ (q : ℕ). slice_get blob q) (sym place) ∙ same ∙ ap (λ (x : ℕ). Some x) (sym (get_or-append_right xs ys (length xs) i 0 refl high)))
-    | inr named ↦ inr named
-  ]
+pub both : (Holds : ℕ → ℕ → Type 0) (at : ℕ) (xs ys : List ℕ) → AllAt Holds at xs → AllAt Holds (at + length xs) ys → AllAt Holds at (xs ++ ys)
+both Holds at xs ys first second i less = elim (place_of i (length xs)) [
+  | inl low ↦ subst (λ (b : ℕ). Holds (at + i) b) (sym (get_or_append_left xs ys 0 i low)) (first i low)
+  | inr high ↦
+      let place : at + length xs + (i - length xs) ≡ at + i = omega (arith, high) in
+      subst (λ (b : ℕ). Holds (at + i) b) (sym (get_or-append_right xs ys (length xs) i 0 refl high))
+      (subst (λ (o : ℕ). Holds o (slice_index ys (i - length xs))) place (second (i - length xs) (omega (arith, less, high, length-append xs ys))))
 ]
 
 -- a beginning of them
-pub first_of : (blob : List ℕ) (P : Type 0) (at n : ℕ) (bytes : List ℕ) → n ≤ length bytes → AreAt blob P at bytes → AreAt blob P at (take n bytes)
-first_of blob P at n bytes within each i less =
+pub first_of : (Holds : ℕ → ℕ → Type 0) (at n : ℕ) (bytes : List ℕ) → n ≤ length bytes → AllAt Holds at bytes → AllAt Holds at (take n bytes)
+first_of Holds at n bytes within each i less =
     let low : i < n = omega (arith, less, length-take-le n bytes within) in
-    elim (each i (omega (arith, low, within))) [
-      | inl same ↦ inl (same ∙ ap (λ (x : ℕ). Some x) (sym (get_or-take n bytes i 0 low)))
-      | inr named ↦ inr named
-    ]
+    subst (λ (b : ℕ). Holds (at + i) b) (sym (get_or-take n bytes i 0 low)) (each i (omega (arith, low, within)))
 
 -- a chunk of the blob is of its bytes
 pub chunk_byte : (blob bytes : List ℕ) (c i : ℕ) → chunk_of blob c ≡ Some bytes → i < length bytes → slice_get blob (1024 * c + i) ≡ Some (slice_index bytes i)
@@ -70,14 +58,20 @@ chunk_long blob bytes c e chunk below within ends =
     ]
 
 pub none_at : (handed : Piece → Type 0) (fixed : Fixed) (at : ℕ) (bytes : List ℕ) → length bytes ≡ 0 → AreBytesAt handed fixed at bytes
-none_at handed fixed at bytes none blob is i less = absurd (omega (arith, less, none))
+none_at handed fixed at bytes none = record { slices = λ i less. absurd (omega (arith, less, none)); each = λ blob is i less. absurd (omega (arith, less, none)) }
 
 pub both_at : (handed : Piece → Type 0) (fixed : Fixed) (at : ℕ) (xs ys : List ℕ) → AreBytesAt handed fixed at xs → AreBytesAt handed fixed (at + length xs) ys
     → AreBytesAt handed fixed at (xs ++ ys)
-both_at handed fixed at xs ys first second blob is = both blob (HasCollision handed fixed blob) at xs ys (first blob is) (second blob is)
+both_at handed fixed at xs ys first second = record {
+  slices = both (IsOfAccepted handed fixed) at xs ys first.slices second.slices;
+  each = λ blob is. both (IsAt blob (HasCollision handed fixed blob)) at xs ys (first.each blob is) (second.each blob is);
+}
 
 pub first_at : (handed : Piece → Type 0) (fixed : Fixed) (at n : ℕ) (bytes : List ℕ) → n ≤ length bytes → AreBytesAt handed fixed at bytes → AreBytesAt handed fixed at (take n bytes)
-first_at handed fixed at n bytes within each blob is = first_of blob (HasCollision handed fixed blob) at n bytes within (each blob is)
+first_at handed fixed at n bytes within all = record {
+  slices = first_of (IsOfAccepted handed fixed) at n bytes within all.slices;
+  each = λ blob is. first_of (IsAt blob (HasCollision handed fixed blob)) at n bytes within (all.each blob is);
+}
 
 -- and more follow
 pub adds_more : (handed : Piece → Type 0) (fixed : Fixed) (at m n : ℕ) (old mid new : List ℕ) → Adds handed fixed at m old mid → Adds handed fixed (at + m) n mid new

@@ -13,7 +13,7 @@ use Rattle.bao_windows.specs.Windows.{AreBytesAt, IsLengthOfEach}
 -- as many bytes as a blob with the root has are the blob, or a collision is exhibited
 pub whole_blob : (handed : Piece → Type 0) (fixed : Fixed) (bytes blob : List ℕ) → AreBytesAt handed fixed 0 bytes → IsBlob fixed blob → length bytes ≡ length blob
     → (blob ≡ bytes) ⊎ HasCollision handed fixed blob
-whole_blob handed fixed bytes blob each is long = elim (all_same blob bytes (HasCollision handed fixed blob) (length bytes) (each blob is)) [
+whole_blob handed fixed bytes blob each is long = elim (all_same blob bytes (HasCollision handed fixed blob) (length bytes) (each.each blob is)) [
   | inl same ↦ inl (same_bytes blob bytes long same)
   | inr pair ↦ inr pair
 ]

@@ -1,5 +1,6 @@
 -- Bytes that are taken from checked pieces.
 use Rattle.std.proofs.Common.{◌≡◌, ◌⊎◌, ℕ, ◌+◌, ◌-◌, ◌*◌, ◌/◌, ◌%◌, ◌<◌, min, Bool, true, false, List, ◌++◌, length, None, Some, slice_get, ◌∙◌, sym, ap, subst, arith, inl, inr, refl, append_assoc, length-append}
+use Rattle.std.proofs.lemmas.Option.{slice_get-get_or}
 use Rattle.b3tree.specs.declared.mode.Mode.{Mode}
 use Rattle.b3tree.specs.declared.values.Hash.{Hash}
 use Rattle.b3tree.specs.Hashing.{hash}
@@ -14,9 +15,9 @@ use Rattle.bao_check.specs.declared.tail.Tail.{Tail}
 use Rattle.bao_check.specs.Tail.{tail_piece}
 use Rattle.gather.specs.Large.{HasCollision, fixed_as}
 use Rattle.store_core.specs.declared.history.Piece.{Piece}
-use Rattle.store_core.specs.Pieces.{piece_of}
+use Rattle.store_core.specs.Pieces.{IsAcceptedPiece, piece_of}
 use Rattle.bao_windows.proofs.Bytes.{both, chunk_byte}
-use Rattle.bao_windows.specs.Windows.{AddsOf, AreBytesAt, AreOfPiece, IsLengthOfEach, LacksChunk, Takes, TakesOf}
+use Rattle.bao_windows.specs.Windows.{AddsOf, AreBytesAt, AreOfPiece, HasByte, IsAt, IsLengthOfEach, LacksChunk, Takes, TakesOf}
 
 -- a checked piece's encoding is of bytes, and accepted under this root in this mode
 pub record IsSound (piece : Checked) (mode : Mode) (root : Hash) : Type 0 where
@@ -26,13 +27,16 @@ pub record IsSound (piece : Checked) (mode : Mode) (root : Hash) : Type 0 where
   pub accepted : IsAccepted (piece_mode piece) (piece_root piece) (piece_text piece) (piece_nodes piece)
 
 -- the bytes of one of its chunks
-pub of_chunk : (piece : Checked) (at c : ℕ) (bytes : List ℕ) → at ≡ 1024 * c
+pub of_chunk : (piece : Checked) (at c : ℕ) (bytes : List ℕ) → at ≡ 1024 * c → chunk_in (piece_text piece) (piece_places piece) c ≡ Some bytes
     → ((blob : List ℕ) → AreBytes blob → hash (piece_mode piece) blob ≡ piece_root piece → BindsChunk (piece_mode piece) (piece_text piece) (piece_start piece) (piece_len piece) blob c bytes)
     → AreOfPiece piece at bytes
-of_chunk piece at c bytes same binds blob valid is i below = elim (binds blob valid is) [
-  | inl here ↦ inl (ap (λ (q : ℕ). slice_get blob (q + i)) same ∙ chunk_byte blob bytes c i here.0 below)
-  | inr named ↦ inr named
-]
+of_chunk piece at c bytes same there binds = record {
+  chunks = λ i below. record { number = c; index = i; chunk = bytes; place = ap (λ (q : ℕ). q + i) same; there = there; is = slice_get-get_or bytes i 0 below };
+  each = λ blob valid is i below. elim (binds blob valid is) [
+    | inl here ↦ inl (ap (λ (q : ℕ). slice_get blob (q + i)) same ∙ chunk_byte blob bytes c i here.0 below)
+    | inr named ↦ inr named
+  ];
+}
 
 -- and more follow
 pub adds_more_of : (piece : Checked) (at m n : ℕ) (old mid new bytes : List ℕ) → AddsOf piece at m old mid → new ≡ mid ++ bytes → length bytes ≡ n → AreOfPiece piece (at + m) bytes
@@ -44,8 +48,21 @@ adds_more_of piece at m n old mid new bytes first is size each =
       bytes = xs ++ bytes;
       is = is ∙ ap (λ (s : List ℕ). s ++ bytes) first.is ∙ append_assoc old xs bytes;
       size = omega (arith, length-append xs bytes, first.size, size);
-      each = λ blob valid hashed. both blob (NamesCollision (piece_mode piece) blob (piece_text piece) (piece_places piece)) at xs bytes (first.each blob valid hashed) (next blob valid hashed);
+      each = record {
+        chunks = both (HasByte (piece_text piece) (piece_places piece)) at xs bytes first.each.chunks next.chunks;
+        each = λ blob valid hashed.
+            both (IsAt blob (NamesCollision (piece_mode piece) blob (piece_text piece) (piece_places piece))) at xs bytes (first.each.each blob valid hashed) (next.each blob valid hashed);
+      };
     }
+
+-- the piece is accepted under the root
+sound_piece : (mode : Mode) (root : Hash) (piece : Checked) → IsSound piece mode root → IsAcceptedPiece (fixed_as root mode 0) (piece_of 0 piece)
+sound_piece mode root piece sound = record {
+  bytes = sound.bytes;
+  accepted = subst (λ (m : Mode). IsAccepted m root.0 (piece_text piece) (piece_nodes piece)) sound.mode_is
+      (subst (λ (r : List ℕ). IsAccepted (piece_mode piece) r (piece_text piece) (piece_nodes piece)) sound.root_is sound.accepted);
+  base = refl;
+}
 
 -- a collision that is exhibited from the piece
 pub pair_from : (handed : Piece → Type 0) (mode : Mode) (root : Hash) (piece : Checked) (blob : List ℕ) → IsSound piece mode root → handed (piece_of 0 piece)
@@ -53,12 +70,7 @@ pub pair_from : (handed : Piece → Type 0) (mode : Mode) (root : Hash) (piece :
 pair_from handed mode root piece blob sound from named = record {
   piece = piece_of 0 piece;
   from = from;
-  accepted = record {
-    bytes = sound.bytes;
-    accepted = subst (λ (m : Mode). IsAccepted m root.0 (piece_text piece) (piece_nodes piece)) sound.mode_is
-        (subst (λ (r : List ℕ). IsAccepted (piece_mode piece) r (piece_text piece) (piece_nodes piece)) sound.root_is sound.accepted);
-    base = refl;
-  };
+  accepted = sound_piece mode root piece sound;
   pair = subst (λ (m : Mode). NamesCollision m blob (piece_text piece) (piece_places piece)) sound.mode_is named;
 }
 
@@ -68,11 +80,13 @@ hashed_by mode root piece blob sound is = subst (λ (m : Mode). hash m blob ≡ 
 
 pub bytes_of : (handed : Piece → Type 0) (mode : Mode) (root : Hash) (piece : Checked) (at : ℕ) (bytes : List ℕ) → IsSound piece mode root → handed (piece_of 0 piece)
     → AreOfPiece piece at bytes → AreBytesAt handed (fixed_as root mode 0) at bytes
-bytes_of handed mode root piece at bytes sound from each blob is i less =
-    elim (each blob is.bytes (hashed_by mode root piece blob sound is.root) i less) [
-      | inl same ↦ inl same
-      | inr named ↦ inr (pair_from handed mode root piece blob sound from named)
-    ]
+bytes_of handed mode root piece at bytes sound from of = record {
+  slices = λ i less. record { piece = piece_of 0 piece; from = from; accepted = sound_piece mode root piece sound; has = of.chunks i less };
+  each = λ blob is i less. elim (of.each blob is.bytes (hashed_by mode root piece blob sound is.root) i less) [
+    | inl same ↦ inl same
+    | inr named ↦ inr (pair_from handed mode root piece blob sound from named)
+  ];
+}
 
 -- what is taken of a piece that was handed over
 pub takes_of : (took : Bool) (handed : Piece → Type 0) (mode : Mode) (root : Hash) (piece : Checked) (at len : ℕ) (old new : List ℕ) → IsSound piece mode root → handed (piece_of 0 piece)

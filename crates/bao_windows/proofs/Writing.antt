@@ -13,8 +13,9 @@ use Rattle.b3tree.proofs.BlockWords.{AreBytes-append, AreBytes-nil}
 use Rattle.b3tree.specs.Taken.{Holds}
 use Rattle.store_core.specs.declared.fixed.Fixed.{Fixed}
 use Rattle.store_core.specs.declared.history.Piece.{Piece}
-use Rattle.bao_windows.proofs.Bytes.{both_at, none_at}
-use Rattle.bao_windows.specs.Windows.{AreBytesAt}
+use Rattle.bao_windows.proofs.Bytes.{both_at, first_at, none_at}
+use Rattle.bao_windows.specs.declared.window.Slot.{Slot}
+use Rattle.bao_windows.specs.Windows.{AreBytesAt, AreOfWindow, window_bytes}
 use Rattle.bao_windows.specs.Written.{HasRoomFor, IsBegun, WroteBeginning, WroteOf}
 
 pub nothing : (handed : Piece → Type 0) (fixed : Fixed) (at : ℕ) (out : Option (List ℕ)) (hasher : Hasher) → WroteOf handed fixed at 0 out out hasher hasher
@@ -51,6 +52,12 @@ begun_so handed fixed at len a b h i wrote = (wrote.0, wrote.2.each, wrote.2.wro
 
 pub begun_none : (handed : Piece → Type 0) (fixed : Fixed) (at : ℕ) (a : Option (List ℕ)) → IsBegun handed fixed at a a
 begun_none handed fixed at a = ([], none_at handed fixed at [] refl, Appends-nil a)
+
+-- a beginning of a window's bytes was
+pub begun_put : (handed : Piece → Type 0) (fixed : Fixed) (at total : ℕ) (window : List Slot) (a b : Option (List ℕ)) → AreOfWindow handed fixed at total window
+    → WroteBeginning a b (window_bytes window) → IsBegun handed fixed at a b
+begun_put handed fixed at total window a b whole wrote =
+    (take wrote.0 (window_bytes window), first_at handed fixed at wrote.0 (window_bytes window) wrote.1 whole.each, wrote.2)
 
 -- after so many bytes a beginning of more
 pub begun_more : (handed : Piece → Type 0) (fixed : Fixed) (at m : ℕ) (a b c : Option (List ℕ)) (h i : Hasher) → WroteOf handed fixed at m a b h i → IsBegun handed fixed (at + m) b c

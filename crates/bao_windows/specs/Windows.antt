@@ -7,6 +7,7 @@ use Rattle.bao_check.specs.declared.checked.Checked.{Checked}
 use Rattle.bao_check.specs.Checked.{piece_mode, piece_places, piece_root, piece_text}
 use Rattle.bao_check.specs.Inputs.{NamesCollision}
 use Rattle.bao_check.specs.Pieces.{chunk_in}
+use Rattle.bao_text.specs.Nodes.{TreeNode}
 use Rattle.bao_check.specs.declared.outline.Outline.{Outline}
 use Rattle.gather.specs.declared.fault.GatherFault.{GatherFault}
 use Rattle.gather.specs.declared.form.Form.{Form}
@@ -16,7 +17,7 @@ use Rattle.gather.specs.Lists.{IsFromSource}
 use Rattle.store_core.specs.declared.fixed.Fixed.{Fixed}
 use Rattle.store_core.specs.declared.history.Piece.{Piece}
 use Rattle.store_core.specs.Laws.{IsBlob}
-use Rattle.store_core.specs.Pieces.{piece_of, places_in}
+use Rattle.store_core.specs.Pieces.{IsAcceptedPiece, piece_of, places_in}
 use Rattle.bao_windows.specs.declared.wanted.Wanted.{Wanted}
 use Rattle.bao_windows.specs.declared.window.Slot.{Slot}
 
@@ -33,11 +34,35 @@ abbrev pub IsBeside : Form → Outline → Type 0
 IsBeside Slices outline = ⊥
 IsBeside (Bare beside) outline = beside.now ≡ outline
 
--- Each of these bytes is, for each blob with the root, that blob's byte at its place, from this one on; or a collision is exhibited from a
--- piece that was handed over.
-abbrev pub AreBytesAt : (Piece → Type 0) → Fixed → ℕ → List ℕ → Type 0
-AreBytesAt handed fixed at bytes = (blob : List ℕ) → IsBlob fixed blob → (i : ℕ) → i < length bytes
-    → (slice_get blob (at + i) ≡ Some (slice_index bytes i)) ⊎ HasCollision handed fixed blob
+-- it holds of each of these bytes and its offset, which is `at` for the first
+abbrev pub AllAt : (ℕ → ℕ → Type 0) → ℕ → List ℕ → Type 0
+AllAt Holds at bytes = (i : ℕ) → i < length bytes → Holds (at + i) (slice_index bytes i)
+
+-- the blob has this byte at this offset, or else P holds
+abbrev pub IsAt : List ℕ → Type 0 → ℕ → ℕ → Type 0
+IsAt blob P offset byte = (slice_get blob offset ≡ Some byte) ⊎ P
+
+-- a chunk of this encoding has this byte, where the blob's byte at this offset stands
+pub record HasByte (text : List ℕ) (places : List (ℕ × TreeNode)) (offset byte : ℕ) : Type 0 where
+  pub number : ℕ
+  pub index : ℕ
+  pub chunk : List ℕ
+  pub place : offset ≡ 1024 * number + index
+  pub there : chunk_in text places number ≡ Some chunk
+  pub is : slice_get chunk index ≡ Some byte
+
+-- A slice that was handed over is accepted under the root, whether or not a blob has that root, and has this byte at this offset of the blob.
+pub record IsOfAccepted (handed : Piece → Type 0) (fixed : Fixed) (offset byte : ℕ) : Type 0 where
+  pub piece : Piece
+  pub from : handed piece
+  pub accepted : IsAcceptedPiece fixed piece
+  pub has : HasByte piece.text (places_in piece) offset byte
+
+-- Each of these bytes is from a slice that was handed over and is accepted under the root. For each blob with the root it is that blob's byte at its
+-- offset, or a collision is exhibited from such a slice.
+pub record AreBytesAt (handed : Piece → Type 0) (fixed : Fixed) (at : ℕ) (bytes : List ℕ) : Type 0 where
+  pub slices : AllAt (IsOfAccepted handed fixed) at bytes
+  pub each : (blob : List ℕ) → IsBlob fixed blob → AllAt (IsAt blob (HasCollision handed fixed blob)) at bytes
 
 -- it is the length of each blob with the root, or a collision is exhibited
 abbrev pub IsLengthOfEach : (Piece → Type 0) → Fixed → ℕ → Type 0
@@ -55,10 +80,11 @@ abbrev pub Takes : Bool → (Piece → Type 0) → Fixed → ℕ → ℕ → Lis
 Takes true handed fixed at len old new = Adds handed fixed at len old new
 Takes false handed fixed at len old new = new ≡ old
 
--- each of these bytes is, for each blob with a checked piece's root, that blob's byte at its place, or a collision is exhibited from the piece
-abbrev pub AreOfPiece : Checked → ℕ → List ℕ → Type 0
-AreOfPiece piece at bytes = (blob : List ℕ) → AreBytes blob → hash (piece_mode piece) blob ≡ piece_root piece → (i : ℕ) → i < length bytes
-    → (slice_get blob (at + i) ≡ Some (slice_index bytes i)) ⊎ NamesCollision (piece_mode piece) blob (piece_text piece) (piece_places piece)
+-- Each of these bytes is a checked piece's. For each blob with its root it is that blob's byte at its offset, or a collision is exhibited from the piece.
+pub record AreOfPiece (piece : Checked) (at : ℕ) (bytes : List ℕ) : Type 0 where
+  pub chunks : AllAt (HasByte (piece_text piece) (piece_places piece)) at bytes
+  pub each : (blob : List ℕ) → AreBytes blob → hash (piece_mode piece) blob ≡ piece_root piece
+      → AllAt (IsAt blob (NamesCollision (piece_mode piece) blob (piece_text piece) (piece_places piece))) at bytes
 
 -- so many of a checked piece's bytes follow
 pub record AddsOf (piece : Checked) (at len : ℕ) (old new : List ℕ) : Type 0 where

@@ -29,7 +29,8 @@ pub record HasRoomFor (hasher : Hasher) (len : ℕ) : Type 0 where
   pub holds : Holds hasher mode taken
   pub fits : length taken + len < 2 ^ 64
 
--- These bytes, numbers below 256, from a place on, are those of each blob with the root; they were written, and taken into the hash.
+-- These bytes, numbers below 256, from an offset on, are from slices that are accepted under the root, and those of each blob with it; they were written,
+-- and taken into the hash.
 pub record IsWritten (handed : Piece → Type 0) (fixed : Fixed) (at : ℕ) (bytes : List ℕ) (old new : Option (List ℕ)) (before after : Hasher) : Type 0 where
   pub are : AreBytes bytes
   pub each : AreBytesAt handed fixed at bytes
@@ -40,7 +41,8 @@ pub record IsWritten (handed : Piece → Type 0) (fixed : Fixed) (at : ℕ) (byt
 abbrev pub WroteOf : (Piece → Type 0) → Fixed → ℕ → ℕ → Option (List ℕ) → Option (List ℕ) → Hasher → Hasher → Type 0
 WroteOf handed fixed at len old new before after = (bytes : List ℕ) × (length bytes ≡ len) × IsWritten handed fixed at bytes old new before after
 
--- What was written are bytes of each blob with the root, from a place on, each of them; or a collision is exhibited.
+-- What was written is from slices that are accepted under the root, each byte; and they are bytes of each blob with the root, from this offset on, or a
+-- collision is exhibited.
 abbrev pub IsBegun : (Piece → Type 0) → Fixed → ℕ → Option (List ℕ) → Option (List ℕ) → Type 0
 IsBegun handed fixed at old new = (bytes : List ℕ) × AreBytesAt handed fixed at bytes × Appends old new bytes
 

@@ -149,35 +149,39 @@ fn write_all<R: Threads + Sync, S: Source + Sync, W: Write>(
     Ok(())
 }
 
-/// Gathers the blob with this root, of any length, out of sources that are read by position, as files are, each from a holder that nobody
-/// trusts, writes it to `out`, which is flushed, and answers how many bytes it has.
+/// Gathers the blob with this root, of any length, from untrusted sources that are read by position, such as
+/// files; writes it to `out`, which is flushed; and returns its length in bytes.
 ///
-/// The length is certified first, as `certified_length` says. Then the blob comes in windows of 4,096 chunks, one after another. So many
-/// workers, at least 1 and at most 64, fill a window, each with groups of 64 chunks that follow one another. A group is asked of the sources
-/// in turn, of each at most once, until one has all of its chunks; with `Grain::Chunk` each chunk of a group that none has whole is then
-/// asked for by itself. Beside an outboard encoding sources are asked for as many bytes as the chunks have. A source of which a read
-/// answers a fault has nothing then. A byte is taken only of a slice that is accepted under the root in the mode. A window is written once
-/// all of it is there, by the thread that called, while the next one is filled. So the memory is that of two windows, and of what the
-/// workers fetch, whatever the blob's length.
+/// The length is certified first, as `certified_length` says. Then the blob is gathered in windows of 4,096
+/// chunks. The workers, 1 to 64, fill a window, each with consecutive groups of 64 chunks. A group is asked of
+/// each source at most once, until one has all of its chunks; with `Grain::Chunk` each chunk of a group that no
+/// source has as a whole is then asked for separately. Beside an outboard encoding, sources are asked for
+/// exactly the bytes of the chunks. A source whose read fails supplies nothing then. A byte is used only from a
+/// slice that is accepted under the root in the mode. A complete window is written by the calling thread while
+/// the next is filled, so the memory is that of two windows and of what the workers fetch, whatever the blob's
+/// length.
 ///
-/// 901 `Unfinished` where no source has the last chunk, or some group, nor, where chunks are asked for, some chunk of it, or where the
-/// outboard encoding that plain copies are checked beside is of another root or mode; 805 `TooLarge` where the blob has more chunks than
-/// `capacity`, before a byte is written; 902 `NotTheRoot` where the hash of what was written isn't the root; 903 `Memory` where there is none
-/// for a window, and 911 `Starved` where there is none for what a source gives. `Write` where writing failed. It answers no other fault.
+/// Refuses with 901 `Unfinished` if no source has the last chunk, or none has some group (or, if chunks are
+/// asked for, some chunk of it), or if the outboard encoding is of another root or mode; with 805 `TooLarge` if
+/// the blob has more chunks than `capacity`, before anything is written; with 902 `NotTheRoot` if the hash of
+/// what was written isn't the root; with 903 `Memory` if there is none for a window, and with 911 `Starved` if
+/// there is none for what a source supplies; and with `Write` if writing fails. There are no other refusals.
 ///
-/// Whatever is answered, what was written are bytes of each blob with the root, from the first on, or a collision is exhibited, two different
-/// inputs with one chaining value, one of the blob's and one of a slice's that is accepted under the root and came from one of the sources.
-/// At 805 each blob with the root has more chunks than the capacity, and at 902 there is none, or a collision is exhibited.
+/// Whatever the result, each byte written is, at its offset, in a chunk of a slice that came from a source and is
+/// accepted under the root, even if no blob has this root. The bytes written are the beginning of every blob with
+/// the root; at 805 every such blob has more chunks than the capacity, and at 902 there is none. Or a collision is
+/// exhibited: two different inputs with the same chaining value, one from the blob and one from such a slice.
 ///
-/// Where one of the sources never fails, its bytes are known, and they are the combined encoding of a blob with the root, of at most
-/// `capacity` chunks, that blob is written, or there was no memory, or writing failed, or a collision is exhibited. Nor need any source be
-/// whole: it is enough that what one gives as the slice of the last byte is known to be the blob's, and for each group of the
-/// blob's chunks what one gives as the group's slice, or with `Grain::Chunk` for each chunk as the chunk's.
+/// It suffices that one source never fails, that its bytes are known, and that they are the combined encoding
+/// of a blob with the root of at most `capacity` chunks. The blob is then written, unless memory is refused,
+/// writing fails or a collision is exhibited. If none is complete, it suffices that what some source supplies
+/// as the slice of the last byte is known to be the blob's, and so for each group, or with `Grain::Chunk` each
+/// chunk.
 ///
-/// So it is of plain copies beside the blob's own outboard encoding: one that never fails and whose bytes are the blob is enough. So it is
-/// that what one gives as the last chunk's bytes is known to be the blob's, and for each group, or with `Grain::Chunk` each chunk, what one
-/// gives as its bytes. An outboard encoding that is accepted under the root and claims the blob's length is its own, or a collision is
-/// exhibited ([`outline_binds`](crate::outline_binds)).
+/// The same holds for plain copies beside the blob's own outboard encoding: for one that never fails and is the
+/// blob, or if what some source supplies as the last chunk's bytes is known to be the blob's, and so for each
+/// group, or with `Grain::Chunk` each chunk. An outboard encoding that is accepted under the root and claims
+/// the blob's length is its own, or a collision is exhibited ([`outline_binds`](crate::outline_binds)).
 pub fn write_windows<R: AllocGlobal + Threads + Sync, S: Source + Sync, W: Write>(
     rt: &R,
     wanted: &Wanted<'_>,

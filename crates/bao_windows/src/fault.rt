@@ -4,10 +4,11 @@ use thiserror::Error;
 /// Why a blob was not gathered and written window by window.
 #[derive(Clone, Copy, Debug, PartialEq, Eq, Error)]
 pub enum WindowsFault {
-    /// No blob came together: 805 `TooLarge`, 901 `Unfinished`, 902 `NotTheRoot`, or memory, 903 `Memory` or 911 `Starved`.
+    /// The blob wasn't gathered: 805 `TooLarge`, 901 `Unfinished`, 902 `NotTheRoot`, or for memory 903 `Memory`
+    /// or 911 `Starved`.
     #[error("{0}")]
     Gather(GatherFault),
-    /// The writer answered a fault, or took no byte.
+    /// A write failed or wrote no byte.
     #[error("writing failed")]
     Write,
 }

@@ -108,15 +108,18 @@ fn length_from<S: Source>(
     }
 }
 
-/// The length in bytes of the blob with this root, as the last chunk of the first source certifies it that has it: the slice
-/// (2^64 - 1, 1), or beside an outboard encoding the last chunk of the length that this claims. Each source is asked once, in order.
+/// Returns the length in bytes of the blob with this root, as the last chunk of the first source that has it
+/// certifies: by the slice (2^64 - 1, 1), or beside an outboard encoding by the last chunk of the length that
+/// this claims. Each source is asked at most once, in order.
 ///
-/// It is the length of each blob with the root, or a collision is exhibited, two different inputs with one chaining value, one of the
-/// blob's and one of a slice's that is accepted under the root and came from one of the sources. Beside an outboard encoding it is the one
-/// that this claims. Of the sources before that one what each gave is refused.
+/// It is the length of every blob with the root; or a collision is exhibited: two different inputs with the
+/// same chaining value, one from the blob and one from a slice that came from a source and is accepted under
+/// the root. Beside an outboard encoding it is the length that this claims. What the sources before that one
+/// supplied is refused.
 ///
-/// 911 `Starved` where there is no memory for what a source gives, and 901 `Unfinished` where none has the last chunk: what each gave as that
-/// slice, or beside an outboard encoding of the root as that chunk, isn't accepted, or hasn't the last chunk of the length that it claims.
+/// Refuses with 911 `Starved` if there is no memory for what a source supplies, and with 901 `Unfinished` if
+/// none has the last chunk: what each supplied isn't accepted, or doesn't have the last chunk of the length
+/// that it claims.
 pub fn certified_length<S: Source>(
     alloc: Global,
     wanted: &Wanted<'_>,

@@ -1,4 +1,4 @@
-//! A blob of any length, gathered window by window out of sources that nobody trusts, and written as it comes.
+//! Gathers a blob of any length window by window from untrusted sources, and writes it on the way.
 #![tactic(auto)]
 
 pub use driver::write_windows;

@@ -10,9 +10,10 @@ use store_core::Fixed;
 pub struct Wanted<'a> {
     pub root: Hash,
     pub mode: Mode,
-    /// What the sources give: slices, or bytes of plain copies, which are checked beside an outboard encoding.
+    /// What the sources supply: slices, or bytes of plain copies, which are checked beside an outboard
+    /// encoding.
     pub form: Form<'a>,
-    /// The smallest part that they are asked for.
+    /// The smallest range that they are asked for.
     pub grain: Grain,
 }
 

@@ -11,7 +11,7 @@ use Rattle.gather.specs.declared.grain.Grain.{Grain}
 use Rattle.gather.specs.Available.{HasTrue, HaveSlices, IsFilled, IsServed}
 use Rattle.gather.proofs.Serving.{true_slices}
 use Rattle.gather.specs.Claims.{Among}
-use Rattle.gather.specs.Counts.{HasFailed, Reports}
+use Rattle.gather.specs.Counts.{HasFailedSince, IsToldTooLarge, Reports}
 use Rattle.gather.specs.Encodings.{EncodedBytes, IsCut, encoding}
 use Rattle.gather.specs.Holders.{IsHanded}
 use Rattle.gather.specs.Large.{IsTooLarge}
@@ -39,12 +39,26 @@ has_true text blob holder seat is slices = record {
   gives_slices = λ start len t given. given ∙ subst (λ (whole : List ℕ). HasSlices whole seat blob) (sym is) slices start len;
 }
 
+-- what a round over the one holder comes to where the encoding has the slices of the blob
+pub told_out : {P : Type 0} (grain : Grain) (text : List ℕ) (holder : EncodedBytes) (report report' : Report) (old : Gripped) (blob : List ℕ) → encoding holder ≡ text
+    → HasSlices text old blob
+    → (HaveSlices grain IsCut (fixed_at old).mode blob (holder ∷ []) → HasFailedSince report report' ⊎ IsToldTooLarge report' (IsHanded IsCut (holder ∷ [])) (fixed_at old) ⊎ P)
+    → HasFailedSince report report' ⊎ IsToldTooLarge report' (IsOutOf text) (fixed_at old) ⊎ P
+told_out grain text holder report report' old blob is slices met =
+    let holders : List EncodedBytes = holder ∷ [] in
+    let over : map encoding holders ≡ text ∷ [] = λ i. is i ∷ [] in
+    elim (met (true_slices grain IsCut (fixed_at old).mode blob holders (has_true text blob holder old is slices))) [
+      | inl failed ↦ inl failed
+      | inr (inl now) ↦ inr (inl (now.0, large_wider (IsHanded IsCut holders) (IsOutOf text) (handed_cut holders (text ∷ []) over) (fixed_at old) now.1))
+      | inr (inr done) ↦ inr (inr done)
+    ]
+
 pub gathers : (grain : Grain) (store : Assembly) (text : List ℕ) (holder : EncodedBytes) (later : List EncodedBytes) (report report' : Report) (old new : Gripped)
     → IsKeyed (fixed_of store).mode → encoding holder ≡ text → IsSeatOf store old → IsSeatOf store new
     → Reports fixed_at GoneOn old new (IsHanded IsCut (holder ∷ [])) (IsHanded IsCut later) (sum_by (λ (h : EncodedBytes). 0) (holder ∷ [])) (sum_by (λ (h : EncodedBytes). 0) later) report report'
     → Among (claims_of old) (claims_of new)
     → ((blob : List ℕ) → IsServed (fixed_at old) blob → HaveSlices grain IsCut (fixed_at old).mode blob (holder ∷ [])
-    → HasFailed report' ⊎ IsTooLarge (IsHanded IsCut (holder ∷ [])) (fixed_at old) ⊎ IsFilled RecordsOn HoldsOn IsBusyOn old new blob)
+    → HasFailedSince report report' ⊎ IsToldTooLarge report' (IsHanded IsCut (holder ∷ [])) (fixed_at old) ⊎ IsFilled RecordsOn HoldsOn IsBusyOn old new blob)
     → GathersOn text report report' old new
 gathers grain store text holder later report report' old new keyed is of of' reports claimed served =
     let holders : List EncodedBytes = holder ∷ [] in
@@ -65,6 +79,7 @@ gathers grain store text holder later report report' old new keyed is of of' rep
         answered = reports.answered;
         no_less = reports.no_less;
         too_large = large;
+        stays = reports.stays;
       };
       claimed = claimed;
       binds = seen_binds store new keyed of';
@@ -72,9 +87,5 @@ gathers grain store text holder later report report' old new keyed is of of' rep
         | inl was ↦ inl was
         | inr now ↦ inr (are_longer accepted_binds (IsOutOf text) (fixed_at old) (seat_keyed store old keyed of) now)
       ];
-      served = λ blob can slices. elim (served blob can (true_slices grain IsCut (fixed_at old).mode blob (holder ∷ []) (has_true text blob holder old is slices))) [
-        | inl failed ↦ inl failed
-        | inr (inl now) ↦ inr (inl (wider now))
-        | inr (inr filled) ↦ inr (inr filled)
-      ];
+      served = λ blob can slices. told_out grain text holder report report' old blob is slices (served blob can);
     }

@@ -1,4 +1,4 @@
--- What calls of a seat come to: slices that C hands to a store, and what the store answers.
+-- The results of a seat's calls: slices that C passes to a store, and what the store returns.
 use Rattle.std.specs.Prelude.{◌⊎◌, ℕ, List, length, Option}
 use Rattle.bao_check.specs.Accepted.{IsAccepted, slice_nodes}
 use Rattle.store_calls.specs.Parents.{SeatParentsBind}
@@ -18,7 +18,7 @@ use Rattle.store_shared.specs.Seats.{Gripped, fixed_of}
 use Rattle.store_core.specs.Knowledge.{AreAllNames, AreMet, Called, KeepsClaims, NoneIsClaimedByBoth}
 use Rattle.berylwool.specs.Status.{IsRefused}
 
--- the piece that an encoding is, as the slice of `len` bytes from byte `start` on, to a store from this chunk of the blob on
+-- the accepted slice (start, len) that an encoding is, in a store from chunk `base` of the blob on
 abbrev pub slice_piece : ℕ → List ℕ → ℕ → ℕ → Piece
 slice_piece base text start len = record { base = base; start = start; len = len; text = text }
 
@@ -26,44 +26,49 @@ slice_piece base text start len = record { base = base; start = start; len = len
 abbrev pub IsSliceOf : Assembly → List ℕ → ℕ → ℕ → Type 0
 IsSliceOf store text start len = IsAccepted (fixed_of store).mode (fixed_of store).root.0 text (slice_nodes text start len)
 
--- or the status and the place are those of its first fault
+-- the status and the offset are those of the encoding's first fault as this slice
 abbrev pub IsNoSliceOf : Assembly → List ℕ → ℕ → ℕ → ℕ → ℕ → Type 0
 IsNoSliceOf store text start len status at = IsRefused (fixed_of store).mode (fixed_of store).root.0 text (slice_nodes text start len) status at
 
--- Chunks of the piece are stored: an event of the store, and for each blob with its root they are the blob's or a collision is exhibited.
+-- Chunks of the slice are stored: an event of the store; and for each blob with its root they are the blob's,
+-- or a collision is exhibited.
 pub record Commits (store : Assembly) (group : ℕ) (piece : Piece) (committed : ℕ) (old new : Gripped) : Type 0 where
   pub called : Called (Commit group piece committed) old.view new.view
   pub binds : ChunksBind (fixed_of store) piece group committed
 
--- Parents of the piece are stored: an event of the store, and for each blob with its root those that the seat has seen held are the blob's
--- or a collision is exhibited. Where the seat has all names, all that the piece has at the group's boundaries are held then.
+-- Parents of the slice are stored: an event of the store; and for each blob with its root the parents that the
+-- seat has seen held are the blob's, or a collision is exhibited. If the seat has all names, all parents of the
+-- slice at the group's boundaries are then held.
 pub record StoresParents (group : ℕ) (piece : Piece) (stored : ℕ) (old new : Gripped) : Type 0 where
   pub called : Called (Parents group piece (Stored stored)) old.view new.view
   pub binds : SeatParentsBind new.view
   pub held : AreAllNames old.view.names → AreParentsHeld new.view group piece
 
--- the piece's length is recorded: now, or as it was
+-- the length of the slice is recorded, by this call or before
 abbrev pub HasSettled : Piece → SeatView → SeatView → Type 0
 HasSettled piece old new = Called (Settle piece Settled) old new ⊎ Called (Settle piece Known) old new
 
--- A read fills a buffer: an event of the store, and for each blob with its root the bytes are the blob's or a collision is exhibited.
+-- A read fills a buffer: an event of the store; and for each blob with its root the bytes are the blob's, or a
+-- collision is exhibited.
 pub record Reads (at : ℕ) (before after : List ℕ) (missing : Option ℕ) (old new : Gripped) : Type 0 where
   pub did : SeatDidRead old.view new.view at before after missing
   pub binds : SeatReadBinds new.view at after (filled_count at (length before) missing)
 
--- A slice is served: an event of the store, and for each blob with its root the encoding is the blob's slice or a collision is exhibited. It is
--- accepted under the root, a blob's hash or not, or two pieces that it was put together of clash.
+-- A slice is served: an event of the store; and for each blob with its root the encoding is the blob's slice,
+-- or a collision is exhibited. Whether or not the root is a blob's hash, the encoding is accepted under it, or
+-- two accepted slices that it was assembled from clash.
 pub record Serves (start len : ℕ) (text : List ℕ) (old new : Gripped) : Type 0 where
   pub called : Called (Serve start len (Text text)) old.view new.view
   pub binds : SeatSliceBinds new.view start len text
   pub accepted : SeatSliceIsAccepted new.view start len text
 
--- A slice isn't served, for want of a length or a node: an event of the store, whose seat had not seen all of it held.
+-- A slice isn't served, because a length or a node is missing: an event of the store. The seat had not seen all
+-- of the slice held.
 pub record LacksSlice (start len : ℕ) (answer : Serving) (old new : Gripped) : Type 0 where
   pub called : Called (Serve start len answer) old.view new.view
   pub some : ¬ HasSliceHeld old.view start len
 
--- Two seats have met: both have seen one history, and claim what they claimed, of which no chunk is claimed by both.
+-- Two seats have met: both have seen one history and keep their claims, and no chunk is or was claimed by both.
 pub record HaveMet (first second first' second' : Gripped) : Type 0 where
   pub met : AreMet first.view second.view first'.view second'.view
   pub first_keeps : KeepsClaims first.view first'.view

@@ -4,16 +4,18 @@ use Rattle.bao_text.specs.Cut.{claimed}
 use Rattle.store_core.specs.declared.history.Piece.{Piece}
 use Rattle.store_core.specs.Pieces.{chunk_bytes}
 
--- the byte at position q of the blob, if the piece has it
+-- byte q of the blob, if the slice has it
 abbrev pub byte_of : Piece → ℕ → Option ℕ
 byte_of piece q = option_and_then (λ bytes. slice_get bytes (q % 1024)) (chunk_bytes piece (q / 1024))
 
--- These are the piece's bytes from position `start` on: `most` of them, or those before the first that it hasn't.
+-- These are the slice's bytes from byte `start` of the blob on: `most` of them, or those before the first that
+-- the slice lacks.
 pub record AreBytesOf (piece : Piece) (start most : ℕ) (bytes : List ℕ) : Type 0 where
   pub within : length bytes ≤ most
   pub are : (i : ℕ) → i < length bytes → byte_of piece (start + i) ≡ slice_get bytes i
   pub ends : length bytes < most → byte_of piece (start + length bytes) ≡ None
 
--- how many bytes are asked of an encoding: those of the range that are below the length that it claims
+-- how many bytes of the blob are asked for: those of the range that are below the length that the encoding
+-- claims
 abbrev pub asked_size : List ℕ → ℕ → ℕ → ℕ
 asked_size text start len = if nat_lt (length text) 8 then 0 else min (claimed text) (start + len) - start

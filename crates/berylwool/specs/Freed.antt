@@ -1,14 +1,14 @@
--- The memory of a handle that C hands in by its pointer, which may be null.
+-- The memory of a handle that C passes as a pointer, which may be null.
 use Rattle.std.specs.Prelude.{◌≡◌, None}
 use Rattle.core.specs.Ptr.{Ptr, if_non_null, points_to}
 use base.Fml.{Fml, fex}
 use Rattle.berylwool.specs.declared.handle.BwHandle.{BwHandle}
 use Rattle.berylwool.specs.contracts.handle.BwHandle.{the_row}
 
--- such a handle lies there, if the pointer isn't null
+-- this handle is at the pointer, unless that is null
 abbrev pub handle_at : Ptr → BwHandle → Fml
 handle_at p handle = if_non_null p (points_to the_row p handle)
 
--- one lies there that owns nothing
+-- an empty handle is at the pointer, unless that is null
 abbrev pub empty_at : Ptr → Fml
 empty_at p = if_non_null p (fex BwHandle (λ handle. fex (handle.held ≡ None) (λ _. points_to the_row p handle)))

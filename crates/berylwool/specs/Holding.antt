@@ -3,12 +3,12 @@ use Rattle.std.specs.Prelude.{◌≡◌, ℕ, ◌+◌, ◌*◌, ◌^◌, List, [
 use Rattle.store_calls.specs.Reading.{SeatDidRead}
 use Rattle.store_core.specs.declared.view.SeatView.{SeatView}
 
--- the bit of a chunk of a group that is held
+-- the bit of a chunk of a group, if it is held
 abbrev pub held_bit : ℕ → Option ℕ → ℕ
 held_bit j None = 2 ^ j
 held_bit j (Some position) = 0
 
--- Chunk j of a group was asked for its first byte, by a read of the seat's: its bit is told exactly where that was held.
+-- The seat read the first byte of chunk j of a group; the chunk's bit is set exactly if that byte was held.
 pub record LooksAt (group j bit : ℕ) (old new : SeatView) : Type 0 where
   pub byte : List ℕ
   pub missing : Option ℕ

@@ -10,6 +10,7 @@ pub mod Outboards
 pub mod Outlines
 pub mod Pairs
 pub mod Placed
+pub mod Plans
 pub mod CNodes
 pub mod Ranges
 pub mod Status

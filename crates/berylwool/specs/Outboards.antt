@@ -1,4 +1,4 @@
--- Outboard encodings that come in pieces, as C is told of them.
+-- Outboard encodings that are checked in pieces, as C sees them.
 use Rattle.std.specs.Prelude.{◌≡◌, ◌⊎◌, ℕ, List}
 use Rattle.b3tree.specs.declared.mode.Mode.{Mode}
 use Rattle.bao_check.specs.declared.fault.CheckFault.{CheckFault}
@@ -12,10 +12,11 @@ use Rattle.berylwool.specs.Status.{IsRefused, IsStatusOf}
 abbrev pub IsWhole : OutboardFeed → Type 0
 IsWhole feed = IsAccepted (feed_mode feed) (feed_root feed) (feed_text feed) (outboard_nodes (feed_text feed))
 
--- or the status and the place are those of their first fault
+-- the status and the offset are those of the first fault of the bytes so far
 abbrev pub IsNotWhole : ℕ → ℕ → OutboardFeed → Type 0
 IsNotWhole status at feed = IsRefused (feed_mode feed) (feed_root feed) (feed_text feed) (outboard_nodes (feed_text feed)) status at
 
--- the status and the place are those of the first fault of each outboard encoding that begins with these bytes
+-- the status and the offset are those of the first fault of every outboard encoding that begins with these
+-- bytes
 abbrev pub IsRefusedFrom : Mode → List ℕ → List ℕ → ℕ → ℕ → Type 0
 IsRefusedFrom mode root text status at = (fault : CheckFault) × IsStatusOf fault status at × IsFaultFrom mode root text fault

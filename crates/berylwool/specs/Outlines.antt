@@ -1,4 +1,4 @@
--- Outboard encodings that handles keep, and what they make with chunks of a plain copy beside them.
+-- Outlines, which are outboard encodings that handles keep, and the slices made from them and chunks.
 use Rattle.std.specs.Prelude.{◌≡◌, ℕ, ◌+◌, ◌*◌, ◌<◌, ◌≤◌, List}
 use Rattle.b3tree.specs.declared.mode.Mode.{Mode}
 use Rattle.bao_check.specs.Accepted.{outboard_nodes, places_of}
@@ -27,45 +27,47 @@ outlined_root it = it.root.0
 abbrev pub outlined_text : Outlined → List ℕ
 outlined_text it = it.text.items
 
--- the outline is this encoding, under the root in the mode
+-- the outline is this encoding, accepted under the root in the mode
 pub record IsOutlined (mode : Mode) (root text : List ℕ) (it : Outlined) : Type 0 where
   pub mode_is : outlined_mode it ≡ mode
   pub root_is : outlined_root it ≡ root
   pub text_is : outlined_text it ≡ text
 
--- so many chunks from chunk `first` on are some of those of the length that an outboard encoding claims, and at least one
+-- `count` is at least 1, and the length that an outboard encoding claims has all of the `count` chunks from
+-- chunk `first` on
 abbrev pub HasChunks : List ℕ → ℕ → ℕ → Type 0
 HasChunks text first count = (1 ≤ count) × (first + count ≤ chunk_count (claimed text))
 
--- these are the bytes of such chunks, by the outline
+-- the length that the outline claims has these chunks, and by the outline `chunks` are their bytes
 abbrev pub AreBeside : ℕ → ℕ → List ℕ → Outlined → Type 0
 AreBeside first count chunks it =
     HasChunks (outlined_text it) first count × AreBare (outlined_mode it) (outlined_root it) (outlined_text it) first count chunks
 
--- or the status and the place are those of their first fault
+-- the status and the offset are those of the first fault of these chunks
 abbrev pub AreNotBeside : ℕ → ℕ → List ℕ → ℕ → ℕ → Outlined → Type 0
 AreNotBeside first count chunks status at it =
     IsBareRefused (outlined_mode it) (outlined_root it) (outlined_text it) first count chunks status at
 
--- the slice encoding that an outboard encoding makes with the bytes of chunks
+-- the slice that an outboard encoding and the bytes of chunks make
 abbrev pub bare_text : List ℕ → ℕ → ℕ → List ℕ → List ℕ
 bare_text text first count chunks = beside_text text (1024 * first) (bare_part count) chunks
 
--- the piece that it is, to a store from this chunk of the blob on
+-- the accepted slice that an outboard encoding and the bytes of chunks make, in a store from chunk `base` of
+-- the blob on
 abbrev pub bare_piece : ℕ → List ℕ → ℕ → ℕ → List ℕ → Piece
 bare_piece base text first count chunks = slice_piece base (bare_text text first count chunks) (1024 * first) (bare_part count)
 
--- the outline is of a store's root and mode
+-- the outline is of the store's root and mode
 abbrev pub IsOfStore : Fixed → Outlined → Type 0
 IsOfStore fixed it = (it.root ≡ fixed.root) × (it.mode ≡ fixed.mode)
 
--- The subtree over n bytes from chunk `number` on has its parents among places from the place `at` on, and there each is
--- found that it has.
+-- The parents of the subtree over n bytes from chunk `number` on are among the nodes at these offsets, from
+-- offset `at` on: each parent that the subtree has is found there.
 pub record HasParentsAmong (places : List (ℕ × TreeNode)) (own : Choice) (number n : ℕ) (sides : List Side) (source at : ℕ) : Type 0 where
   pub wants : WantsParents own number n
   pub same : (m : ℕ) → number < m → m < number + chunk_count n
       → parent_place places m ≡ parent_place (placed_nodes at (subtree_nodes own number n sides source)) m
 
--- among those of an outboard encoding
+-- the parents of the subtree are among the nodes of an outboard encoding, from offset `at` on
 abbrev pub HasParentsAt : List ℕ → Choice → ℕ → ℕ → List Side → ℕ → ℕ → Type 0
 HasParentsAt text own number n sides source at = HasParentsAmong (places_of (outboard_nodes text)) own number n sides source at

@@ -1,4 +1,4 @@
--- Faults as C has them: a number and a place.
+-- Faults as C has them: a number and an offset.
 use Rattle.std.specs.Prelude.{◌≡◌, ◌⊎◌, ℕ, List}
 use Rattle.b3tree.specs.declared.mode.Mode.{Mode}
 use Rattle.bao_text.specs.Nodes.{TreeNode}
@@ -7,7 +7,7 @@ use Rattle.bao_check.specs.declared.fault.CheckFault.TheVariants.{Short, Mismatc
 use Rattle.bao_check.specs.Bare.{IsBareFault}
 use Rattle.bao_check.specs.Faults.{IsFirstFault, number_of}
 
--- where a fault is
+-- the offset of the fault
 abbrev pub place_of : CheckFault → ℕ
 place_of (Short at) = at
 place_of (Mismatch at) = at
@@ -15,19 +15,20 @@ place_of (Trailing at) = at
 place_of Memory = 0
 place_of Reader = 0
 
--- the number of the fault, and where it is
+-- the status and the offset are those of the fault
 abbrev pub IsStatusOf : CheckFault → ℕ → ℕ → Type 0
 IsStatusOf fault status at = (status ≡ number_of fault) × (at ≡ place_of fault)
 
--- the status and the place are those of the encoding's first fault, by these nodes
+-- the status and the offset are those of the first fault of an encoding that should have these nodes
 abbrev pub IsRefused : Mode → List ℕ → List ℕ → List TreeNode → ℕ → ℕ → Type 0
 IsRefused mode root text nodes status at = (fault : CheckFault) × IsStatusOf fault status at × IsFirstFault mode root text nodes fault
 
--- or of the chunks beside an outboard encoding
+-- the status and the offset are those of the first fault of chunks beside an outboard encoding
 abbrev pub IsBareRefused : Mode → List ℕ → List ℕ → ℕ → ℕ → List ℕ → ℕ → ℕ → Type 0
 IsBareRefused mode root outboard first count chunks status at =
     (fault : CheckFault) × IsStatusOf fault status at × IsBareFault mode root outboard first count chunks fault
 
--- the status says that memory was refused: for an encoding, a store, a seat, a slice that is served, or what a handle owns
+-- the status says that memory was refused: for an encoding, a store, a seat, a slice that is served, or what a
+-- handle owns
 abbrev pub IsOfMemory : ℕ → Type 0
 IsOfMemory status = (status ≡ 401) ⊎ (status ≡ 801) ⊎ (status ≡ 806) ⊎ (status ≡ 810) ⊎ (status ≡ 1203)

@@ -1,4 +1,4 @@
--- What storing all that a piece has comes to: its chunks, group after group, and then its parents.
+-- Storing all that a slice has: its chunks, group after group, and then its parents.
 use Rattle.std.specs.Prelude.{◌≡◌, ◌≢◌, ◌⊎◌, ℕ, zero, suc, ◌+◌, ◌/◌, Bool, false, count_ones, Option, Some}
 use Rattle.store_calls.specs.Parents.{SeatParentsBind}
 use Rattle.store_core.specs.declared.fixed.Fixed.{Fixed}
@@ -13,14 +13,15 @@ use Rattle.store_core.specs.Pieces.{holds_chunk, holds_parent, length_of}
 use Rattle.store_core.specs.Stores.{ChunksBind}
 use Rattle.store_shared.specs.Calls.{AreParentsHeld}
 
--- The piece has none of a group's: nothing is done.
+-- The slice has nothing of the group, and nothing is done.
 pub record Passes (has : ℕ → Bool) (group count : ℕ) (old new : SeatView) : Type 0 where
   pub none : (c : ℕ) → c / 64 ≡ group → has c ≡ false
   pub count_is : count ≡ 0
   pub same : new ≡ old
 
--- Of a group's chunks, those that the piece has are claimed, as far as nobody holds or claims them, and those that the seat claims then and the
--- piece has are stored. For each blob with the store's root they are the blob's, or a collision is exhibited.
+-- Those chunks of a group that the slice has and nobody holds or claims are claimed, and those that the seat
+-- then claims and the slice has are stored. For each blob with the store's root they are the blob's, or a
+-- collision is exhibited.
 pub record ClaimsAndCommits (fixed : Fixed) (piece : Piece) (group count : ℕ) (old new : SeatView) : Type 0 where
   pub want : ℕ
   pub granted : ℕ
@@ -35,7 +36,8 @@ pub record ClaimsAndCommits (fixed : Fixed) (piece : Piece) (group count : ℕ) 
 abbrev pub CommitsGroup : Fixed → Piece → ℕ → ℕ → SeatView → SeatView → Type 0
 CommitsGroup fixed piece group count old new = Passes (λ c. holds_chunk piece c) group count old new ⊎ ClaimsAndCommits fixed piece group count old new
 
--- Of a group's boundaries, the parents are stored that the piece has. Where the seat has all names, all of them are held then.
+-- The parents that the slice has at a group's boundaries are stored. If the seat has all names, all of them are
+-- then held.
 pub record StoresSome (piece : Piece) (group count : ℕ) (old new : SeatView) : Type 0 where
   pub mask : ℕ
   pub stores : Called (Parents group piece (Stored mask)) old new
@@ -46,13 +48,14 @@ pub record StoresSome (piece : Piece) (group count : ℕ) (old new : SeatView) :
 abbrev pub StoresGroup : Piece → ℕ → ℕ → SeatView → SeatView → Type 0
 StoresGroup piece group count old new = Passes (λ m. holds_parent piece m) group count old new ⊎ StoresSome piece group count old new
 
--- a step for each group below `end`, in order, with what they count together
+-- a step for each group below `end`, in order, with the sum of what they count
 unfoldable pub EachGroup : (ℕ → ℕ → SeatView → SeatView → Type 0) → ℕ → ℕ → SeatView → SeatView → Type 0
 EachGroup step zero count old new = (count ≡ 0) × (new ≡ old)
 EachGroup step (suc group) count old new =
     (before one : ℕ) × (between : SeatView) × EachGroup step group before old between × step group one between new × (count ≡ before + one)
 
--- The recorded length is the one that the piece claims. Then each chunk of it is stored that nobody else has or claims, and each parent.
+-- The recorded length is the one that the slice claims. Each chunk of the slice that nobody else holds or
+-- claims is then stored, and each parent.
 pub record StoresAll (fixed : Fixed) (piece : Piece) (chunks parents : ℕ) (old new : SeatView) : Type 0 where
   pub asked : SeatView
   pub committed : SeatView
@@ -60,7 +63,7 @@ pub record StoresAll (fixed : Fixed) (piece : Piece) (chunks parents : ℕ) (old
   pub commits : EachGroup (CommitsGroup fixed piece) (groups fixed) chunks asked committed
   pub stores : EachGroup (StoresGroup piece) (groups fixed) parents committed new
 
--- Another length is recorded than the piece claims, or none is.
+-- The recorded length isn't the one that the slice claims, or none is recorded.
 pub record IsOfOther (piece : Piece) (old new : SeatView) : Type 0 where
   pub recorded : Option ℕ
   pub length_is : Called (Length recorded) old new

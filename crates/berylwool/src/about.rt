@@ -3,7 +3,7 @@ ghost use Rattle.berylwool.specs.Status.{IsOfMemory};
 
 use crate::status::{NO_MEMORY, SERVE_MEMORY, SPLIT_MEMORY, STORE_MEMORY, TEXT_MEMORY};
 
-/// The library's version: 10,000 times its first number, 100 times its second, and its third.
+/// Returns the library's version: 10,000 * major + 100 * minor + patch.
 #[unsafe(no_mangle)]
 pub extern "C" fn bw_version() -> u32
     ensures { result ≡ 100 }
@@ -11,7 +11,9 @@ pub extern "C" fn bw_version() -> u32
     100
 }
 
-/// Whether a status says that memory was refused: 1 if it does, and else 0.
+/// Returns 1 if the status means that memory was refused, else 0.
+///
+/// It is 1 for 401, 801, 806, 810 and 1203.
 #[unsafe(no_mangle)]
 pub extern "C" fn bw_is_memory(status: u32) -> u32
     ensures memory { result ≡ 1 ↔ IsOfMemory status }

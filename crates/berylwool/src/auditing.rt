@@ -14,7 +14,7 @@ use bao_bind::{Verdict, audit};
 use bao_check::check_slice;
 use std::alloc::Global;
 
-/// What one compression takes in (BLAKE3 paper, 2.2), as C has it.
+/// The inputs of one compression (BLAKE3 paper, 2.2), as C has them.
 #[repr(C)]
 #[derive(Clone, Copy)]
 pub struct BwInput {
@@ -25,7 +25,7 @@ pub struct BwInput {
     pub d: u32,
 }
 
-// An input for C.
+// The inputs as C has them.
 fn shown(input: &Input) -> BwInput
     ensures { input_of result ≡ input.now }
 {
@@ -40,12 +40,14 @@ fn shown(input: &Input) -> BwInput
     }
 }
 
-/// Audits `text`, the slice of `len` bytes from byte `start` on of the blob with the hash `root`, against `blob`.
+/// Checks `text` as the slice (`start`, `len`) of the blob with the hash `root`, and compares it with `blob`.
 ///
-/// 1213 exactly where the mode's kind is unknown. 0 where the encoding is accepted and each chunk of it is the blob's, and the length that it
-/// certifies, if it does, is the blob's. 501 to 503 as `bw_check_slice`. 601 exactly where it is accepted and the hash of `blob` isn't `root`. 602
-/// where a collision is exhibited: `ours` is one of those that hashing the blob compresses, and `theirs` one of those that checking the
-/// encoding compresses.
+/// Returns 0 only if the encoding is accepted, each of its chunks is the blob's, and the length that it
+/// certifies, if it does, is the blob's. Returns 1213 exactly if the mode's kind is unknown. If the encoding
+/// isn't accepted, returns 501 to 503 as `bw_check_slice` does, with the offset in `at`. If it is accepted,
+/// returns 601 exactly if the hash of `blob` isn't `root`. Returns 602 only if a collision is exhibited:
+/// hashing the blob compresses `ours`, checking the encoding compresses `theirs`, and the two differ and have
+/// the same chaining value.
 #[unsafe(no_mangle)]
 pub extern "C" fn bw_audit(
     alloc: Global,

@@ -12,7 +12,7 @@ use b3tree::Hash;
 use bao_check::{CheckFault, bare_fits, check_bare, check_combined, check_outboard, check_slice};
 use std::alloc::Global;
 
-// The number of a fault, and its place.
+// Returns the number of a fault, and its offset in `at`.
 pub(crate) fn told(fault: &CheckFault, at: &mut u64) -> u32
     ensures status { IsStatusOf fault.now result at.new }
     ensures from { 500 < result }
@@ -25,10 +25,11 @@ pub(crate) fn told(fault: &CheckFault, at: &mut u64) -> u32
     u32::from(fault.code())
 }
 
-/// Checks `text` as the slice of `len` bytes from byte `start` on of the blob with the hash `root`.
+/// Checks `text` as the slice (`start`, `len`) of the blob with the hash `root`.
 ///
-/// 1213 exactly where the mode's kind is unknown. Else 0 exactly where it is accepted, and else its first fault, 501 short, 502 mismatch or 503
-/// trailing, and at which byte of the encoding, in `at`.
+/// Returns 0 exactly if it is accepted, and 1213 exactly if the mode's kind is unknown. Otherwise returns the
+/// encoding's first fault, with its offset in `at`: 501 if the encoding ends within the node that begins there,
+/// 502 if that node is damaged, and 503 if something follows the last node.
 #[unsafe(no_mangle)]
 pub extern "C" fn bw_check_slice(
     alloc: Global,
@@ -52,7 +53,9 @@ pub extern "C" fn bw_check_slice(
     }
 }
 
-/// Checks `text` as the combined encoding of the blob with the hash `root`, as `bw_check_slice` does.
+/// Checks `text` as the combined encoding of the blob with the hash `root`.
+///
+/// Its results are those of `bw_check_slice`.
 #[unsafe(no_mangle)]
 pub extern "C" fn bw_check_combined(
     alloc: Global,
@@ -74,7 +77,9 @@ pub extern "C" fn bw_check_combined(
     }
 }
 
-/// Checks `text` as the outboard encoding of the blob with the hash `root`, as `bw_check_slice` does.
+/// Checks `text` as the outboard encoding of the blob with the hash `root`.
+///
+/// Its results are those of `bw_check_slice`.
 #[unsafe(no_mangle)]
 pub extern "C" fn bw_check_outboard(
     alloc: Global,
@@ -96,12 +101,14 @@ pub extern "C" fn bw_check_outboard(
     }
 }
 
-/// Checks `chunks` as the bytes of the chunks from chunk `first` on, `count` in number, of the blob with the hash `root`: a part of a plain
-/// copy, beside the blob's outboard encoding, which is checked with them.
+/// Checks a range of a plain copy against the outboard encoding of the blob with the hash `root`, which is
+/// checked as well.
 ///
-/// 1213 exactly where the mode's kind is unknown. Else 0 where both are accepted. 1209 exactly where the outboard encoding isn't:
-/// `bw_check_outboard` tells its fault. 1210 where `count` is 0, or the length that it claims has no such chunks. Else the first fault of the
-/// chunks, 501 to 503, and at which byte of `chunks`, in `at`.
+/// `chunks` has the bytes of chunks `first` to `first + count - 1` of the blob. Returns 0 only if both are
+/// accepted. Returns 1213 exactly if the mode's kind is unknown, and else 1209 exactly if the outboard encoding
+/// isn't accepted; `bw_check_outboard` returns its fault. Returns 1210 only if `count` is 0 or the length that
+/// the outboard encoding claims doesn't have all of these chunks. Otherwise returns the first fault of
+/// `chunks`, 501 to 503, with its offset in `chunks` in `at`.
 #[unsafe(no_mangle)]
 pub extern "C" fn bw_check_bare(
     alloc: Global,

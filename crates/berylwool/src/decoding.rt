@@ -16,7 +16,8 @@ use bao_text::{LENGTH_LEN, claimed};
 use std::alloc::Global;
 use store_core::put_bytes;
 
-// How many bytes of the blob are asked of an encoding: those of the range that are below the length that it claims.
+// How many bytes of the blob are asked for: those of the range that are below the length that the encoding
+// claims.
 fn asked(text: &[u8], start: u64, len: u64) -> u64
     ensures value { result ≡ asked_size text.now start len }
     ensures end { start + result < 2 ^ 64 }
@@ -29,7 +30,8 @@ fn asked(text: &[u8], start: u64, len: u64) -> u64
         .saturating_sub(start)
 }
 
-// The bytes of the piece from byte `at` of the blob on, to the end of their chunk and at most `most`, if there are any.
+// The slice's bytes from byte `at` of the blob to the end of their chunk, at most `most`; none if it lacks that
+// byte.
 fn bytes_at<'a>(piece: &Checked<'a>, at: u64, most: usize) -> Option<&'a [u8]>
     ensures some { IfSome result (λ bytes. (0 < length bytes.now) × (length bytes.now ≤ most)) }
     ensures are { IfSome result (λ bytes. (i : ℕ) → i < length bytes.now → byte_of (piece_of 0 piece.now) (at + i) ≡ slice_get bytes.now i) }
@@ -45,7 +47,8 @@ fn bytes_at<'a>(piece: &Checked<'a>, at: u64, most: usize) -> Option<&'a [u8]>
     Some(&bytes[within..within + count])
 }
 
-// Fills a buffer with the bytes of the piece from byte `start` of the blob on, up to the first that it hasn't, and answers how many.
+// Copies the slice's bytes from byte `start` of the blob on, up to the first that it lacks, and returns how
+// many.
 fn copied(piece: &Checked<'_>, start: u64, out: &mut [u8]) -> usize
     requires { start + length out.old < 2 ^ 64 }
     ensures bytes { AreBytesOf (piece_of 0 piece.now) start (length out.old) (take result out.new) }
@@ -61,12 +64,16 @@ fn copied(piece: &Checked<'_>, start: u64, out: &mut [u8]) -> usize
     filled
 }
 
-/// Checks `text` as the slice of `len` bytes from byte `start` on of the blob with the hash `root`, and puts the blob's bytes of that range to
-/// the start of `out`, and how many they are to `used`: those below the length that the encoding claims. `total` is that length where the
-/// encoding has the last chunk, and so certifies it, and else 2^64 - 1. It takes no memory, and writes no byte that wasn't verified.
+/// Checks `text` as the slice (`start`, `len`) of the blob with the hash `root`, and copies the blob's bytes of
+/// that range to the front of `out`.
 ///
-/// 1213 exactly where the mode's kind is unknown, asked before all else. 1201 exactly where it is known and `out` has no room, asked next, with how many
-/// bytes there would be in `used`. 501 to 503 as `bw_check_slice`, with the place in `at`. `out` is unchanged then.
+/// These are the `len` bytes from byte `start` on, or those of them below the length that the encoding claims;
+/// `used` is their number. `total` is the blob's length if the encoding certifies it by having the last chunk,
+/// else 2^64 - 1. No memory is taken.
+///
+/// Returns 1213 exactly if the mode's kind is unknown, before all else, and then 1201 exactly if `out` has
+/// fewer bytes than are asked for, with their number in `used`. If the encoding isn't accepted, returns 501 to
+/// 503 as `bw_check_slice` does, with the offset in `at`. After any of these, `out` is unchanged.
 #[unsafe(no_mangle)]
 pub extern "C" fn bw_decode(
     alloc: Global,

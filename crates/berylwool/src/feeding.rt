@@ -16,7 +16,7 @@ use bao_check::Checking;
 use bao_text::LENGTH_LEN;
 use std::alloc::Global;
 
-// What a node is. The first two are as in `BwNode`.
+// The kinds of nodes. The first two are those of `BwNode`.
 const PARENT: u32 = 0;
 
 const CHUNK: u32 = 1;
@@ -25,10 +25,11 @@ const LENGTH: u32 = 2;
 
 const NO_NODE: u32 = 3;
 
-/// Makes a check in pieces of an encoding as the slice of `len` bytes from byte `start` on of the blob with the hash `root`. It has taken nothing.
-/// What the handle owned is freed.
+/// Makes a check in pieces of the slice (`start`, `len`) of the blob with the hash `root`, which has no bytes
+/// yet.
 ///
-/// 1213 exactly where the mode's kind is unknown, and 1203 when out of memory: the handle is empty then.
+/// What the handle owned is freed. Returns 1213 exactly if the mode's kind is unknown, or 1203 if out of
+/// memory; the handle is then empty.
 #[unsafe(no_mangle)]
 pub extern "C" fn bw_feed_slice(
     alloc: Global,
@@ -58,7 +59,10 @@ pub extern "C" fn bw_feed_slice(
     }
 }
 
-/// Makes a check in pieces of an encoding as the combined encoding of the blob with the hash `root`, as `bw_feed_slice` does.
+/// Makes a check in pieces of the combined encoding of the blob with the hash `root`, which has no bytes yet.
+///
+/// What the handle owned is freed. Returns 1213 exactly if the mode's kind is unknown, or 1203 if out of
+/// memory; the handle is then empty.
 #[unsafe(no_mangle)]
 pub extern "C" fn bw_feed_combined(
     alloc: Global,
@@ -75,7 +79,7 @@ pub extern "C" fn bw_feed_combined(
     bw_feed_slice(alloc, mode, root, 0, u64::MAX, feed)
 }
 
-// How many bytes are wanted, as `bw_feed_wants` tells it.
+// The size of the next node, as `bw_feed_wants` returns it.
 fn size_wanted(check: &Checking) -> usize
     ensures value { result ≡ size_told (wanted check.now) }
     ensures most { result ≤ 1024 }
@@ -85,11 +89,13 @@ fn size_wanted(check: &Checking) -> usize
     check.wants().unwrap_or(0)
 }
 
-/// What `bw_feed_take` takes next, in `node`, and how many bytes it has, in `size`: 2 is the length, of 8 bytes, 0 a parent, of 64, and 1 a chunk, of 1
-/// to 1,024. 3 with the size 0 is nothing, exactly where what was taken is an accepted encoding. An encoding that ends before so many more is
-/// short (501) at this place.
+/// Returns the kind of the next node in `node`, and its size in bytes in `size`. The check is unchanged.
 ///
-/// 1202 exactly where the handle has no check in pieces: `node` and `size` are as they were then.
+/// The kind is 2 for the length, of 8 bytes, 0 for a parent, of 64, and 1 for a chunk, of 1 to 1,024. It is 3,
+/// with a size of 0, exactly if the bytes accepted so far are an accepted encoding. An encoding that ends
+/// within the next node is short (501) at the offset where that node begins.
+///
+/// Returns 1202 exactly if the handle has no check in pieces; `node` and `size` are then unchanged.
 #[unsafe(no_mangle)]
 pub extern "C" fn bw_feed_wants(
     alloc: Global,
@@ -115,7 +121,7 @@ pub extern "C" fn bw_feed_wants(
     })
 }
 
-// What the node is that comes next, as `bw_feed_wants` tells it.
+// The kind of the next node, as `bw_feed_wants` returns it.
 fn node_wanted(check: &Checking) -> u32
     ensures value { result ≡ next_told check.now }
     ensures first { OfTaken (λ task taken. result ≡ 2 ↔ length taken ≡ 0) check.now }
@@ -130,7 +136,7 @@ fn node_wanted(check: &Checking) -> u32
     if size == LENGTH_LEN { LENGTH } else { PARENT }
 }
 
-// Takes a node, as `bw_feed_take` does.
+// Verifies a node, as `bw_feed_take` does.
 fn taken(check: &mut Checking, node: &[u8], at: &mut u64) -> u32
     ensures taken { result ≡ 0 → (task : CheckTask) (taken : List ℕ) → HasTakenAs check.old task taken → HasTakenAs check.new task (taken ++ node.now) }
     ensures decoded { result ≡ 0 → (task : CheckTask) (taken blob : List ℕ) → HasDecodedAs check.old task taken blob
@@ -150,11 +156,14 @@ fn taken(check: &mut Checking, node: &[u8], at: &mut u64) -> u32
     }
 }
 
-/// Takes the node that comes next, as many bytes as `bw_feed_wants` says, and verifies it. A chunk's bytes are the blob's next ones.
+/// Verifies the next node, of the size that `bw_feed_wants` returns. If it is a chunk, its bytes are the blob's
+/// next ones.
 ///
-/// 502 where it hasn't the value that its place asks for, with the place in `at`: that is the first fault of every encoding that begins with what
-/// was taken and this node. 504 where 2^64 bytes or more would have been taken. 1212 exactly where `node` has another length, or nothing is
-/// wanted, and 1202 exactly where the handle has no check in pieces. The check is as it was then, and can take other bytes in their place.
+/// Returns 502 if the node is damaged: every encoding that begins with the bytes accepted so far and this node
+/// has its first fault at offset `at`. Returns 504, with 0 in `at`, if 2^64 bytes or more would have been
+/// accepted, 1212 exactly if `node` doesn't have the size of the next node or nothing is wanted, and 1202
+/// exactly if the handle has no check in pieces. After any of these, the check is unchanged, and other bytes
+/// can be tried.
 #[unsafe(no_mangle)]
 pub extern "C" fn bw_feed_take(alloc: Global, feed: &mut BwHandle, node: &[u8], at: &mut u64) -> u32
     ensures taken { result ≡ 0 → (task : CheckTask) (taken : List ℕ) → HasFed feed.old.held task taken → HasFed feed.new.held task (taken ++ node.now) }
@@ -170,7 +179,7 @@ pub extern "C" fn bw_feed_take(alloc: Global, feed: &mut BwHandle, node: &[u8], 
     with_held!(feed, alloc, Feed, |check| taken(check, node, at))
 }
 
-// Takes many nodes, as `bw_feed_take_many` does.
+// Verifies many nodes, as `bw_feed_take_many` does.
 fn taken_many(
     check: &mut Checking,
     bytes: &[u8],
@@ -207,15 +216,18 @@ fn taken_many(
     }
 }
 
-/// Takes as many whole nodes as `bytes` begins with, verifies them, many at once, and puts the bytes of the chunks among them, in their order,
-/// to the start of `out`, which has room for as many bytes as are given. How many bytes were taken goes to `taken`, and how many of `out` are
-/// filled to `filled`: bytes of the blob. What isn't taken is less than the node that comes next, or nothing is wanted. Between `filled` and the
-/// number of bytes given `out` is 0.
+/// Verifies as many whole nodes as `bytes` begins with, and copies the bytes of their chunks, which are the
+/// blob's next ones, to the front of `out`.
 ///
-/// 1201 exactly where `out` has fewer bytes than `bytes`, asked before all else, and 1202 where the handle has no check in pieces: nothing is
-/// changed then. 502 where a node hasn't the value that its place asks for, with the place in `at`: that is the first fault of every encoding
-/// that begins with what was taken and these bytes. 504 where 2^64 bytes or more would have been taken. Some nodes at the front of `bytes` have been
-/// taken then, and as many bytes of `out` as were given are 0.
+/// `out` has at least as many bytes as `bytes`. `taken` is how many bytes were accepted, and `filled` how many
+/// of `out` are the blob's; from there to the length of `bytes`, `out` is 0. What isn't accepted is less than
+/// the next node, or nothing is wanted.
+///
+/// Returns 1201 exactly if `out` has fewer bytes than `bytes`, before all else, and 1202 if the handle has no
+/// check in pieces; nothing is then changed. Returns 502 if a node is damaged: every encoding that begins with
+/// the bytes accepted before and `bytes` has its first fault at offset `at`. Returns 504, with 0 in `at`, if
+/// 2^64 bytes or more would have been accepted. After either of these two, some nodes at the front of `bytes`
+/// may have been accepted, and as many bytes of `out` as `bytes` has are 0.
 #[unsafe(no_mangle)]
 pub extern "C" fn bw_feed_take_many(
     alloc: Global,
@@ -253,7 +265,7 @@ pub extern "C" fn bw_feed_take_many(
     )
 }
 
-// Ends an encoding, as `bw_feed_finish` does.
+// The verdict on an encoding, as `bw_feed_finish` returns it.
 fn finished(check: &Checking, rest: &[u8], at: &mut u64) -> u32
     ensures accepted { result ≡ 0 → OfTaken (λ task taken. IsAcceptedAs task (taken ++ rest.now)) check.now }
     ensures fault { result ≢ 0 → result < 506 → OfTaken (λ task taken. IsTextRefused task (taken ++ rest.now) result at.new) check.now }
@@ -269,12 +281,13 @@ fn finished(check: &Checking, rest: &[u8], at: &mut u64) -> u32
     }
 }
 
-/// What `bw_check_slice` or `bw_check_combined` says of the whole encoding, where the encoding is what was taken and then `rest`, which is less than
-/// the node that comes next. The check is as it was, and can go on.
+/// Returns the verdict on the encoding that consists of the bytes accepted so far and then `rest`: what
+/// `bw_check_slice` or `bw_check_combined` would return for it.
 ///
-/// 0 exactly where the encoding is accepted. Else its first fault, 501 short, or 503 trailing where nothing is wanted and `rest` follows, and at
-/// which byte of the encoding, in `at`. 1212 exactly where `rest` has all bytes of the node that comes next, and 1202 exactly where the handle has
-/// no check in pieces.
+/// Returns 0 exactly if it is accepted. Otherwise returns its first fault, with the offset in `at`: 501 if a
+/// node is missing, and 503 if nothing is wanted and `rest` follows. Returns 1212 exactly if `rest` has all
+/// bytes of the next node, which must be passed first, and 1202 exactly if the handle has no check in pieces.
+/// The check is unchanged, and can go on.
 #[unsafe(no_mangle)]
 pub extern "C" fn bw_feed_finish(
     alloc: Global,

@@ -1,4 +1,4 @@
-// Alone in its file, since its clauses name how a handle lies in memory.
+// In a file of its own because its clauses name the layout of a handle in memory.
 ghost use Rattle.std.specs.Borrow.{sem};
 ghost use denote.RawPtr.{Testable};
 ghost use Rattle.berylwool.specs.declared.handle.BwHandle.{BwHandle as Handle};
@@ -7,7 +7,7 @@ ghost use Rattle.berylwool.specs.Freed.{handle_at, empty_at};
 use crate::handle::{BwHandle, freed};
 use std::alloc::Global;
 
-/// Frees what a handle owns, if it owns something. It is empty then. At a null pointer there is no handle, and nothing is done.
+/// Frees what a handle owns, if anything, and leaves it empty. A null pointer does nothing.
 #[unsafe(no_mangle)]
 pub extern "C" fn bw_free(alloc: Global, handle: *mut BwHandle)
     ghost had: { Handle }

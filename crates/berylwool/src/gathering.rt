@@ -1,15 +1,15 @@
 ghost use Rattle.std.specs.Prelude.{◌≡◌, ◌≢◌, ◌↔◌};
 ghost use Rattle.store_shared.specs.Seats.{IsSeatOf};
-ghost use Rattle.berylwool.specs.Gathering.{GathersOn, report_of};
+ghost use Rattle.berylwool.specs.Gathering.{CompletesOn, GathersOn, report_of};
 ghost use Rattle.berylwool.specs.Handles.{HasSeat, SeatDid};
 
 use crate::handle::{BwHandle, with_held};
 use crews::Shared;
-use gather::{Encoded, Form, Place, Report, salvage, work};
+use gather::{Encoded, Form, Place, Report, closing_round, salvage};
 use std::alloc::Global;
 use store_shared::{Assembly, Seat};
 
-/// What a worker did, as C has it. Counts stay at 2^64 - 1 once there.
+/// What a worker did, as C has it. A count stays at 2^64 - 1 once there.
 #[repr(C)]
 #[derive(Clone, Copy)]
 pub struct BwReport {
@@ -22,7 +22,7 @@ pub struct BwReport {
     pub too_large: u32,
 }
 
-// The counts that C hands in.
+// The counts that C passes.
 fn counts(shown: &BwReport) -> Report
     ensures { result ≡ report_of shown.now }
 {
@@ -37,7 +37,7 @@ fn counts(shown: &BwReport) -> Report
     }
 }
 
-// Counts for C.
+// The counts as C has them.
 fn shown(report: &Report) -> BwReport
     ensures { report_of result ≡ report.now }
 {
@@ -65,6 +65,7 @@ fn gathered(
     requires { IsSeatOf store.now seat.old }
     ensures of { IsSeatOf store.now seat.new }
     ensures gathers { GathersOn text.now (report_of report.now) (report_of result) seat.old seat.new }
+    ensures completes { CompletesOn text.now (report_of report.now) (report_of result) seat.old seat.new }
 {
     let workers = workers.max(1);
     let place = Place {
@@ -73,23 +74,32 @@ fn gathered(
     };
     let mut all = counts(report);
     let mut holders = [Encoded::new(text)];
-    // A law, so that the proof has what it says: nothing runs.
+    // For the prover alone: this cites a lemma, and has no effect.
     store.mode().is_keyed();
-    work(alloc, &Shared(store), seat, &mut holders, place, &mut all);
+    closing_round(
+        alloc,
+        &Form::Slices,
+        &Shared(store),
+        seat,
+        &mut holders,
+        place,
+        &mut all,
+    );
     shown(&all)
 }
 
-/// One worker's round with one encoding, which may be the blob's combined encoding, or any bytes: N threads with a seat each are N workers.
+/// Gathers from one encoding: the round of worker `number` of `workers`, each with a seat of its own.
 ///
-/// If no length is recorded, the slice of the last byte is cut out of the encoding and checked, and the length that it certifies is settled; the
-/// round ends where there is none, or where it is above what the store has room for. With K groups the worker begins at group
-/// `number` % `workers` * K / `workers`, where 0 workers count as 1, and goes once round all groups: it claims a group's chunks that are
-/// neither held nor claimed, cuts their slice out of the encoding, checks it and commits from it, and gives back what is left. It stores the
-/// parents of each accepted slice too. No claim is left that it took. A further encoding is handed in by a further call.
+/// `text` is the blob's combined encoding, or any bytes. If no length is recorded, the slice of the last byte
+/// is cut out of it and checked, and the length that it certifies is settled; the round ends if there is none,
+/// or if it is above the store's capacity. With K groups, the worker begins at group `number` % `workers` * K /
+/// `workers`, where 0 workers count as 1, and goes once round all of them. It claims the group's chunks that
+/// are neither held nor claimed, cuts out and checks their slice, stores its chunks and parents, and gives the
+/// other claims back. Last, for each group of which a parent isn't held, whichever chunks are, it stores the
+/// parents of the group's slice alone. Afterwards the seat claims nothing that it didn't claim before.
 ///
-/// `report` goes on from what it was: what was done is added to it.
-///
-/// 1202 exactly where the handle has no seat.
+/// What was done is added to `report`. Returns 0, or 1202 exactly if the handle has no seat; the seat and
+/// `report` are then unchanged.
 #[unsafe(no_mangle)]
 pub extern "C" fn bw_gather(
     alloc: Global,
@@ -100,6 +110,7 @@ pub extern "C" fn bw_gather(
     report: &mut BwReport,
 ) -> u32
     ensures gathers { result ≡ 0 → SeatDid (λ _ old new. GathersOn text.now (report_of report.old) (report_of report.new) old new) seat.old.held seat.new.held }
+    ensures completes { result ≡ 0 → SeatDid (λ _ old new. CompletesOn text.now (report_of report.old) (report_of report.new) old new) seat.old.held seat.new.held }
     ensures has { result ≡ 0 ↔ HasSeat (λ _ _. Unit) seat.old.held }
     ensures status { result ≢ 0 → result ≡ 1202 }
     ensures same { result ≢ 0 → seat.new.held ≡ seat.old.held }
@@ -133,7 +144,7 @@ fn salvaged(
 {
     let mut sums = counts(report);
     let mut holders = [Encoded::new(text)];
-    // A law, so that the proof has what it says: nothing runs.
+    // For the prover alone: this cites a lemma, and has no effect.
     let mode = store.mode();
     mode.is_keyed();
     salvage(
@@ -147,10 +158,12 @@ fn salvaged(
     shown(&sums)
 }
 
-/// A round with one encoding, chunk by chunk: as `bw_gather` does it by one worker, but each chunk is claimed, cut out, checked and committed
-/// by itself, so that one that is damaged costs no other. For what is left where each encoding that there is is damaged in the same group.
+/// Gathers from one encoding as one worker's `bw_gather` does, but chunk by chunk, so that a damaged chunk
+/// costs no other.
 ///
-/// 1202 exactly where the handle has no seat.
+/// Each chunk is claimed, cut out, checked and stored by itself. It is for groups that are damaged in every
+/// encoding. What was done is added to `report`. Returns 0, or 1202 exactly if the handle has no seat; the seat
+/// and `report` are then unchanged.
 #[unsafe(no_mangle)]
 pub extern "C" fn bw_seat_salvage(
     alloc: Global,

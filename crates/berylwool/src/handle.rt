@@ -11,7 +11,7 @@ use std::alloc::Global;
 use std::marker::Model;
 use std::{mem, ptr};
 
-/// What C keeps of a value of this library: it is empty, or owns one. All bits 0 are an empty one.
+/// A handle as C has it: it owns a value of this library, or is empty. With all bits 0 it is empty.
 #[repr(C)]
 #[derive(Drop)]
 pub struct BwHandle {
@@ -25,7 +25,7 @@ impl Model for BwHandle {
 }
 
 impl BwHandle {
-    // One that is empty.
+    // An empty handle.
     pub(crate) fn empty(alloc: Global) -> BwHandle
         ensures { result.held ≡ None }
     {
@@ -35,7 +35,7 @@ impl BwHandle {
         }
     }
 
-    // One that owns what was in a box.
+    // A handle that owns what was in a box.
     pub(crate) fn of(loose: Loose<Held, Global>) -> BwHandle
         requires good { IsGood loose.value }
         ensures held { result.held ≡ Some loose.value }
@@ -47,7 +47,7 @@ impl BwHandle {
         }
     }
 
-    // What it owns.
+    // What the handle owns.
     pub(crate) fn into_loose(self) -> Option<Loose<Held, Global>>
         ensures good { IfSome result (λ loose. IsGood loose.value) }
         ensures held { option_map (λ loose. loose.value) result ≡ self.held }
@@ -64,14 +64,14 @@ impl BwHandle {
     }
 }
 
-// That a value may go to another thread, as C is told.
+// Compiles only for what may go to another thread, as C is told that a handle may.
 fn sent<T: Send>(value: T) -> T
     ensures { result ≡ value }
 {
     value
 }
 
-// Takes what a handle owns out of it.
+// Takes what a handle owns out of it, and leaves it empty.
 pub(crate) fn take(handle: &mut BwHandle, alloc: Global) -> Option<Box<Held, Global>>
     ensures good { IfSome result (λ held. IsGood held.value) }
     ensures held { option_map (λ held. held.value) result ≡ handle.old.held }
@@ -84,7 +84,7 @@ pub(crate) fn take(handle: &mut BwHandle, alloc: Global) -> Option<Box<Held, Glo
     }
 }
 
-// Puts what a call had taken out of a handle back into it.
+// Makes a handle own a value.
 pub(crate) fn put(handle: &mut BwHandle, held: Box<Held, Global>)
     requires { IsGood held.value }
     ensures { handle.new.held ≡ Some held.value }
@@ -92,7 +92,8 @@ pub(crate) fn put(handle: &mut BwHandle, held: Box<Held, Global>)
     let _empty = mem::replace(handle, BwHandle::of(Loose::of(sent(held))));
 }
 
-// What a call answers of the value of this kind that a handle has, and keeps; 1202 where it has none.
+// The status of `$call` on the value of this kind that a handle owns, and keeps; 1202 if it owns none. It is a
+// macro so that `$call` is proved in the function that uses it, where the call's other values are known.
 macro_rules! with_held {
     ($handle:ident, $alloc:ident, $kind:ident, |$it:ident| $call:expr) => {{
         let Some(mut held) = $crate::handle::take($handle, $alloc) else {
@@ -110,7 +111,7 @@ macro_rules! with_held {
 
 pub(crate) use with_held;
 
-// Frees what a handle owns, and answers one that is empty.
+// Frees what a handle owns, and returns an empty handle.
 pub(crate) fn freed(alloc: Global, handle: BwHandle) -> BwHandle
     ensures { result.held ≡ None }
 {

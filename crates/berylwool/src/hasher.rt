@@ -11,9 +11,10 @@ use crate::status::{NO_MEMORY, NO_MODE, PAST_OUTPUT};
 use b3tree::{Hasher, xof_fits};
 use std::alloc::Global;
 
-/// Makes a hasher that has taken in nothing. What the handle owned is freed.
+/// Makes a hasher that has no input yet.
 ///
-/// 1213 exactly where the mode's kind is unknown, and 1203 when out of memory: the handle is empty then.
+/// What the handle owned is freed. Returns 1213 exactly if the mode's kind is unknown, or 1203 if out of
+/// memory; the handle is then empty.
 #[unsafe(no_mangle)]
 pub extern "C" fn bw_hasher_new(alloc: Global, mode: &BwMode, hasher: &mut BwHandle) -> u32
     ensures made { result ≡ 0 → HoldsIn hasher.new.held (mode_of mode.now) [] }
@@ -34,9 +35,10 @@ pub extern "C" fn bw_hasher_new(alloc: Global, mode: &BwMode, hasher: &mut BwHan
     }
 }
 
-/// Takes in `bytes`, after those taken in before.
+/// Appends `bytes` to a hasher's input.
 ///
-/// 201 exactly where there would be more than 2^64 - 1 bytes in all, and 1202 where the handle has no hasher. What it has is unchanged then.
+/// Returns 201 exactly if the input would be longer than 2^64 - 1 bytes, or 1202 exactly if the handle has no
+/// hasher; the hasher is then unchanged.
 #[unsafe(no_mangle)]
 pub extern "C" fn bw_hasher_update(alloc: Global, hasher: &mut BwHandle, bytes: &[u8]) -> u32
     ensures taken { (mode : Mode) (s : List ℕ) → HoldsIn hasher.old.held mode s → result ≡ 0 → HoldsIn hasher.new.held mode (s ++ bytes.now) }
@@ -51,9 +53,9 @@ pub extern "C" fn bw_hasher_update(alloc: Global, hasher: &mut BwHandle, bytes: 
     })
 }
 
-/// The hash of the bytes taken in: 32 bytes, into `out`. The hasher can go on.
+/// Computes the hash of a hasher's input so far, 32 bytes, into `out`. More input may follow.
 ///
-/// 1202 where the handle has no hasher. What it has is unchanged.
+/// Returns 0, or 1202 exactly if the handle has no hasher; `out` is then unchanged.
 #[unsafe(no_mangle)]
 pub extern "C" fn bw_hasher_finish(alloc: Global, hasher: &mut BwHandle, out: &mut [u8; 32]) -> u32
     ensures hash { (mode : Mode) (s : List ℕ) → HoldsIn hasher.old.held mode s → out.new ≡ hash mode s }
@@ -70,10 +72,11 @@ pub extern "C" fn bw_hasher_finish(alloc: Global, hasher: &mut BwHandle, out: &m
     })
 }
 
-/// Fills `out` with the extended output of the bytes taken in, from byte `at` on, as `bw_xof` does. The hasher can go on.
+/// Fills `out` with the extended output of a hasher's input so far, from byte `at` of the output on. More input
+/// may follow.
 ///
-/// 1208 where `at` and the length of `out` make more than 2^64 - 1, asked before all else, and 1202 where the handle has no hasher. What
-/// it has is unchanged.
+/// Returns 1208 exactly if the output asked for ends above 2^64 - 1, before all else, or 1202 if the handle has
+/// no hasher; `out` is then unchanged.
 #[unsafe(no_mangle)]
 pub extern "C" fn bw_hasher_xof(
     alloc: Global,

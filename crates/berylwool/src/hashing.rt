@@ -8,7 +8,8 @@ use crate::status::{NO_MODE, NOT_UTF8, PAST_OUTPUT};
 use b3tree::{Mode, hash, xof, xof_fits};
 use std::str;
 
-/// The hash of `bytes` in a mode: 32 bytes, into `out`. In a mode whose kind is unknown it is the plain one.
+/// Computes the hash of `bytes` in a mode, 32 bytes, into `out`. A mode of unknown kind counts as plain
+/// hashing.
 #[unsafe(no_mangle)]
 pub extern "C" fn bw_hash(mode: &BwMode, bytes: &[u8], out: &mut [u8; 32])
     ensures { out.new ≡ hash (mode_of mode.now) bytes.now }
@@ -18,10 +19,11 @@ pub extern "C" fn bw_hash(mode: &BwMode, bytes: &[u8], out: &mut [u8; 32])
     *out = digest;
 }
 
-/// Fills `out` with the extended output of `bytes` in a mode, from byte `at` on. The first 32 bytes of output are the hash.
+/// Fills `out` with the extended output of `bytes` in a mode, from byte `at` of the output on. Its first 32
+/// bytes are the hash.
 ///
-/// 1213 exactly where the mode's kind is unknown, and else 1208 exactly where `at` and the length of `out` make more than 2^64 - 1: then `out` is
-/// unchanged.
+/// Returns 1213 exactly if the mode's kind is unknown, and else 1208 exactly if the output asked for ends above
+/// 2^64 - 1; `out` is then unchanged.
 #[unsafe(no_mangle)]
 pub extern "C" fn bw_xof(mode: &BwMode, bytes: &[u8], at: u64, out: &mut [u8]) -> u32
     ensures unknown { result ≡ 1213 ↔ (¬ IsKnown mode.now) }
@@ -40,9 +42,9 @@ pub extern "C" fn bw_xof(mode: &BwMode, bytes: &[u8], at: u64, out: &mut [u8]) -
     0
 }
 
-/// Fills `out` with the key derived from `material` for the use that `context` names, a UTF-8 text.
+/// Fills `out` with the key derived from `material` for the purpose that `context` names.
 ///
-/// 1207 exactly where `context` isn't UTF-8: then `out` is unchanged.
+/// Returns 1207 exactly if `context` isn't UTF-8; `out` is then unchanged.
 #[unsafe(no_mangle)]
 pub extern "C" fn bw_derive_key(context: &[u8], material: &[u8], out: &mut [u8]) -> u32
     ensures text { result ≡ 0 ↔ IsUtf8 context.now }

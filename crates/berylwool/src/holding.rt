@@ -11,7 +11,7 @@ use std::alloc::Global;
 use store_core::GROUP_LEN;
 use store_shared::{Assembly, Seat};
 
-// The bit of a group's chunk, if its first byte is held.
+// The bit of a group's chunk if its first byte is held, else 0.
 fn look(store: &Assembly, seat: &mut Seat, group: u32, j: u32) -> u64
     requires seat { IsSeatOf store.now seat.old }
     requires chunk { j < 64 }
@@ -27,7 +27,7 @@ fn look(store: &Assembly, seat: &mut Seat, group: u32, j: u32) -> u64
     }
 }
 
-// The bits of all chunks of a group.
+// The mask of those chunks of a group whose first byte is held.
 fn held(store: &Assembly, seat: &mut Seat, group: u32) -> u64
     requires { IsSeatOf store.now seat.old }
     ensures of { IsSeatOf store.now seat.new }
@@ -40,11 +40,14 @@ fn held(store: &Assembly, seat: &mut Seat, group: u32) -> u64
     mask
 }
 
-/// Which chunks of a group of 64 are held, in `mask`: bit j stands for chunk 64 * group + j. Each is asked for its first byte, one after another, so that of
-/// those whose bits aren't set some may be held by now. Nothing is claimed, and no memory taken. The one chunk of a blob of no bytes has no byte,
-/// and its bit is never set.
+/// Returns in `mask` which chunks of a group are held, and claims none.
 ///
-/// 803 exactly where there is no such group, and 1202 exactly where the handle has no seat. Nothing is asked then.
+/// Bit j stands for chunk 64 * group + j. The chunks are looked up one after another, by their first byte, so a
+/// chunk whose bit isn't set may be held by the time the call returns. The chunk of an empty blob has no byte,
+/// and is never reported. No memory is taken.
+///
+/// Returns 803 exactly if the store has no such group, or 1202 exactly if the handle has no seat; the seat and
+/// `mask` are then unchanged.
 #[unsafe(no_mangle)]
 pub extern "C" fn bw_seat_held(
     alloc: Global,

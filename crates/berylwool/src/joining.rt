@@ -1,4 +1,4 @@
-ghost use Rattle.std.specs.Prelude.{◌≡◌, ◌≢◌, ◌↔◌, IsTrue, None};
+ghost use Rattle.std.specs.Prelude.{◌≡◌, ◌≢◌, ◌↔◌, IsTrue, None, Some};
 ghost use Rattle.store_shared.specs.Seats.{IsSeatOf, fixed_of};
 ghost use Rattle.store_core.specs.Knowledge.{IsMerged};
 ghost use Rattle.berylwool.specs.Calls.{HaveMet};
@@ -12,7 +12,7 @@ use std::mem;
 use store_core::Fixed;
 use store_shared::{Assembly, Seat};
 
-// What of a store never changes.
+// What never changes in a store.
 pub(crate) fn fixed(store: &Assembly) -> Fixed
     ensures { result ≡ fixed_of store.now }
 {
@@ -24,7 +24,7 @@ pub(crate) fn fixed(store: &Assembly) -> Fixed
     }
 }
 
-// Whether two stores have one root, mode, capacity and first chunk.
+// Whether two stores have the same root, mode, capacity and first chunk.
 fn are_alike(one: &Assembly, other: &Assembly) -> bool
     ensures { IsTrue result ↔ (fixed_of one.now ≡ fixed_of other.now) }
 {
@@ -38,12 +38,33 @@ fn are_alike(one: &Assembly, other: &Assembly) -> bool
     fixed.is_of(&other.root(), &other.mode())
 }
 
-/// Joins two seats of one store to one, which `seat` has then, with the claims and the calls of both; `other` is
-/// empty then. What the seat has seen begins with what each had seen. It takes no memory.
+// 0 if both are seats of stores that are alike, else 1202 or 1211.
+fn both_status(one: &Held, two: &Held) -> u32
+    ensures alike { result ≡ 0 ↔ AreAlike (Some one.now) (Some two.now) }
+    ensures no_seat { result ≡ 1202 ↔ (¬ HaveSeats (Some one.now) (Some two.now)) }
+    ensures other_store { result ≡ 1211 ↔ AreUnlike (Some one.now) (Some two.now) }
+    ensures status { result ≢ 0 → result ≢ 1202 → result ≡ 1211 }
+{
+    let Held::Seat(first) = one else {
+        return NO_HANDLE;
+    };
+    let Held::Seat(second) = two else {
+        return NO_HANDLE;
+    };
+    if are_alike(&first.store, &second.store) {
+        0
+    } else {
+        OTHER_STORE
+    }
+}
+
+/// Joins two seats of one store: `seat` has the claims and calls of both, and `other` is empty.
 ///
-/// 1211 exactly where the stores of the two differ in root, mode or capacity, and 1202 exactly where a handle has no
-/// seat: both handles are as they were. That two stores which are alike in these aren't taken for one is the
-/// caller's duty.
+/// What the joined seat has seen begins with what each had seen. Stores with the same root, mode, capacity and
+/// first chunk can't be told apart: the caller must not pass seats of two of them. No memory is taken.
+///
+/// Returns 1211 exactly if the stores differ in root, mode, capacity or first chunk, or 1202 exactly if a
+/// handle has no seat; both handles are then unchanged.
 #[unsafe(no_mangle)]
 pub extern "C" fn bw_seat_join(alloc: Global, seat: &mut BwHandle, other: &mut BwHandle) -> u32
     requires one_store { AreAlike seat.old.held other.old.held → AreOfOneStore seat.old.held other.old.held }
@@ -62,44 +83,25 @@ pub extern "C" fn bw_seat_join(alloc: Global, seat: &mut BwHandle, other: &mut B
         put(seat, held);
         return NO_HANDLE;
     };
-    let status = match mem::replace(&mut *held, Held::Gone) {
-        Held::Seat(Seated { store, seat: first }) => match mem::replace(&mut *others, Held::Gone) {
-            Held::Seat(
-                Seated {
-                    store: its,
-                    seat: second,
-                },
-            ) => {
-                if are_alike(&store, &its) {
-                    let seat_of_both = store.join(first, second);
-                    *held = Held::Seat(Seated {
-                        store,
-                        seat: seat_of_both,
-                    });
-                    put(seat, held);
-                    return 0;
-                }
-                *held = Held::Seat(Seated { store, seat: first });
-                *others = Held::Seat(Seated {
-                    store: its,
-                    seat: second,
-                });
-                OTHER_STORE
-            }
-            kept => {
-                *held = Held::Seat(Seated { store, seat: first });
-                *others = kept;
-                NO_HANDLE
-            }
-        },
-        kept => {
-            *held = kept;
-            NO_HANDLE
-        }
+    let status = both_status(&held, &others);
+    if status != 0 {
+        put(seat, held);
+        put(other, others);
+        return status;
+    }
+    let Held::Seat(Seated { store, seat: first }) = mem::replace(&mut *held, Held::Gone) else {
+        unreachable!();
     };
+    let Held::Seat(second) = mem::replace(&mut *others, Held::Gone) else {
+        unreachable!();
+    };
+    let seat_of_both = store.join(first, second.seat);
+    *held = Held::Seat(Seated {
+        store,
+        seat: seat_of_both,
+    });
     put(seat, held);
-    put(other, others);
-    status
+    0
 }
 
 // Lets two seats meet, as `bw_seat_meet` does.
@@ -121,10 +123,11 @@ fn met(store: &Assembly, seat: &mut Seat, its: &Assembly, other: &mut Seat) -> u
     0
 }
 
-/// Lets two seats of one store meet: afterwards both have seen one history, which begins with what each had seen.
-/// Their calls and claims stay as they are, and no chunk is claimed by both. It takes no memory.
+/// Lets two seats of one store see what either has seen. It exists for proofs.
 ///
-/// 1211 and 1202 as `bw_seat_join`, with its caller's duty.
+/// Afterwards both have seen one history, which begins with what each had seen. Their calls and claims are
+/// unchanged, and no chunk is claimed by both. No memory is taken. What the caller must not pass, 1211 and 1202
+/// are as for `bw_seat_join`.
 #[unsafe(no_mangle)]
 pub extern "C" fn bw_seat_meet(alloc: Global, seat: &mut BwHandle, other: &mut BwHandle) -> u32
     requires one_store { AreAlike seat.old.held other.old.held → AreOfOneStore seat.old.held other.old.held }
@@ -145,11 +148,9 @@ pub extern "C" fn bw_seat_meet(alloc: Global, seat: &mut BwHandle, other: &mut B
     let status = match &mut *held {
         Held::Seat(one) => match &mut *others {
             Held::Seat(two) => met(&one.store, &mut one.seat, &two.store, &mut two.seat),
-            Held::Hasher(_) | Held::Feed(_) | Held::Outboard(_) | Held::Outline(_) | Held::Gone =>
-                NO_HANDLE,
+            _ => NO_HANDLE,
         },
-        Held::Hasher(_) | Held::Feed(_) | Held::Outboard(_) | Held::Outline(_) | Held::Gone =>
-            NO_HANDLE,
+        _ => NO_HANDLE,
     };
     put(seat, held);
     put(other, others);

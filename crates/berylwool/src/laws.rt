@@ -1,5 +1,5 @@
-// That the contracts of the calls without a store determine what they answer: each function here asks one of them twice,
-// of the same, and what it ensures is that both answers are the same. Nobody calls them.
+// Laws: the contracts of the calls without a store determine their results. Each function makes one call twice,
+// with the same arguments, and ensures that both results are equal. Nothing calls them.
 
 ghost use Rattle.std.specs.Prelude.{◌≡◌, ◌≢◌, ◌↔◌, ◌⊎◌, ℕ, List, length, take};
 ghost use Rattle.b3tree.specs.declared.mode.Mode.{Mode};
@@ -106,7 +106,7 @@ pub fn slice_len_determined(total: u64, start: u64, len: u64) -> (u64, u64)
     )
 }
 
-// With their places. Each buffer has room for as many.
+// The nodes of a slice. Both buffers have the same length.
 pub fn slice_nodes_determined(
     total: u64,
     start: u64,
@@ -127,7 +127,7 @@ pub fn slice_nodes_determined(
     )
 }
 
-// Of one place.
+// The node that has a byte.
 pub fn node_at_determined(
     total: u64,
     start: u64,
@@ -146,7 +146,7 @@ pub fn node_at_determined(
     )
 }
 
-// Of an encoding that is written: one call may be out of memory (401).
+// An encoding that is written: one call may run out of memory (401).
 pub fn encode_determined(
     alloc: Global,
     mode: &BwMode,
@@ -232,7 +232,7 @@ pub fn cut_slice_determined(
     (one, other)
 }
 
-// Whether an encoding is accepted. That its first fault is one is a law of the checks.
+// Whether an encoding is accepted. That its first fault is determined is a law of `bao_check`.
 pub fn check_slice_determined(
     alloc: Global,
     mode: &BwMode,
@@ -280,7 +280,7 @@ pub fn check_outboard_determined(
     (one, other)
 }
 
-// What an encoding is decoded to. That its first fault is one is a law of the checks.
+// What an encoding is decoded to. That its first fault is determined is a law of `bao_check`.
 pub fn decode_determined(
     alloc: Global,
     mode: &BwMode,
@@ -311,7 +311,7 @@ pub fn decode_determined(
     (one, other)
 }
 
-// Of an outboard encoding that handles keep: a call may be out of memory (1203).
+// The outboard encoding that an outline has: a call may run out of memory (1203).
 pub fn outline_new_determined(
     alloc: Global,
     mode: &BwMode,
@@ -346,7 +346,7 @@ pub fn outline_length_determined(
     )
 }
 
-// Whether chunks are accepted beside an outline. That their first fault is one is a law of the checks.
+// Whether chunks are accepted beside an outline. That their first fault is determined is a law of `bao_check`.
 pub fn outline_check_determined(
     alloc: Global,
     outline: &mut BwHandle,
@@ -365,7 +365,7 @@ pub fn outline_check_determined(
     (one, other)
 }
 
-// And which slice they make: one call may be out of memory (401).
+// The slice that these chunks make: one call may run out of memory (401).
 pub fn outline_slice_determined(
     alloc: Global,
     outline: &mut BwHandle,
@@ -389,7 +389,7 @@ pub fn outline_slice_determined(
     (one, other)
 }
 
-// Of two hashers that took in the same bytes in the same mode.
+// Two hashers of the same mode with the same input.
 pub fn hasher_update_determined(
     alloc: Global,
     a: &mut BwHandle,

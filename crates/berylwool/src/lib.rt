@@ -1,7 +1,10 @@
-//! The libraries as a C library: the functions that `c/berylwool.h` declares.
+//! The C library: the functions that `c/berylwool.h` declares.
 //!
-//! Each function here calls one of a library and states its clauses again. A status is 0 or the number of a fault.
-//! Nothing checks what C passes: it has to meet what the header says of each parameter.
+//! Each function calls one of a library, and its contract repeats that function's. A status is 0 or the number
+//! of a fault. No call checks the rules that the header sets for its callers.
+//!
+//! The slice (`start`, `len`) of a blob has the chunks with its bytes from `start` up to `start + len`, and the
+//! parents above them: a `len` of 0 counts as 1, and a `start` at or past the end selects the last chunk.
 #![tactic(auto)]
 
 mod about;
@@ -24,6 +27,7 @@ mod outboards;
 mod outlined;
 mod outlines;
 mod owned;
+mod plan;
 mod ranges;
 mod room;
 mod seats;

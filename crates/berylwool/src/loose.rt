@@ -1,11 +1,11 @@
-// A box taken apart into what a handle keeps of it, and put together again.
+// A box taken apart into what a handle keeps of it, and put back together.
 ghost use Rattle.std.specs.Prelude.{◌≡◌};
 ghost use Rattle.std_alloc.specs.Box.Ownership.{box_owns};
 
 use std::alloc::Allocator;
 use std::marker::Model;
 
-/// A value on the heap, as its pointer and the allocator that frees it.
+/// A value on the heap: its pointer, and the allocator that frees it.
 pub(crate) struct Loose<T, A: Allocator> {
     pub(crate) at: *mut T,
     pub(crate) alloc: A,

@@ -7,8 +7,8 @@ use crate::status::NOT_UTF8;
 use b3tree::Mode;
 use std::str;
 
-/// A mode as C has it: `kind` 0 is plain hashing, 1 is keyed hashing under `key`, and 2 is derivation of keys, where `key` is the key of
-/// a context. A hash in a mode of any other kind is plain.
+/// A mode as C has it: kind 0 is plain hashing, 1 keyed hashing under `key`, and 2 key derivation, where `key`
+/// was made from a context.
 #[repr(C)]
 #[derive(Clone, Copy)]
 pub struct BwMode {
@@ -17,7 +17,7 @@ pub struct BwMode {
 }
 
 impl BwMode {
-    // The mode that it stands for.
+    // The mode that it stands for: plain hashing if its kind is unknown.
     pub(crate) fn get(&self) -> Mode
         ensures { result ≡ mode_of self.now }
     {
@@ -38,10 +38,11 @@ impl BwMode {
     }
 }
 
-/// Makes the mode that derives keys from material, for the use that `context` names, a UTF-8 text: the hash and the extended output in it are
-/// the derived keys, as `bw_derive_key` gives them. Its `key` is the key of the context, which is no secret.
+/// Makes the mode that derives keys for the purpose that `context` names.
 ///
-/// 1207 exactly where `context` isn't UTF-8: then `mode` is unchanged.
+/// In this mode the hash and the extended output are the keys that `bw_derive_key` returns. Its `key` is made
+/// from the context alone, and isn't secret. Returns 1207 exactly if `context` isn't UTF-8; `mode` is then
+/// unchanged.
 #[unsafe(no_mangle)]
 pub extern "C" fn bw_mode_derive(context: &[u8], mode: &mut BwMode) -> u32
     ensures text { result ≡ 0 ↔ IsUtf8 context.now }

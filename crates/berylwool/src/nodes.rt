@@ -11,9 +11,11 @@ use crate::status::{ROOM, TOO_LONG};
 use b3tree::{CHUNK_LEN, left_len};
 use bao_text::{Choice, LENGTH_LEN, PARENT_LEN, encoded_len, subtree_size};
 
-/// A node of a blob's tree with its places, as C has it: `kind` and `number` as in `BwNode`, and how many bytes it has in an encoding, `size`. It is over
-/// the blob's `len` bytes from byte `start` on. It begins at byte `combined_at` of the combined encoding, and at byte `outboard_at` of the outboard
-/// encoding, which is 0 for a chunk.
+/// A node of a slice and its offsets, as C has them: `kind` and `number` as in `BwNode`, and its `size` in
+/// bytes in an encoding.
+///
+/// It covers `len` bytes of the blob from byte `start` on. It begins at byte `combined_at` of the combined
+/// encoding and at byte `outboard_at` of the outboard encoding, which is 0 for a chunk.
 #[repr(C)]
 #[derive(Clone, Copy)]
 pub struct BwPlaced {
@@ -26,7 +28,8 @@ pub struct BwPlaced {
     pub outboard_at: u64,
 }
 
-// Puts a node after the first `count` of a buffer. Answers how many there are then, if the buffer has room.
+// Puts a node after the first `count` of a buffer. Returns how many there are then, or none if the buffer is
+// full.
 fn put_node(out: &mut [BwPlaced], count: usize, node: BwPlaced) -> Option<usize>
     requires { count ≤ length out.old }
     ensures count { IfSome result (λ k. (k ≡ count + 1) × (k ≤ length out.new)) }
@@ -58,7 +61,7 @@ fn chunk(number: u64, len: u64, combined_at: u64) -> BwPlaced
     }
 }
 
-// A parent over `len` bytes from chunk `number` on, of which the right part begins with chunk `middle`.
+// The parent over `len` bytes from chunk `number` on whose right child begins with chunk `middle`.
 fn parent(number: u64, middle: u64, len: u64, combined_at: u64, outboard_at: u64) -> BwPlaced
     requires range { 1024 * number + len ≤ 2 ^ 64 - 1 }
     ensures { result ≡ record { kind = 0; size = 64; number = middle; start = 1024 * number; len = len; combined_at = combined_at; outboard_at = outboard_at } }
@@ -74,8 +77,9 @@ fn parent(number: u64, middle: u64, len: u64, combined_at: u64, outboard_at: u64
     }
 }
 
-// Puts the wanted nodes of the subtree over `n` bytes from chunk `number` on, which begins at the place `combined_at` of a combined encoding and has
-// its parents from the place `outboard_at` of an outboard encoding on, after the first `count`.
+// Puts the wanted nodes of the subtree over `n` bytes from chunk `number` on after the first `count`. The
+// subtree begins at offset `combined_at` of a combined encoding, and its parents at offset `outboard_at` of an
+// outboard encoding.
 fn put_subtree(
     choice: &Choice,
     number: u64,
@@ -132,11 +136,12 @@ fn put_subtree(
     )
 }
 
-/// The nodes of the slice of `len` bytes from byte `start` on of a blob of `total` bytes, in their order: from the start of `out` on, with how many
-/// they are in `count`. A slice of n chunks has at most 2 n + 105.
+/// Lists the nodes of the slice (`start`, `len`) of a blob of `total` bytes, in the order of its encoding, at
+/// the front of `out`, with their number in `count`.
 ///
-/// 201 exactly where the combined encoding has more than 2^64 - 1 bytes, and else 1201 exactly where `out` has no room for all of them. Then `count` is
-/// unchanged, and some of `out` may be written to where it is 1201.
+/// A slice of n chunks has at most 2 n + 105 nodes. Returns 201 exactly if the combined encoding is longer than
+/// 2^64 - 1 bytes; nothing is then changed. Otherwise returns 1201 exactly if `out` is too small; `count` is
+/// then unchanged, and some of `out` may have been written.
 #[unsafe(no_mangle)]
 pub extern "C" fn bw_slice_nodes(
     total: u64,
@@ -165,7 +170,7 @@ pub extern "C" fn bw_slice_nodes(
     0
 }
 
-// What is over no byte of the blob.
+// An entry that covers no byte of the blob.
 fn over_no_byte(kind: u32, size: u32) -> BwPlaced
     ensures { result ≡ over_no_byte kind size }
 {
@@ -180,8 +185,9 @@ fn over_no_byte(kind: u32, size: u32) -> BwPlaced
     }
 }
 
-// Whose byte `at` of the wanted nodes of a subtree is, which has its places as in `put_subtree`; and else how much of `at` is left after them. It
-// goes down only where a subtree is wanted in part, so along the two edges of the wanted positions, and where the byte is.
+// The wanted node of a subtree, which has its offsets as in `put_subtree`, that has byte `at`; else how much of
+// `at` is left after these nodes. It descends only where a subtree is wanted in part, along the two edges of
+// the wanted positions, and to the node that has the byte.
 fn find_node(
     choice: &Choice,
     number: u64,
@@ -254,11 +260,13 @@ fn found_or_none(found: Result<BwPlaced, u64>) -> BwPlaced
     }
 }
 
-/// Which node of the slice of `len` bytes from byte `start` on of a blob of `total` bytes has byte `at` of its encoding: to `node`. Where the byte is one
-/// of the length, the kind is 2 and the size 8, and where the encoding ends before it, the kind is 3 and the size 0: all else is 0 then. The chunk of a
-/// blob of no bytes is at 8. It takes a few steps a level of the tree.
+/// Finds the node that byte `at` of the encoding of the slice (`start`, `len`) belongs to, for a blob of
+/// `total` bytes.
 ///
-/// 201 exactly where the combined encoding has more than 2^64 - 1 bytes: `node` is unchanged then.
+/// `node` is as `bw_slice_nodes` lists it. Below 8 it is the length, with the kind 2, the size 8, and all else
+/// 0. From the end of the encoding on it is no node, with the kind 3 and all else 0. The chunk of an empty blob
+/// is at 8. Returns 201 exactly if the combined encoding is longer than 2^64 - 1 bytes; `node` is then
+/// unchanged.
 #[unsafe(no_mangle)]
 pub extern "C" fn bw_node_at(total: u64, start: u64, len: u64, at: u64, node: &mut BwPlaced) -> u32
     ensures node { result ≡ 0 → node.new ≡ placed_at total start len at }

@@ -19,9 +19,10 @@ use bao_feed::OutboardFeed;
 use std::alloc::Global;
 use std::mem;
 
-/// Makes a check in pieces of an encoding as the outboard encoding of the blob with the hash `root`. No byte has come. What the handle owned is freed.
+/// Makes a check in pieces of the outboard encoding of the blob with the hash `root`, which has no bytes yet.
 ///
-/// 1213 exactly where the mode's kind is unknown, and 1203 when out of memory: the handle is empty then.
+/// What the handle owned is freed. Returns 1213 exactly if the mode's kind is unknown, or 1203 if out of
+/// memory; the handle is then empty.
 #[unsafe(no_mangle)]
 pub extern "C" fn bw_feed_outboard(
     alloc: Global,
@@ -48,7 +49,7 @@ pub extern "C" fn bw_feed_outboard(
     }
 }
 
-// Takes bytes, as `bw_feed_push` does.
+// Appends bytes, as `bw_feed_push` does.
 fn pushed(feed: &mut OutboardFeed, bytes: &[u8], at: &mut u64) -> u32
     ensures taken { result ≡ 0 → IsFeed feed.new (feed_mode feed.old) (feed_root feed.old) (feed_text feed.old ++ bytes.now) }
     ensures good { result ≡ 0 → IsGoodSoFar (feed_mode feed.old) (feed_root feed.old) (feed_text feed.old ++ bytes.now) }
@@ -63,12 +64,13 @@ fn pushed(feed: &mut OutboardFeed, bytes: &[u8], at: &mut u64) -> u32
     }
 }
 
-/// Takes the bytes of an outboard encoding that come next, as many as there are, and verifies each parent as soon as it is wholly there. They are
-/// kept.
+/// Appends `bytes`, any number of them, to an outboard encoding, and verifies each parent as soon as it is
+/// complete. The bytes are kept.
 ///
-/// 502 at a parent that hasn't the value that its place asks for, and 503 where something follows the last one, with the place in `at`: that is the
-/// first fault of every outboard encoding that begins with what was taken and these bytes, as `bw_check_outboard` has it. 1203 when out of memory, and
-/// 1202 exactly where the handle has no check in pieces of an outboard encoding. None of the bytes are taken then, and others can come in their place.
+/// Returns 502 if a parent is damaged, and 503 if something follows the last one: every outboard encoding that
+/// begins with the bytes kept so far and `bytes` has this as its first fault, at offset `at`. Returns 1203 if
+/// out of memory, and 1202 exactly if the handle has no check in pieces of an outboard encoding. After any of
+/// these, none of `bytes` are kept, and others can be passed in their place.
 #[unsafe(no_mangle)]
 pub extern "C" fn bw_feed_push(
     alloc: Global,
@@ -87,11 +89,13 @@ pub extern "C" fn bw_feed_push(
     with_held!(feed, alloc, Outboard, |it| pushed(it, bytes, at))
 }
 
-/// Makes an outline of an outboard encoding that has come, as `bw_outline_new` makes one of an encoding that is there. Nothing is hashed once more, and no
-/// byte is copied. The check is at its end: `feed` is empty then. What `outline` owned is freed.
+/// Makes an outline of the outboard encoding that arrived, as `bw_outline_new` does, without hashing or copying
+/// it again.
 ///
-/// 501 exactly where the encoding goes on, with the place of the node that comes next in `at`: the check is as it was. It has no other fault. 1203 when out
-/// of memory: `feed` is empty then. 1202 exactly where `feed` has no check in pieces of an outboard encoding. `outline` is empty in each of these cases.
+/// `feed` is then empty, and what `outline` owned is freed. Returns 501 exactly if the encoding isn't complete,
+/// with the offset of the next node in `at`; the check is then unchanged. Returns 1203 if out of memory; `feed`
+/// is then empty. Returns 1202 exactly if `feed` has no check in pieces of an outboard encoding; it is then
+/// unchanged. After any of these, `outline` is empty.
 #[unsafe(no_mangle)]
 pub extern "C" fn bw_feed_outline(
     alloc: Global,

@@ -19,7 +19,7 @@ impl Outlined {
     ghost use Rattle.bao_text.specs.Cut.{claimed};
     ghost use Rattle.berylwool.specs.Outlines.{IsOutlined, outlined_mode, outlined_root, outlined_text};
 
-    // That these bytes were accepted.
+    // These bytes, which were accepted.
     pub(crate) fn new(mode: Mode, root: Hash, text: Vec<u8>) -> Outlined
         requires { IsAccepted mode root.0 text.items (outboard_nodes text.items) }
         ensures { IsOutlined mode root.0 text.items result }
@@ -34,7 +34,7 @@ impl Outlined {
         Outline::new(&self.mode, &self.root, self.text.as_slice())
     }
 
-    // The root under which they were accepted, and the mode.
+    // The root under which they were accepted.
     pub(crate) fn root(&self) -> Hash
         ensures { result ≡ self.now.root }
     {

@@ -30,7 +30,7 @@ fn copy(alloc: Global, bytes: &[u8]) -> Result<Vec<u8>, AllocError>
     Ok(text)
 }
 
-// Puts an outline into a handle that is empty.
+// Makes an empty handle own an outline.
 pub(crate) fn put_outline(alloc: Global, it: Outlined, outline: &mut BwHandle) -> u32
     requires { outline.old.held ≡ None }
     ensures made { result ≡ 0 → HasOutline (λ its. its ≡ it) outline.new.held }
@@ -49,11 +49,15 @@ pub(crate) fn put_outline(alloc: Global, it: Outlined, outline: &mut BwHandle) -
     }
 }
 
-/// Checks `outboard` as the outboard encoding of the blob with the hash `root`, and keeps a copy of it: an outline, beside which bytes of plain copies of
-/// the blob are checked, made slices of and stored, at the cost of these bytes alone. What the handle owned is freed.
+/// Checks `outboard` as the outboard encoding of the blob with the hash `root`, and makes an outline of a copy
+/// of it.
 ///
-/// 1213 exactly where the mode's kind is unknown. Else 501 to 503 exactly where it isn't accepted: its first fault, with the place in `at`. 1203 when out
-/// of memory. The handle is empty then.
+/// Beside an outline, bytes of plain copies are checked, made into slices and stored, at the cost of these
+/// bytes alone. What the handle owned is freed.
+///
+/// Returns 1213 exactly if the mode's kind is unknown, 501 to 503 as `bw_check_outboard` does, with the offset
+/// in `at`, exactly if the encoding isn't accepted, and 1203 if out of memory. After any of these, the handle
+/// is empty.
 #[unsafe(no_mangle)]
 pub extern "C" fn bw_outline_new(
     alloc: Global,
@@ -83,9 +87,10 @@ pub extern "C" fn bw_outline_new(
     }
 }
 
-/// Gives `other` a part in an outline, which isn't copied: it is freed with its last handle. What `other` owned is freed.
+/// Makes `other` a second handle of the same outline, which isn't copied and is freed with its last handle.
 ///
-/// 1203 when out of memory, and 1202 exactly where `outline` has no outline: then `other` is empty. `outline` is as it was.
+/// What `other` owned is freed. Returns 1203 if out of memory, or 1202 exactly if `outline` has no outline;
+/// `other` is then empty. `outline` is unchanged.
 #[unsafe(no_mangle)]
 pub extern "C" fn bw_outline_share(
     alloc: Global,
@@ -111,9 +116,10 @@ pub extern "C" fn bw_outline_share(
     })
 }
 
-/// The length in bytes that an outline claims for the blob, in `len`. An outboard encoding alone doesn't certify it: the last chunk beside it does.
+/// Returns in `len` the blob's length that an outline claims.
 ///
-/// 1202 exactly where the handle has no outline: `len` is as it was then.
+/// An outboard encoding alone doesn't certify it; the last chunk, checked beside it, does. Returns 0, or 1202
+/// exactly if the handle has no outline; `len` is then unchanged.
 #[unsafe(no_mangle)]
 pub extern "C" fn bw_outline_length(alloc: Global, outline: &mut BwHandle, len: &mut u64) -> u32
     ensures value { result ≡ 0 → HasOutline (λ it. len.new ≡ claimed (outlined_text it)) outline.old.held }
@@ -145,11 +151,11 @@ fn checked(it: &Outlined, first: u64, count: u64, chunks: &[u8], at: &mut u64) -
     }
 }
 
-/// Checks `chunks` as the bytes of the chunks from chunk `first` on, `count` in number, of the blob that the outline is of, as `bw_check_bare` does: a part
-/// of a plain copy. It takes no memory.
+/// Checks `chunks` as chunks `first` to `first + count - 1` of the blob that the outline is of.
 ///
-/// 0 exactly where they are accepted. 1210 exactly where `count` is 0, or the length that the outline claims has no such chunks. Else the first fault of
-/// the chunks, 501 to 503, and at which byte of `chunks`, in `at`. 1202 exactly where the handle has no outline.
+/// Returns 0 exactly if they are accepted, and 1210 exactly if `count` is 0 or the length that the outline
+/// claims doesn't have all of these chunks. Otherwise returns the first fault of `chunks`, 501 to 503, with its
+/// offset in `chunks` in `at`. Returns 1202 exactly if the handle has no outline. No memory is taken.
 #[unsafe(no_mangle)]
 pub extern "C" fn bw_outline_check(
     alloc: Global,
@@ -174,7 +180,7 @@ pub extern "C" fn bw_outline_check(
     )
 }
 
-// Makes a slice encoding of chunks beside an outline, as `bw_outline_slice` does.
+// Writes the slice of chunks beside an outline, as `bw_outline_slice` does.
 fn sliced(
     alloc: Global,
     it: &Outlined,
@@ -215,17 +221,18 @@ fn sliced(
     };
     *used = text.len();
     if !room::put(text.as_slice(), out) {
-        // There is room for as many bytes as the encoding has.
+        // The buffer is as long as the encoding.
         unreachable!();
     }
     0
 }
 
-/// Checks `chunks` as `bw_outline_check` does, puts the slice encoding of them to the start of `out`, and how long it is to `used`: the slice of
-/// 1,024 * `count` bytes from byte 1,024 * `first` on, or of those before the blob's end. It is accepted under the outline's root.
+/// Checks `chunks` as `bw_outline_check` does, and writes their slice (1,024 * `first`, 1,024 * `count`) to the
+/// front of `out`, with its length in `used`.
 ///
-/// 1210, and 501 to 503 with the place in `at`, as `bw_outline_check`, asked first. Then 1201 exactly where `out` has no room, with how long the encoding
-/// is in `used`, and 401 when out of memory. 1202 exactly where the handle has no outline. `out` is unchanged then.
+/// The slice is accepted under the outline's root. Returns the faults of `bw_outline_check` first. Then returns
+/// 1201 exactly if the slice is longer than `out`, with its length in `used`, and 401 if out of memory. Returns
+/// 1202 exactly if the handle has no outline. After any of these, `out` is unchanged.
 #[unsafe(no_mangle)]
 pub extern "C" fn bw_outline_slice(
     alloc: Global,

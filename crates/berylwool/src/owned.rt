@@ -2,11 +2,12 @@ use crate::outlined::Outlined;
 use b3tree::Hasher;
 use bao_check::Checking;
 use bao_feed::OutboardFeed;
+use bao_plan::Plan;
 use std::alloc::Global;
 use std::sync::Arc;
 use store_shared::{Assembly, Seat};
 
-/// A seat of a shared store, with its part in the store.
+/// A seat and its share of the store.
 #[derive(Drop)]
 pub struct Seated {
     pub(crate) store: Arc<Assembly, Global>,
@@ -21,6 +22,7 @@ pub enum Held {
     Outboard(OutboardFeed),
     Seat(Seated),
     Outline(Arc<Outlined, Global>),
-    /// Nothing, while a call has what it owned.
+    Plan(Plan),
+    /// Nothing, while a call uses what the handle owned.
     Gone,
 }

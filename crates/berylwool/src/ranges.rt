@@ -12,7 +12,7 @@ use crate::status::{ROOM, TOO_LONG};
 use b3tree::{CHUNK_LEN, left_len};
 use bao_text::{Choice, LENGTH_LEN, PARENT_LEN, encoded_len, subtree_size};
 
-/// A range of bytes, as C has it: `len` of them from byte `at` on.
+/// The `len` bytes from byte `at` on, as C has them.
 #[repr(C)]
 #[derive(Clone, Copy)]
 pub struct BwRange {
@@ -20,8 +20,8 @@ pub struct BwRange {
     pub len: u64,
 }
 
-// Puts a range after the first `count` of a buffer, or makes the last of these longer, where it ends at its first byte. Answers how many
-// there are then, if the buffer has room.
+// Puts a range after the first `count` of a buffer, or extends the last of these if it ends where the range
+// begins. Returns how many there are then, or none if the buffer is full.
 fn put_range(out: &mut [BwRange], count: usize, at: u64, len: u64) -> Option<usize>
     requires count { count ≤ length out.old }
     requires end { at + len < 2 ^ 64 }
@@ -46,8 +46,8 @@ fn put_range(out: &mut [BwRange], count: usize, at: u64, len: u64) -> Option<usi
     Some(count + 1)
 }
 
-// Puts the ranges of the wanted nodes of the subtree over `n` bytes from chunk `number` on, which begins at the place `at` of a combined
-// encoding, after the first `count`.
+// Puts the ranges of the wanted nodes of the subtree over `n` bytes from chunk `number` on, which begins at
+// offset `at` of a combined encoding, after the first `count`.
 fn put_nodes(
     choice: &Choice,
     number: u64,
@@ -87,10 +87,12 @@ fn put_nodes(
     )
 }
 
-/// Which bytes of the combined encoding of a blob of `total` bytes are the slice of `len` bytes from byte `start` on, one range after another, from
-/// the start of `out` on, and how many ranges these are in `count`. No two of them touch. 55 are always enough room.
+/// Lists the ranges of the combined encoding of a blob of `total` bytes that are the slice (`start`, `len`), in
+/// order, at the front of `out`, with their number in `count`.
 ///
-/// 201 exactly where the combined encoding has more than 2^64 - 1 bytes, and 1201 where `out` has no room: some of `out` may be written to then.
+/// The bytes of these ranges, one after another, are the slice's encoding. No range begins where another ends,
+/// and 55 are always enough. Returns 201 exactly if the combined encoding is longer than 2^64 - 1 bytes.
+/// Returns 1201 if `out` is too small; some of it may then have been written.
 #[unsafe(no_mangle)]
 pub extern "C" fn bw_slice_ranges(
     total: u64,
@@ -119,8 +121,8 @@ pub extern "C" fn bw_slice_ranges(
     0
 }
 
-// Puts the ranges of the wanted parents of the subtree over `n` bytes from chunk `number` on, which stand in an outboard encoding from the place `at`
-// on, after the first `count`.
+// Puts the ranges of the wanted parents of the subtree over `n` bytes from chunk `number` on, which are in an
+// outboard encoding from offset `at` on, after the first `count`.
 fn put_parents(
     choice: &Choice,
     number: u64,
@@ -159,10 +161,11 @@ fn put_parents(
     )
 }
 
-/// Which bytes of the outboard encoding of a blob of `total` bytes are the length and the parents of the slice of `len` bytes from byte `start` on, one range
-/// after another, from the start of `out` on, and how many ranges these are in `count`. No two of them touch. 55 are always enough room.
+/// Lists the ranges of the outboard encoding of a blob of `total` bytes that are its length and the parents of
+/// the slice (`start`, `len`), in order, at the front of `out`, with their number in `count`.
 ///
-/// 1201 where `out` has no room: some of `out` may be written to then.
+/// No range begins where another ends, and 55 are always enough. Returns 1201 if `out` is too small; some of it
+/// may then have been written.
 #[unsafe(no_mangle)]
 pub extern "C" fn bw_outboard_ranges(
     total: u64,

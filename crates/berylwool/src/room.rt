@@ -1,6 +1,6 @@
 ghost use Rattle.std.specs.Prelude.{◌≡◌, ◌≤◌, ◌↔◌, ◌++◌, IsTrue, drop, length};
 
-// Puts an encoding at the start of a caller's buffer, if it fits.
+// Copies an encoding to the front of a caller's buffer, if it fits.
 pub(crate) fn put(text: &[u8], out: &mut [u8]) -> bool
     ensures fits { IsTrue result ↔ (length text.now ≤ length out.old) }
     ensures text { IsTrue result → out.new ≡ text.now ++ drop (length text.now) out.old }

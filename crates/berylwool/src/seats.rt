@@ -28,11 +28,11 @@ use std::sync::Arc;
 use store_core::Settling;
 use store_shared::{Assembly, Seat};
 
-/// Makes a store of a blob's chunks, which the seats that are split off share, and its first seat, which has seen nothing. `capacity` is
-/// a number of chunks. What the handle owned is freed.
+/// Makes a store of at most `capacity` chunks of a blob, and its first seat, which has seen nothing.
 ///
-/// 1213 exactly where the mode's kind is unknown, asked before all else. Then 802 unless the capacity is 1 to 65,536 chunks, and 801 or 1203 when out
-/// of memory. The handle is empty then.
+/// The seats that are split off share the store. What the handle owned is freed. Returns 1213 exactly if the
+/// mode's kind is unknown, before all else, and then 802 unless the capacity is 1 to 65,536 chunks. Returns 801
+/// or 1203 if out of memory. After any of these, the handle is empty.
 #[unsafe(no_mangle)]
 pub extern "C" fn bw_store_new(
     alloc: Global,
@@ -51,13 +51,17 @@ pub extern "C" fn bw_store_new(
     bw_store_part(alloc, mode, root, 0, capacity, seat)
 }
 
-/// Makes a store of a part of a blob, as `bw_store_new` does: of the `capacity` chunks from chunk `first_chunk` of the blob on, which is the
-/// store's chunk 0. Chunks, groups and positions of the store are counted from there, and what a slice is asked by from the blob's first chunk.
-/// A length is recorded by a store from the blob's first chunk on alone: in one from a later chunk on none ever is, so that it stores no parents,
-/// serves no slice and finishes no blob.
+/// Makes a store of the `capacity` chunks of a blob from chunk `first_chunk` on, and its first seat, which has
+/// seen nothing.
 ///
-/// 1213 exactly where the mode's kind is unknown, asked before all else. Then 802 unless the capacity is 1 to 65,536 chunks and `first_chunk` at most
-/// 2^54, and 801 or 1203 when out of memory. The handle is empty then.
+/// Chunk `first_chunk` of the blob is the store's chunk 0. The store's chunks, groups and offsets are counted
+/// from there, and the range of a slice from the blob's first chunk. Only a store from the blob's first chunk
+/// on records a length, so no other stores parents, serves a slice or finishes a blob. What the handle owned is
+/// freed.
+///
+/// Returns 1213 exactly if the mode's kind is unknown, before all else, and then 802 unless the capacity is 1
+/// to 65,536 chunks and `first_chunk` at most 2^54. Returns 801 or 1203 if out of memory. After any of these,
+/// the handle is empty.
 #[unsafe(no_mangle)]
 pub extern "C" fn bw_store_part(
     alloc: Global,
@@ -95,9 +99,10 @@ pub extern "C" fn bw_store_part(
     }
 }
 
-/// Splits a seat in two: `seat` keeps its claims and its calls, and `other` has seen the same and has neither. What `other` owned is freed.
+/// Makes `other` another seat of the store, which has seen the same and has no claims or calls.
 ///
-/// 806 or 1203 when out of memory, and 1202 where `seat` has no seat: then what `seat` has is as it was, and `other` is empty.
+/// `seat` keeps its claims and calls. What `other` owned is freed. Returns 806 or 1203 if out of memory, or
+/// 1202 exactly if `seat` has no seat; `seat` is then unchanged and `other` empty.
 #[unsafe(no_mangle)]
 pub extern "C" fn bw_seat_split(alloc: Global, seat: &mut BwHandle, other: &mut BwHandle) -> u32
     ensures parts { result ≡ 0 → SeatParts (λ old first second. ArePartsOf old.view first.view second.view) seat.old.held seat.new.held other.new.held }
@@ -151,10 +156,11 @@ pub extern "C" fn bw_seat_split(alloc: Global, seat: &mut BwHandle, other: &mut 
     status
 }
 
-/// Claims the wanted chunks of a group of 64 that are below the capacity and neither held nor claimed, and answers their mask in `granted`:
-/// bit j stands for chunk 64 * group + j of the store.
+/// Claims those chunks of `want` that are below the capacity and neither held nor claimed, and returns their
+/// mask in `granted`.
 ///
-/// 803 exactly where there is no such group, and 1202 where the handle has no seat. Nothing is asked then.
+/// Bit j stands for chunk 64 * group + j of the store. Returns 803 exactly if the store has no such group, or
+/// 1202 exactly if the handle has no seat; the seat is then unchanged.
 #[unsafe(no_mangle)]
 pub extern "C" fn bw_seat_take(
     alloc: Global,
@@ -183,9 +189,10 @@ pub extern "C" fn bw_seat_take(
     )
 }
 
-/// Ends the seat's claims among the mask of a group, and answers the mask of those that it had in `given`: 0 for a group that isn't there.
+/// Ends the seat's claims to chunks of `mask`, and returns the mask of those that it had in `given`.
 ///
-/// 1202 exactly where the handle has no seat.
+/// `given` is 0 if the store has no such group. Returns 0, or 1202 exactly if the handle has no seat, which is
+/// then unchanged.
 #[unsafe(no_mangle)]
 pub extern "C" fn bw_seat_give(
     alloc: Global,
@@ -205,7 +212,7 @@ pub extern "C" fn bw_seat_give(
     })
 }
 
-// Commits an encoding to the seat's claims, as `bw_seat_commit` does.
+// Stores what the seat claims, as `bw_seat_commit` does.
 fn committed(
     alloc: Global,
     store: &Assembly,
@@ -228,7 +235,7 @@ fn committed(
     match check_slice(alloc, &store.mode(), &store.root(), start, len, text) {
         Ok(piece) => {
             let Ok(mask) = store.commit(seat, group, &piece) else {
-                // The piece is of the store's root and mode.
+                // The slice was accepted under the store's root, in its mode.
                 unreachable!();
             };
             *committed = mask;
@@ -238,10 +245,12 @@ fn committed(
     }
 }
 
-/// Checks `text` as the slice of `len` bytes from byte `start` on under the store's root, stores exactly the chunks of the group that the
-/// seat claims and the slice holds, ends these claims, and answers their mask in `committed`: 0 for a group that isn't there.
+/// Checks `text` as the slice (`start`, `len`) under the store's root, stores exactly those chunks of the group
+/// that the seat claims and the slice has, and ends these claims.
 ///
-/// 501 to 503 as `bw_check_slice`, with the place in `at`, and 1202 where the handle has no seat. Nothing is asked then.
+/// `committed` is their mask: 0 if the store has no such group. If the encoding isn't accepted, returns 501 to
+/// 503 as `bw_check_slice` does, with the offset in `at`. Returns 1202 exactly if the handle has no seat. After
+/// either, the seat is unchanged.
 #[unsafe(no_mangle)]
 pub extern "C" fn bw_seat_commit(
     alloc: Global,
@@ -277,7 +286,7 @@ pub extern "C" fn bw_seat_commit(
     )
 }
 
-// Settles the length by an encoding, as `bw_seat_settle` does.
+// Settles the length, as `bw_seat_settle` does.
 fn settled(alloc: Global, store: &Assembly, seat: &mut Seat, text: &[u8], at: &mut u64) -> u32
     requires { IsSeatOf store.now seat.old }
     ensures of { IsSeatOf store.now seat.new }
@@ -300,7 +309,7 @@ fn settled(alloc: Global, store: &Assembly, seat: &mut Seat, text: &[u8], at: &m
                 Settling::Settled | Settling::Known => 0,
                 Settling::Differs => DIFFERS,
                 Settling::TooLarge => TOO_LARGE,
-                // The piece is of the store's root and mode.
+                // The slice was accepted under the store's root, in its mode.
                 Settling::OtherRoot => unreachable!(),
             }
         }
@@ -308,13 +317,14 @@ fn settled(alloc: Global, store: &Assembly, seat: &mut Seat, text: &[u8], at: &m
     }
 }
 
-/// Checks `text` as the slice (2^64 - 1, 1), which has the last chunk, under the store's root, and records the length that it certifies, if
-/// none is recorded. 0 where that length is recorded now, by this call or before.
+/// Checks `text` as the slice (2^64 - 1, 1), which has the last chunk, under the store's root, and records the
+/// length that it certifies, if none is recorded.
 ///
-/// 501 to 503 as `bw_check_slice`, with the place in `at`. 805 exactly where the store has no room for the length: it is above 1,024 times the
-/// capacity, or the store's first chunk isn't the blob's. 1205 where the encoding doesn't have the last chunk of its length, and 1202 where the
-/// handle has no seat. Nothing is asked then. 1206 where another length is
-/// recorded, which stays.
+/// Returns 0 if that length is now recorded, by this call or before. If the encoding isn't accepted, returns
+/// 501 to 503 as `bw_check_slice` does, with the offset in `at`. Returns 1205 if the encoding lacks the last
+/// chunk of its length, 805 if the length is above 1,024 times the capacity or the store's first chunk isn't
+/// the blob's, and 1202 exactly if the handle has no seat. After any of these, the seat is unchanged. Returns
+/// 1206 if another length is recorded, which stays.
 #[unsafe(no_mangle)]
 pub extern "C" fn bw_seat_settle(
     alloc: Global,
@@ -341,10 +351,10 @@ pub extern "C" fn bw_seat_settle(
     )
 }
 
-/// The recorded length in bytes, in `len`.
+/// Returns the recorded length of the blob in `len`.
 ///
-/// 901 where none is recorded, which the seat has seen then: always where the store's first chunk isn't the blob's. 1202 where the handle has no
-/// seat.
+/// Returns 901 if none is recorded, as in every store whose first chunk isn't the blob's, and 1202 exactly if
+/// the handle has no seat, which is then unchanged.
 #[unsafe(no_mangle)]
 pub extern "C" fn bw_seat_length(alloc: Global, seat: &mut BwHandle, len: &mut u64) -> u32
     ensures called { result ≡ 0 → SeatDid (λ _ old new. Called (Length (Some len.new)) old.view new.view) seat.old.held seat.new.held }
@@ -385,10 +395,12 @@ fn filled(store: &Assembly, seat: &mut Seat, at: u64, out: &mut [u8], missing: &
     }
 }
 
-/// Fills `out` with the bytes from position `at` of the store on, which is byte `at` of the blob where the store's first chunk is the blob's.
+/// Fills `out` with the bytes from offset `at` of the store on, which is byte `at` of the blob if the store's
+/// first chunk is the blob's.
 ///
-/// 1204 where a byte of them isn't held, with the first such position in `missing`: those before it are filled in, and the rest of `out` is
-/// unchanged. 1202 where the handle has no seat.
+/// Returns 1204 if one of them isn't held, with the offset of the first such byte in `missing`; the bytes
+/// before it are filled in, and the rest of `out` is unchanged. Returns 1202 exactly if the handle has no seat,
+/// which is then unchanged.
 #[unsafe(no_mangle)]
 pub extern "C" fn bw_seat_read(
     alloc: Global,
@@ -411,7 +423,7 @@ pub extern "C" fn bw_seat_read(
     )
 }
 
-// Puts the whole blob to the start of a buffer, as `bw_seat_finish` does.
+// Copies the whole blob to a buffer, as `bw_seat_finish` does.
 fn finished(store: &Assembly, seat: &mut Seat, out: &mut [u8], used: &mut usize) -> u32
     requires { IsSeatOf store.now seat.old }
     ensures of { IsSeatOf store.now seat.new }
@@ -429,7 +441,7 @@ fn finished(store: &Assembly, seat: &mut Seat, out: &mut [u8], used: &mut usize)
     ensures status { result ≢ 0 → result ≢ 901 → result ≢ 902 → result ≡ 1201 }
 {
     let mode = store.mode();
-    // A law, so that the proof has what it says: nothing runs.
+    // For the prover alone: this cites a lemma, and has no effect.
     mode.is_keyed();
     let Some(length) = store.length(seat) else {
         return UNFINISHED;
@@ -449,12 +461,14 @@ fn finished(store: &Assembly, seat: &mut Seat, out: &mut [u8], used: &mut usize)
     0
 }
 
-/// Puts the whole blob to the start of `out`, once the hash of its bytes is the root, and how long it is to `used`. The seat asks for the length, and then at
-/// most once reads. It takes no memory, and the seat can go on.
+/// Copies the whole blob to the front of `out`, with its length in `used`, if the hash of its bytes is the
+/// root.
 ///
-/// 901 where no length is recorded, which is always so where the store's first chunk isn't the blob's, or a byte isn't held. 1201 where the recorded length is above that of `out`, asked before any byte, with that
-/// length in `used`. 902 where all bytes are held and their hash isn't the root. 1202 exactly where the handle has no seat. After 901 and 902 `out` may have been
-/// written to.
+/// The seat asks for the length, and then reads at most once. No memory is taken. Returns 901 if no length is
+/// recorded, as in every store whose first chunk isn't the blob's, or a byte isn't held. Returns 1201 if the
+/// recorded length is above that of `out`, before any byte is read, with that length in `used`. Returns 902 if
+/// all bytes are held and their hash isn't the root, and 1202 exactly if the handle has no seat. After 901 and
+/// 902, `out` may have been written.
 #[unsafe(no_mangle)]
 pub extern "C" fn bw_seat_finish(
     alloc: Global,

@@ -46,19 +46,21 @@ fn stored(
                 0
             }
             Err(ParentsFault::OtherLength) => 807,
-            // The piece is of the store's root and mode.
+            // The slice was accepted under the store's root, in its mode.
             Err(ParentsFault::OtherRoot) => unreachable!(),
         },
         Err(fault) => told(&fault, at),
     }
 }
 
-/// Checks `text` as the slice of `len` bytes from byte `start` on under the store's root, stores parents of it at boundaries of a group,
-/// and answers their mask in `stored`: bit j stands for the parent whose right part begins at chunk 64 * group + j. They are parents that
-/// the encoding has, and that nobody holds or is storing yet: 0 for a group that isn't there.
+/// Checks `text` as the slice (`start`, `len`) under the store's root, and stores its parents at boundaries of
+/// the group that nobody holds or is storing.
 ///
-/// 501 to 503 as `bw_check_slice`, with the place in `at`, and 1202 where the handle has no seat: nothing is asked then. 807 where the length
-/// that the encoding claims isn't the recorded one, or there is none.
+/// `stored` is their mask: bit j stands for the parent whose right child begins with chunk 64 * group + j. It
+/// is 0 if the store has no such group. If the encoding isn't accepted, returns 501 to 503 as `bw_check_slice`
+/// does, with the offset in `at`, and 1202 exactly if the handle has no seat; the seat is then unchanged.
+/// Returns 807, with nothing stored, if the encoding claims another length than the recorded one, or none is
+/// recorded.
 #[unsafe(no_mangle)]
 pub extern "C" fn bw_seat_commit_parents(
     alloc: Global,
@@ -96,7 +98,8 @@ pub extern "C" fn bw_seat_commit_parents(
     )
 }
 
-/// A node of a blob's tree, as C has it: `kind` 0 is the parent whose right part begins at chunk `number`, and 1 is chunk `number`.
+/// A node of a blob's tree, as C has it: kind 0 is the parent whose right child begins with chunk `number`, and
+/// 1 is chunk `number`.
 #[repr(C)]
 #[derive(Clone, Copy)]
 pub struct BwNode {
@@ -104,7 +107,7 @@ pub struct BwNode {
     pub number: u64,
 }
 
-// A node for C.
+// The node as C has it.
 fn shown(node: Node) -> BwNode
     ensures { node_of result ≡ node }
 {
@@ -114,7 +117,7 @@ fn shown(node: Node) -> BwNode
     }
 }
 
-// Serves a slice into a buffer, as `bw_seat_serve_slice` does.
+// Writes a slice to a buffer, as `bw_seat_serve_slice` does.
 fn served(
     store: &Assembly,
     seat: &mut Seat,
@@ -153,12 +156,14 @@ fn served(
     }
 }
 
-/// Puts the encoding of the slice (`start`, `len`) of the blob to the start of `out`, and how long it is to `used`: the recorded length, and the
-/// bytes of the slice's nodes. `bw_encoded_len` of the recorded length is always enough room.
+/// Writes the encoding of the slice (`start`, `len`) to the front of `out`, with its length in `used`: the
+/// recorded length, and the bytes of the slice's nodes.
 ///
-/// 808 where no length is recorded, as always where the store's first chunk isn't the blob's, 809 where a node isn't held, with the first such in the encoding's order in `lacking`, 810 where there is no
-/// memory, 1201 where `out` has no room, with how long the encoding is in `used`, and 1202 where the handle has no seat: then `out` is
-/// unchanged. 808 and 809 don't come where the seat has seen a length recorded and all nodes of the slice held.
+/// The store may be unfinished. Returns 808 if no length is recorded, as in every store whose first chunk isn't
+/// the blob's, 809 if a node isn't held, with the first such node of the encoding in `lacking`, 810 if out of
+/// memory, 1201 if the encoding is longer than `out`, with its length in `used`, and 1202 exactly if the handle
+/// has no seat. After any of these, `out` is unchanged. Neither 808 nor 809 is returned once the seat has seen
+/// a length recorded and all nodes of the slice held.
 #[unsafe(no_mangle)]
 pub extern "C" fn bw_seat_serve_slice(
     alloc: Global,

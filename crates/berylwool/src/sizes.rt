@@ -5,8 +5,8 @@ ghost use Rattle.bao_text.specs.Nodes.{Side, size, subtree_nodes, subtree_size};
 use b3tree::{CHUNK_LEN, left_len};
 use bao_text::{Choice, LENGTH_LEN, PARENT_LEN, subtree_size};
 
-// How many bytes of an encoding the wanted nodes of the subtree over `n` bytes from chunk `number` on are. It goes down only where
-// a subtree is wanted in part, so along the two edges of the wanted positions.
+// How many bytes of an encoding the wanted nodes of the subtree over `n` bytes from chunk `number` on have. It
+// descends only where a subtree is wanted in part, along the two edges of the wanted positions.
 fn wanted_size(choice: &Choice, number: u64, n: u64) -> u128
     requires range { 1024 * number + n ≤ 2 ^ 64 - 1 }
     requires chunks { choice.now.chunks ≡ true }
@@ -29,7 +29,7 @@ fn wanted_size(choice: &Choice, number: u64, n: u64) -> u128
     PARENT_LEN as u128 + left + right
 }
 
-// How many bytes the slice (`start`, `len`) of a blob of `total` bytes has.
+// The length in bytes of the slice (`start`, `len`) of a blob of `total` bytes.
 pub(crate) fn slice_size(total: u64, start: u64, len: u64) -> u128
     ensures value { result ≡ slice_len total start len }
     ensures bound { result ≤ 8 + subtree_size total }
@@ -38,7 +38,8 @@ pub(crate) fn slice_size(total: u64, start: u64, len: u64) -> u128
     LENGTH_LEN as u128 + wanted_size(&choice, 0, total)
 }
 
-/// How many bytes the slice of `len` bytes from byte `start` on of a blob of `total` bytes has: 0 where that is above 2^64 - 1.
+/// Returns the length in bytes of the slice (`start`, `len`) of a blob of `total` bytes, or 0 if it is above
+/// 2^64 - 1.
 #[unsafe(no_mangle)]
 pub extern "C" fn bw_slice_len(total: u64, start: u64, len: u64) -> u64
     ensures value { slice_len total start len < 2 ^ 64 → result ≡ slice_len total start len }

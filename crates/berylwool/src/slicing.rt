@@ -1,4 +1,4 @@
-// The slice encoding that an outboard encoding makes with chunks of a plain copy beside it.
+// The slice made from an outboard encoding and the bytes of chunks.
 
 ghost use Rattle.std.specs.Prelude.{◌≡◌, ℕ, ◌+◌, ◌-◌, ◌*◌, ◌^◌, ◌≤◌, List, ◌++◌, length, true, IfOk, OnOk};
 ghost use Rattle.std.specs.List.{flat_map};
@@ -13,8 +13,9 @@ use b3tree::{CHUNK_LEN, left_len};
 use bao_text::{Choice, LENGTH_LEN, PARENT_LEN, part_of};
 use std::alloc::{AllocError, Global};
 
-// Appends the wanted nodes of the subtree over `n` bytes from chunk `number` on: its parents, which stand in the outboard
-// encoding `outline` from the place `at` on, and its chunks, which stand side by side in `chunks` from chunk `first` on.
+// Appends the wanted nodes of the subtree over `n` bytes from chunk `number` on: its parents, which are in the
+// outboard encoding `outline` from offset `at` on, and its chunks, which are in `chunks` one after another from
+// chunk `first` on.
 fn append_nodes(
     outline: &[u8],
     first: u64,
@@ -65,7 +66,7 @@ fn append_nodes(
     )
 }
 
-// The slice encoding of so many chunks from chunk `first` on, of which these are the bytes.
+// The slice of `count` chunks from chunk `first` on, whose bytes are `chunks`.
 pub(crate) fn slice_beside(
     alloc: Global,
     it: &Outlined,

@@ -21,7 +21,7 @@ use std::alloc::Global;
 use store_core::mask_below;
 use store_shared::{Assembly, Seat};
 
-// The mask of the group's chunks that the piece has, in a store from chunk `base` of the blob on.
+// The mask of the group's chunks that the slice has, in a store from chunk `base` of the blob on.
 fn chunks_in(base: u64, group: u32, piece: &Checked<'_>) -> u64
     ensures { IsMaskOf group result (λ c. holds_chunk (piece_of base piece.now) c) }
 {
@@ -31,7 +31,8 @@ fn chunks_in(base: u64, group: u32, piece: &Checked<'_>) -> u64
     until & !before
 }
 
-// Claims the chunks of a group that the piece has, as far as they are free, stores those that the seat claims then, and answers how many.
+// Claims those chunks of a group that the slice has and that are free, stores those that the seat then claims,
+// and returns how many.
 fn commit_group(store: &Assembly, seat: &mut Seat, group: u32, piece: &Checked<'_>) -> u32
     requires seat { IsSeatOf store.now seat.old }
     requires piece { IsOf (fixed_of store.now) piece.now }
@@ -53,7 +54,7 @@ fn commit_group(store: &Assembly, seat: &mut Seat, group: u32, piece: &Checked<'
     mask.count_ones()
 }
 
-// The same of each group, in order.
+// Does the same for each group, in order.
 fn commit_groups(store: &Assembly, seat: &mut Seat, piece: &Checked<'_>) -> u64
     requires seat { IsSeatOf store.now seat.old }
     requires piece { IsOf (fixed_of store.now) piece.now }
@@ -68,7 +69,7 @@ fn commit_groups(store: &Assembly, seat: &mut Seat, piece: &Checked<'_>) -> u64
     count
 }
 
-// Stores the parents that the piece has at a group's boundaries, and answers how many.
+// Stores the parents that the slice has at a group's boundaries, and returns how many.
 fn store_group(store: &Assembly, seat: &mut Seat, group: u32, piece: &Checked<'_>) -> u32
     requires seat { IsSeatOf store.now seat.old }
     requires piece { IsOf (fixed_of store.now) piece.now }
@@ -81,13 +82,13 @@ fn store_group(store: &Assembly, seat: &mut Seat, group: u32, piece: &Checked<'_
         return 0;
     }
     let Ok(mask) = store.commit_parents(seat, group, piece) else {
-        // The piece is of the store's root and mode, and of the length that is recorded.
+        // The slice is of the store's root and mode, and of the recorded length.
         unreachable!();
     };
     mask.count_ones()
 }
 
-// The same of each group, in order.
+// Does the same for each group, in order.
 fn store_groups(store: &Assembly, seat: &mut Seat, piece: &Checked<'_>) -> u64
     requires seat { IsSeatOf store.now seat.old }
     requires piece { IsOf (fixed_of store.now) piece.now }
@@ -102,7 +103,7 @@ fn store_groups(store: &Assembly, seat: &mut Seat, piece: &Checked<'_>) -> u64
     count
 }
 
-// Stores all that a piece has, where it claims the recorded length.
+// Stores all that a slice has, if it claims the recorded length.
 fn stored_piece(
     store: &Assembly,
     seat: &mut Seat,
@@ -154,13 +155,16 @@ fn stored_all(
     }
 }
 
-/// Checks `text` as the slice of `len` bytes from byte `start` on under the store's root, and stores all that it has: each of its chunks that
-/// nobody holds and no other seat claims, of whatever group, and each of its parents that nobody holds or is storing. Answers how many chunks
-/// in `committed` and how many parents in `parents`. Of its chunks the seat claims none then. It takes no memory.
+/// Checks `text` as the slice (`start`, `len`) under the store's root, and stores all that it has.
 ///
-/// 501 to 503 as `bw_check_slice`, with the place in `at`, and 1202 where the handle has no seat: nothing is asked then. 807 where the length
-/// that the encoding claims isn't the recorded one, or there is none, as always where the store's first chunk isn't the blob's. The seat has seen
-/// that then, and nothing is stored: `bw_seat_commit_chunks` asks for no length.
+/// That is each of its chunks, of any group, that nobody holds and no other seat claims, and each of its
+/// parents that nobody holds or is storing; `committed` and `parents` are how many of each were stored.
+/// Afterwards the seat claims none of the slice's chunks. No memory is taken.
+///
+/// If the encoding isn't accepted, returns 501 to 503 as `bw_check_slice` does, with the offset in `at`, and
+/// 1202 exactly if the handle has no seat; the seat is then unchanged. Returns 807, with nothing stored, if the
+/// encoding claims another length than the recorded one, or none is recorded, as in every store whose first
+/// chunk isn't the blob's. `bw_seat_commit_chunks` needs no length.
 #[unsafe(no_mangle)]
 pub extern "C" fn bw_seat_commit_all(
     alloc: Global,
@@ -226,11 +230,13 @@ fn stored_chunks(
     }
 }
 
-/// Checks `text` as the slice of `len` bytes from byte `start` of the blob on under the store's root, and stores each of its chunks that the store
-/// has room for and that nobody holds and no other seat claims, of whatever group. Answers how many in `committed`. Of its chunks the seat claims
-/// none then. No length has to be recorded, so it is for a store of a part of a blob too; no parents are stored. It takes no memory.
+/// Checks `text` as the slice (`start`, `len`) under the store's root, and stores its chunks as
+/// `bw_seat_commit_all` does, but no parents.
 ///
-/// 501 to 503 as `bw_check_slice`, with the place in `at`, and 1202 where the handle has no seat. Nothing is asked then.
+/// No length needs to be recorded, so this works in a store of a part of a blob too. Chunks that aren't among
+/// the store's are left out. `committed` is how many were stored. No memory is taken. If the encoding isn't
+/// accepted, returns 501 to 503 as `bw_check_slice` does, with the offset in `at`, and 1202 exactly if the
+/// handle has no seat; the seat is then unchanged.
 #[unsafe(no_mangle)]
 pub extern "C" fn bw_seat_commit_chunks(
     alloc: Global,
@@ -301,12 +307,14 @@ fn stored_bare(
     }
 }
 
-/// Checks `chunks` beside an outline as `bw_outline_check` does, and stores all that the slice encoding of them has, which `bw_outline_slice` would give, as
-/// `bw_seat_commit_all` does: these chunks and the parents above them. It takes no memory.
+/// Checks `chunks` as `bw_outline_check` does, and stores these chunks and the parents above them, as
+/// `bw_seat_commit_all` does.
 ///
-/// 1202 exactly where the handles have no outline and no seat, and 804 exactly where the outline is of another root or mode than the store, asked
-/// before all else. 1210, and 501 to 503 with the place in `at`, as `bw_outline_check`. Nothing is asked then. 807 where the length that the
-/// outline claims isn't the recorded one, or there is none, which the seat has seen then: nothing is stored. The outline is as it was.
+/// What is stored is what the slice has that `bw_outline_slice` writes. No memory is taken. Returns 1202
+/// exactly unless `outline` has an outline and `seat` a seat, before all else, and then 804 exactly if the
+/// outline is of another root or mode than the store. Then returns 1210, or 501 to 503 with the offset in `at`,
+/// as `bw_outline_check` does. After any of these, the seat is unchanged. Returns 807, with nothing stored, if
+/// the outline claims another length than the recorded one, or none is recorded. The outline is unchanged.
 #[unsafe(no_mangle)]
 pub extern "C" fn bw_outline_commit(
     alloc: Global,
@@ -353,11 +361,19 @@ pub extern "C" fn bw_outline_commit(
                 parents,
                 at,
             ),
-            Held::Hasher(_) | Held::Feed(_) | Held::Outboard(_) | Held::Outline(_) | Held::Gone =>
-                NO_HANDLE,
+            Held::Hasher(_)
+            | Held::Feed(_)
+            | Held::Outboard(_)
+            | Held::Outline(_)
+            | Held::Plan(_)
+            | Held::Gone => NO_HANDLE,
         },
-        Held::Hasher(_) | Held::Feed(_) | Held::Outboard(_) | Held::Seat(_) | Held::Gone =>
-            NO_HANDLE,
+        Held::Hasher(_)
+        | Held::Feed(_)
+        | Held::Outboard(_)
+        | Held::Seat(_)
+        | Held::Plan(_)
+        | Held::Gone => NO_HANDLE,
     };
     put(seat, held);
     put(outline, beside);

@@ -12,7 +12,7 @@ use b3tree::Hash;
 use bao_text::{combined, cut_slice, encoded_len, outboard, outboard_len, slice};
 use std::alloc::Global;
 
-/// How many bytes the combined encoding of `len` bytes has: 0 where that is above 2^64 - 1.
+/// Returns the length in bytes of the combined encoding of a blob of `len` bytes, or 0 if it is above 2^64 - 1.
 #[unsafe(no_mangle)]
 pub extern "C" fn bw_encoded_len(len: u64) -> u64
     ensures value { 8 + 64 * (chunk_count len - 1) + len < 2 ^ 64 → result ≡ 8 + 64 * (chunk_count len - 1) + len }
@@ -24,7 +24,7 @@ pub extern "C" fn bw_encoded_len(len: u64) -> u64
     }
 }
 
-/// How many bytes the outboard encoding of `len` bytes has.
+/// Returns the length in bytes of the outboard encoding of a blob of `len` bytes.
 #[unsafe(no_mangle)]
 pub extern "C" fn bw_outboard_len(len: u64) -> u64
     ensures { result ≡ 8 + 64 * (chunk_count len - 1) }
@@ -32,7 +32,7 @@ pub extern "C" fn bw_outboard_len(len: u64) -> u64
     outboard_len(len) as u64
 }
 
-// Whether a buffer has room for an encoding of so many bytes; if not, how many they are is told.
+// Whether an encoding of this length fits a buffer; if not, its length is in `used`.
 pub(crate) fn fits(size: u128, out: &[u8], used: &mut usize) -> bool
     ensures fits { IsTrue result ↔ (size ≤ length out.now) }
     ensures told { (¬ IsTrue result) → used.new ≡ min size (2 ^ 64 - 1) }
@@ -47,7 +47,7 @@ pub(crate) fn fits(size: u128, out: &[u8], used: &mut usize) -> bool
     false
 }
 
-// Hands out an encoding, how long it is, and the hash of the bytes that it is of.
+// Writes an encoding, its length, and the hash of the bytes that it encodes.
 fn handed(hash: &Hash, text: &[u8], out: &mut [u8], used: &mut usize, root: &mut [u8; 32]) -> u32
     ensures text { result ≡ 0 → out.new ≡ text.now ++ drop used.new out.old }
     ensures used { used.new ≡ length text.now }
@@ -64,10 +64,12 @@ fn handed(hash: &Hash, text: &[u8], out: &mut [u8], used: &mut usize, root: &mut
     0
 }
 
-/// Writes the combined encoding of `bytes` to the start of `out`, how long it is to `used`, and the hash of `bytes` to `root`.
+/// Writes the combined encoding of `bytes` to the front of `out`, with its length in `used`, and the hash of
+/// `bytes` to `root`.
 ///
-/// 1213 exactly where the mode's kind is unknown, asked before all else. 1201 exactly where it is known and `out` has no room, asked next, with how
-/// long the encoding is in `used`, and 401 when out of memory: then `out` is unchanged.
+/// Returns 1213 exactly if the mode's kind is unknown, before all else, then 1201 exactly if the encoding is
+/// longer than `out`, with its length in `used`, and then 401 if out of memory. After any of these, `out` is
+/// unchanged.
 #[unsafe(no_mangle)]
 pub extern "C" fn bw_encode(
     alloc: Global,
@@ -97,10 +99,12 @@ pub extern "C" fn bw_encode(
     }
 }
 
-/// Writes the outboard encoding of `bytes`, as `bw_encode` writes the combined one.
+/// Writes the outboard encoding of `bytes` to the front of `out`, with its length in `used`, and the hash of
+/// `bytes` to `root`.
 ///
-/// 1213 exactly where the mode's kind is unknown, asked before all else. 1201 exactly where it is known and `out` has no room, asked next, with how
-/// long the encoding is in `used`, and 401 when out of memory: then `out` is unchanged.
+/// Returns 1213 exactly if the mode's kind is unknown, before all else, then 1201 exactly if the encoding is
+/// longer than `out`, with its length in `used`, and then 401 if out of memory. After any of these, `out` is
+/// unchanged.
 #[unsafe(no_mangle)]
 pub extern "C" fn bw_outboard(
     alloc: Global,
@@ -130,10 +134,11 @@ pub extern "C" fn bw_outboard(
     }
 }
 
-/// Writes the slice of `len` bytes from byte `start` on of `bytes` to the start of `out`, how long it is to `used`, and the hash of `bytes` to `root`.
+/// Writes the slice (`start`, `len`) of `bytes` to the front of `out`, with its length in `used`, and the hash
+/// of all of `bytes` to `root`.
 ///
-/// 1213 exactly where the mode's kind is unknown, 401 when out of memory, and 1201 where `out` has no room, with how long the encoding is in
-/// `used`: then `out` is unchanged.
+/// Returns 1213 exactly if the mode's kind is unknown, 401 if out of memory, and 1201 if the slice is longer
+/// than `out`, with its length in `used`. After any of these, `out` is unchanged.
 #[unsafe(no_mangle)]
 pub extern "C" fn bw_slice(
     alloc: Global,
@@ -162,10 +167,11 @@ pub extern "C" fn bw_slice(
     }
 }
 
-/// Cuts the slice of `len` bytes from byte `start` on out of the combined encoding `text`, and checks nothing: what isn't there is left
-/// out. It is written to the start of `out`, and how long it is to `used`.
+/// Copies the slice (`start`, `len`) out of the combined encoding `text` to the front of `out`, with its length
+/// in `used`, and verifies nothing.
 ///
-/// 401 when out of memory, and 1201 where `out` has no room, with how long the encoding is in `used`: then `out` is unchanged.
+/// What isn't there is left out. Returns 401 if out of memory, and 1201 if the slice is longer than `out`, with
+/// its length in `used`; `out` is then unchanged.
 #[unsafe(no_mangle)]
 pub extern "C" fn bw_cut_slice(
     alloc: Global,

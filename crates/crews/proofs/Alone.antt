@@ -2,7 +2,7 @@
 use Rattle.crews.proofs.Common.{◌≡◌, ◌⊎◌, ℕ, ◌/◌, ◌%◌, ◌<◌, ◌==◌, true, false, not, ◌&&◌, ◌||◌, List, [], ◌∷◌, ◌++◌, append-nil, map, Contains, is_some, refl, sym, ap, subst, ◌∙◌, inl, inr, eq-eqb, eqb-true, lt-ltb, and_from, and_parts, both_ways, cases_Bool, or_left, Contains-append_left, Contains-append_right, Contains-head, Contains-tail, IsWanted, IsNone, some_bytes, Fixed, Call, Commit, Give, Length, Parents, Read, Serve, Settle, Take, Event, Piece, Named, SeatView, after, after_call, AreOfOthers, IsLegal, is_by, run, state_after, has_bit, in_mask, Name, has_name, least_name, holds_chunk, State, claims, empty, is_among, is_claimed, is_held, mine, names_of, claims_last, held_lasts, legal-append, others_parts, run-append, same_name-refl, right_there, Gripped, AreAllNames, LooksRound, Called, event_of}
 use Rattle.crews.specs.Lasting.{HoldsOn, IsAlone, IsBusyOn, alone_on}
 use Rattle.crews.specs.Seats.{GoneOn, fixed_of}
-use Rattle.crews.proofs.Sharing.{goes_on}
+use Rattle.crews.proofs.Sharing.{goes_on, sees_on}
 use Rattle.crews.proofs.Uniting.{by_them}
 
 -- whoever these names claim for is one of them
@@ -67,18 +67,7 @@ holds_on seat c held more legal =
 
 -- looking round is no call
 pub looks_on : (handed : Piece → Type 0) (old new : Gripped) → LooksRound old.view new.view → GoneOn handed old new 0 0
-looks_on handed old new looked = record {
-  fixed_is = looked.sees.goes_on.fixed_is;
-  names_are = looked.sees.goes_on.names_are;
-  more = looked.sees.between;
-  seen_is = looked.sees.goes_on.seen_is ∙ append-nil (old.view.seen ++ looked.sees.between);
-  own = [];
-  by = tt;
-  from = tt;
-  mine_is = looked.sees.goes_on.mine_is;
-  counts = refl;
-  counts_parents = refl;
-}
+looks_on handed old new looked = sees_on handed old new looked.sees
 
 -- each call that a seat has seen is its own, once it is alone and has looked round
 pub seen_own : (then new : SeatView) → AreAllNames then.names → LooksRound then new → (e : Event) → Contains then.seen e → Contains (mine new) e

@@ -32,7 +32,7 @@ pub use Rattle.gather.proofs.Served.{served}
 pub use Rattle.gather.proofs.Serving.{true_slices}
 pub use Rattle.gather.specs.Available.{HaveSlices, IsFilled, IsServed, IsWanted}
 pub use Rattle.gather.specs.Claims.{Among, AmongAnd, Without}
-pub use Rattle.gather.specs.Counts.{HasFailed, IsAnswered, Reports, Still}
+pub use Rattle.gather.specs.Counts.{HasFailed, IsAnswered, IsToldTooLarge, Reports, Still}
 pub use Rattle.gather.specs.Encodings.{EncodedBytes, IsCut, IsCutOf, cut_gives, encoding}
 pub use Rattle.gather.specs.Finished.{BindsTo, IsFinished, IsWhole, Judges, LacksByte}
 pub use Rattle.gather.specs.Forms.{AreSlices, IsMadeBeside, made_of}

@@ -1,5 +1,5 @@
 -- What the seat with which all others were joined hands out.
-use Rattle.crews.proofs.Common.{◌≡◌, ◌⊎◌, ℕ, ◌≤◌, IsTrue, List, [], ◌++◌, append-nil, length, Contains, sym, subst, arith, inl, inr, sum_by, both_ways, Contains-append_cases, IsKeyed, All-first, All-from_members, All-member, chunk_count, Report, IsFilled, IsServed, HasFailed, Reports, IsHanded, HasCollision, IsTooLarge, AreFrom, IsFrom, pair_of, large_pair, unfinished_named, large_wider, served, Fixed, Call, Commit, Give, Length, Parents, Read, Serve, Settle, Take, Event, Piece, Named, SeatView, IsLegal, IsBlob, empty, mine, legal-append, Gripped, AreAllNames, LooksRound}
+use Rattle.crews.proofs.Common.{◌≡◌, ◌⊎◌, ℕ, ◌≤◌, IsTrue, List, [], ◌++◌, append-nil, length, Contains, sym, subst, arith, inl, inr, sum_by, both_ways, Contains-append_cases, IsKeyed, All-first, All-from_members, All-member, chunk_count, Report, IsFilled, IsServed, HasFailed, IsToldTooLarge, Reports, IsHanded, HasCollision, IsTooLarge, AreFrom, IsFrom, pair_of, large_pair, unfinished_named, large_wider, served, Fixed, Call, Commit, Give, Length, Parents, Read, Serve, Settle, Take, Event, Piece, Named, SeatView, IsLegal, IsBlob, empty, mine, legal-append, Gripped, AreAllNames, LooksRound}
 use Rattle.crews.specs.Closing.{CallsAreFrom, IsLeft}
 use Rattle.crews.specs.Going.{goes}
 use Rattle.crews.specs.Lasting.{HoldsOn, IsBusyOn, RecordsOn, alone_on}
@@ -88,13 +88,13 @@ module _ (H : Type 0) (gives : H → ℕ → ℕ → List ℕ → Type 0) (count
 
   pub unfinished_handed : (blob : List ℕ) → IsKeyed fixed.mode → IsBlob fixed blob → fixed.base ≡ 0 → chunk_count (length blob) ≤ fixed.capacity
       → fixed.capacity ≤ 65536 → IsLegal fixed finished.seen → report'.memory ≡ 0
-      → (IsServed start.view.fixed blob → HasFailed report' ⊎ IsTooLarge (IsHanded gives holders) start.view.fixed ⊎ IsFilled RecordsOn HoldsOn IsBusyOn start seat blob)
+      → (IsServed start.view.fixed blob → HasFailed report' ⊎ IsToldTooLarge report' (IsHanded gives holders) start.view.fixed ⊎ IsFilled RecordsOn HoldsOn IsBusyOn start seat blob)
       → WasUnfinished seat.view finished → HasCollision handed fixed blob
   unfinished_handed blob keyed is first room limit legal fed met unfinished =
       elim (met (subst (λ (f : Fixed). IsServed f blob) (sym of_start) (served fixed blob keyed is first room limit))) [
         | inl memory ↦ absurd (omega (arith, memory, fed))
         | inr (inl large) ↦
             large_pair handed fixed blob keyed is first room (subst (λ (f : Fixed). IsTooLarge handed f) of_start
-            (large_wider (IsHanded gives holders) handed wide start.view.fixed large))
+            (large_wider (IsHanded gives holders) handed wide start.view.fixed large.1))
         | inr (inr filled) ↦ unfinished_pair handed fixed start seat finished blob of_seat keyed is legal left filled cuts unfinished
       ]

@@ -67,6 +67,12 @@ settle_records fixed old new piece Differs settles small same = settled_there ol
 settle_records fixed old new piece OtherRoot settles small same = absurd (same refl)
 settle_records fixed old new piece TooLarge settles small same = absurd (small refl)
 
+-- a parent that was seen held is so after whatever follows
+pub parent_on : (seat : Gripped) (m : ℕ) → is_some ((state_after seat.view.seen).parents m) ≡ true → HasParentOn seat m
+parent_on seat m held all more legal =
+    let there = some_bytes ((state_after seat.view.seen).parents m) held in
+    ap is_some (parent_lasts seat.view.fixed seat.view.seen more m there.0 legal there.1)
+
 -- All parents of a piece at boundaries of the group are held after a seat with all names stored them, and whatever follows.
 pub parents_there : (old new : Gripped) (group : ℕ) (piece : Piece) (mask : ℕ) → Called (Parents group piece (storing.Stored mask)) old.view new.view
     → (AreAllNames old.view.names → AreAllParents old.view group piece (storing.Stored mask)) → (m : ℕ) → m / 64 ≡ group → holds_parent piece m ≡ true → HasParentOn new m
@@ -89,8 +95,7 @@ parents_there old new group piece mask called alone m here has all more legal =
         | inr none ↦ absurd (both_ways _ miss (and_from (m / 64 == group) (has_bit mask (m % 64)) (eq-eqb (m / 64) group here) (wanted.bits m here ∙ and_from _ _ has (ap not none))))
       ]
     ] in
-    let known = some_bytes ((state_after new.view.seen).parents m) now in
-    ap is_some (parent_lasts new.view.fixed new.view.seen more m known.0 legal known.1)
+    parent_on new m now all more legal
 
 -- why none are stored
 pub unstored_refused : (fixed : Fixed) (old new : Gripped) (group : ℕ) (piece : Checked) → SeatIsUnstored fixed group piece unstored.OtherLength old new

@@ -1,5 +1,7 @@
 -- What a call of a shared store gains, and which claims it leaves.
-use Rattle.crews.proofs.Common.{◌≡◌, ℕ, ◌/◌, ◌%◌, ◌==◌, true, false, not, ◌&&◌, ◌||◌, List, [], ◌∷◌, ◌++◌, append_assoc, arith, eqb-true, inl, inr, refl, subst, sym, ◌∙◌, and_from, and_parts, both_ways, cases_Bool, Mode, Hash, AreBytes, Checked, IsAccepted, HoldsLast, piece_mode, piece_nodes, piece_root, piece_text, Among, AmongAnd, Without, Still, IsIt, EndsTooFar, none_gained, IsFrom, parents_of, chunks_of, Fixed, Call, Commit, Give, Parents, Settle, Take, Event, Piece, Settling, Differs, Known, OtherRoot, Settled, TooLarge, IsLegal, state_after, has_bit, in_mask, piece_of, claims, empty, names_of, claims_last, legal-append, Gripped, Called, event_of, ParentsFault, SeatIsUnstored, SeatSettles, right_there}
+use Rattle.crews.proofs.Common.{◌≡◌, ℕ, Bool, IsNone, append-nil, ◌/◌, ◌%◌, ◌==◌, true, false, not, ◌&&◌, ◌||◌, List, [], ◌∷◌, ◌++◌, append_assoc, arith, eqb-true, inl, inr, refl, subst, sym, ◌∙◌, and_from, and_parts, both_ways, cases_Bool, Mode, Hash, AreBytes, Checked, IsAccepted, HoldsLast, piece_mode, piece_nodes, piece_root, piece_text, Among, AmongAnd, Without, Still, IsIt, EndsTooFar, none_gained, IsFrom, parents_of, chunks_of, Fixed, Call, Commit, Give, Parents, Serve, Settle, Take, Event, Piece, Settling, Differs, Known, OtherRoot, Settled, TooLarge, IsLegal, state_after, has_bit, in_mask, piece_of, claims, empty, names_of, claims_last, legal-append, Gripped, Called, event_of, ParentsFault, SeatIsUnstored, SeatSettles, right_there}
+use Rattle.store_core.specs.Knowledge.{Sees}
+use Rattle.store_core.specs.declared.history.Serving.{Serving}
 use Rattle.crews.specs.Going.{goes}
 use Rattle.crews.specs.Seats.{GoneOn, claims_of, fixed_of}
 use Rattle.store_core.specs.declared.history.Storing.TheVariants as storing
@@ -108,3 +110,25 @@ pub unstored_gains : (fixed : Fixed) (old new : Gripped) (group : ℕ) (piece : 
 unstored_gains fixed old new group piece unstored.OtherRoot same = stays_same (IsIt (piece_of fixed.base piece)) old new same
 unstored_gains fixed old new group piece unstored.OtherLength called =
     goes_on (IsIt (piece_of fixed.base piece)) old new (Parents group (piece_of fixed.base piece) storing.OtherLength) refl called
+
+-- a seat that has seen more made no call
+pub sees_on : (handed : Piece → Type 0) (old new : Gripped) → Sees old.view new.view → GoneOn handed old new 0 0
+sees_on handed old new sees = record {
+  fixed_is = sees.goes_on.fixed_is;
+  names_are = sees.goes_on.names_are;
+  more = sees.between;
+  seen_is = sees.goes_on.seen_is ∙ append-nil (old.view.seen ++ sees.between);
+  own = [];
+  by = tt;
+  from = tt;
+  mine_is = sees.goes_on.mine_is;
+  counts = refl;
+  counts_parents = refl;
+}
+
+-- nor did one that looked for a parent, but for a Serve
+pub looked_still : (old new : Gripped) (result : Bool) (start len : ℕ) → (result ≡ true → Sees old.view new.view)
+    → (result ≡ false → (answer : Serving) × Called (Serve start len answer) old.view new.view) → Still (GoneOn IsNone) claims_of old new
+looked_still old new true start len seen lacked = (sees_on IsNone old new (seen refl), λ c is. sym ((seen refl).claims_are c) ∙ is)
+looked_still old new false start len seen lacked =
+    let called = lacked refl in (goes_on IsNone old new (Serve start len called.0) tt called.1, λ c is. sym (called.1.claims_are c) ∙ is)

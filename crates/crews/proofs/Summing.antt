@@ -1,6 +1,14 @@
 -- What all crews did, by what each did.
-use Rattle.crews.proofs.Common.{refl, subst, ◌≡◌, ℕ, suc, ◌+◌, ◌-◌, ◌^◌, ◌≤◌, true, false, IsTrue, List, [], ◌∷◌, min, arith, inl, inr, cases_Bool, sum_by-cons, All, sum_by, IsAnswered, IsHanded, IsTooLarge, large_wider, Fixed, Assembly, IsSeatOf, ◌∙◌, sym, among_onward, later_then, onward, IsKeyed, held_binds, Gripped, fixed_of}
+use Rattle.crews.proofs.Common.{refl, subst, ◌≡◌, ℕ, suc, ◌+◌, ◌-◌, ◌^◌, ◌≤◌, true, false, IsTrue, List, [], ◌∷◌, min, arith, inl, inr, cases_Bool, sum_by-cons, All, sum_by, IsAnswered, IsHanded, IsTooLarge, large_wider, IsServed, made_of, Form, Fixed, Assembly, IsSeatOf, ◌∙◌, sym, among_onward, later_then, onward, IsKeyed, held_binds, Gripped, fixed_of}
 use Rattle.crews.specs.declared.crew.Crew.{Crew}
+use Rattle.std.proofs.Common.{length, length-set, get_or-set_other, get_or-set_same}
+use Rattle.std.proofs.lemmas.Bool.{cases_lt}
+use Rattle.std.specs.Prelude.{◌<◌, slice_index_or, slice_set}
+use Rattle.gather.proofs.Forming.{later_parts}
+use Rattle.gather.specs.Parts.{IsFor}
+use Rattle.gather.specs.declared.grain.Grain.TheVariants.{Group as ByGroup}
+use Rattle.crews.specs.Filling.{Closes, Fills}
+use Rattle.crews.specs.Lasting.{alone_on}
 use Rattle.crews.specs.Crews.{Each, IsHandedTo, Worked, WorkedOn, all_of, all_faults, faults_of}
 use Rattle.crews.specs.Going.{goes}
 use Rattle.crews.specs.Seats.{GoneOn, SeenBinds, fixed_of as fixed_at}
@@ -89,3 +97,55 @@ module _ {H : Type 0} (assembly : Assembly) (gives : H → ℕ → ℕ → List 
         large_wider (IsHandedTo gives xs) (IsHandedTo gives (x ∷ xs)) (λ piece to. record { number = suc to.number; crew = to.crew; there = to.there; handed = to.handed }) _
         (large_all xs ys (λ k d below. of (suc k) d (omega (arith, below))) (each_rest (Worked assembly gives count) x y xs ys each) rest)
   ]
+
+-- each of a list that one relation holds of another holds of
+pub each_wider : {C : Type 0} (R Q : C → C → Type 0) (xs ys : List C) → ((x y : C) → R x y → Q x y) → Each R xs ys → Each Q xs ys
+each_wider R Q xs ys wider each = record { len = each.len; each = λ i d below. wider _ _ (each.each i d below) }
+
+-- what a crew's closing round comes to, its two rounds do
+closes_then : {H : Type 0} (assembly : Assembly) (form : Form) (gives : H → ℕ → ℕ → List ℕ → Type 0) (count : H → ℕ) (blob : List ℕ) (first second third : Crew H)
+    → IsFor form (fixed_of assembly) blob → IsServed (fixed_of assembly) blob → Worked assembly (made_of form gives) count first second → Closes assembly form gives count second third → Fills form gives (fixed_of assembly) blob first third
+closes_then assembly form gives count blob first second third is served begun closes have =
+    let F : Fixed = fixed_of assembly in
+    elim (closes.fills blob is served (later_parts form ByGroup gives F.mode blob _ _ begun.holders have)) [
+      | inl failed ↦ inl failed
+      | inr (inl large) ↦ inr (inl (large.0, large_wider _ (IsHanded (made_of form gives) first.holders.items) begun.reports.no_more F large.1))
+      | inr (inr (filled, full)) ↦
+          inr (inr (
+            record {
+              recorded = filled.recorded;
+              is = filled.is;
+              chunks = λ long n below. elim (filled.chunks long n below) [
+                | inl held ↦ inl held
+                | inr busy ↦ inr (λ alone. begun.claimed n (busy (alone_on _ first.seat second.seat _ _ begun.reports.gains alone)))
+              ];
+            },
+            full,
+          ))
+    ]
+
+pub all_fill : {H : Type 0} (assembly : Assembly) (form : Form) (gives : H → ℕ → ℕ → List ℕ → Type 0) (count : H → ℕ) (blob : List ℕ) (first second third : List (Crew H))
+    → IsFor form (fixed_of assembly) blob → IsServed (fixed_of assembly) blob
+    → Each (Worked assembly (made_of form gives) count) first second → Each (Closes assembly form gives count) second third → Each (Fills form gives (fixed_of assembly) blob) first third
+all_fill assembly form gives count blob first second third is served begun closes = record {
+  len = closes.len ∙ begun.len;
+  each = λ i d below.
+      closes_then assembly form gives count blob _ _ _ is served (begun.each i d below) (closes.each i d (omega (arith, below, begun.len)));
+}
+
+-- a round over one more of them
+pub round_on : {C : Type 0} (R : C → C → Type 0) (old now : List C) (n : ℕ) (x : C) → n < length now
+    → ((i : ℕ) (d : C) → i < length now → n ≤ i → slice_index_or now i d ≡ slice_index_or old i d) × ((i : ℕ) (d : C) → i < n → R (slice_index_or old i d) (slice_index_or now i d))
+    → ((d : C) → R (slice_index_or now n d) x)
+    → ((i : ℕ) (d : C) → i < length (slice_set now n x) → n + 1 ≤ i → slice_index_or (slice_set now n x) i d ≡ slice_index_or old i d)
+    × ((i : ℕ) (d : C) → i < n + 1 → R (slice_index_or old i d) (slice_index_or (slice_set now n x) i d))
+round_on R old now n x below before here = (
+  λ i d there after. get_or-set_other now n i x d (λ e. omega (arith, after, e)) ∙ before.0 i d (omega (arith, there, length-set now n x)) (omega (arith, after)),
+  λ i d within. elim (cases_lt i n) [
+    | inl low ↦ subst (λ y. R (slice_index_or old i d) y) (sym (get_or-set_other now n i x d (λ e. omega (arith, low, e)))) (before.1 i d low)
+    | inr high ↦
+        let at : n ≡ i = omega (arith, within, high) in
+        subst (λ (k : ℕ). R (slice_index_or old k d) (slice_index_or (slice_set now n x) k d)) at
+        (subst (λ y. R y (slice_index_or (slice_set now n x) n d)) (before.0 n d below (omega arith)) (subst (λ y. R (slice_index_or now n d) y) (sym (get_or-set_same now n x d below)) (here d)))
+  ],
+)

@@ -2,6 +2,7 @@ pub mod Seats
 pub mod Going
 pub mod Lasting
 pub mod Crews
+pub mod Filling
 pub mod Finished
 pub mod Peers
 pub mod Joined

@@ -32,15 +32,16 @@ fn read_all(alloc: Global, assembly: &Assembly, seat: &mut Seat) -> Result<Vec<u
     Ok(blob)
 }
 
-/// The blob of a shared store: all bytes below the recorded length, once their hash in the mode is its root.
+/// Returns the blob of a shared store: all bytes below the recorded length, if their hash in the store's mode
+/// is its root. The seat is one of this store's.
 ///
-/// The seat is one of this store's. In this order: 901 `Unfinished` where no length is recorded; 903 `Memory`; 901 where a
-/// byte below the length isn't held; 902 `NotTheRoot` where the hash of the bytes isn't the root. The store is unchanged:
-/// the seat asks for the length, and then at most once reads.
+/// Refuses, in this order, with 901 `Unfinished` if no length is recorded, 903 `Memory`, 901 if a byte below
+/// the length isn't held, and 902 `NotTheRoot` if the hash isn't the root. The store is unchanged: the seat
+/// asks for the length, and then reads at most once.
 ///
-/// For each blob with the root the blob is the one that is answered, and there is none at `NotTheRoot`; or a collision
-/// is exhibited, two different inputs with one chaining value, one of the blob's and one of a piece's of which the history that the seat has
-/// seen committed a chunk, or by which it settled the length.
+/// For every blob with the root, the result is that blob, and `NotTheRoot` never occurs; or the contract
+/// exhibits a collision: two different inputs with the same chaining value, one from the blob and one from a
+/// slice from which the history that the seat has seen committed a chunk, or by which it settled the length.
 #[tactic(auto, using(gather::proofs::Finishing::finished, gather::proofs::Finishing::judged_at, gather::proofs::Finishing::verdict_finishes))]
 pub fn finish(alloc: Global, assembly: &Assembly, seat: &mut Seat) -> Result<Vec<u8>, FinishFault>
     requires of { IsSeatOf assembly.now seat.old }

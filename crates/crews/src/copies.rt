@@ -16,29 +16,32 @@ use std::alloc::Global;
 use std::thread::Threads;
 use store_core::Fixed;
 
-/// The blob of an outboard encoding that was accepted, out of plain copies of it that nobody trusts: each may be whole, cut,
-/// changed, or any bytes. So many workers, at least 1 and at most 64, fill a shared store with room for `capacity` chunks, as
-/// `run_bare` says of a first round, each with a seat of its own and all copies in their order. Then their seats are joined to
-/// one, which goes once more round the groups and asks for what is held by nobody, so that W workers ask each copy for one group
-/// W + 1 times at the most; with `Grain::Chunk` it then asks for each chunk by itself, as `salvage` says. The store is let go at
-/// the end. The copies' bytes stay where they are.
+/// Returns the blob of an accepted outboard encoding, gathered from untrusted plain copies of it: each may be
+/// complete, cut, changed, or any bytes. They aren't copied.
 ///
-/// 802 `Capacity` unless `capacity` is 1 to 65,536, asked before all else; 801 where there is no memory for the store,
-/// 806 for a worker's seat, and 911 `Starved` for the crews and the lists of copies. Then the blob is answered only
-/// once its hash is the outline's root: 902 `NotTheRoot` where it isn't, 903 `Memory` where there is none for the blob, or for
-/// the pieces of at most 256 KiB in which it is read from the store and hashed, on about so many threads at the most. An
-/// unfinished blob is 911 where memory was refused to a worker, or in the last round, else 805 `TooLarge` where one met a
-/// length above 1,024 times the capacity, else 901 `Unfinished`.
+/// The workers, 1 to 64, fill a shared store of `capacity` chunks as in the first round of `run_bare`, each
+/// with a seat of its own and all copies in order. Then their seats are joined into one, which goes once more
+/// round the groups and asks for what nobody holds. So W workers ask each copy for one group at most W + 1
+/// times. With `Grain::Chunk` it then asks for each chunk separately, as `salvage` does. The store is dropped
+/// at the end.
 ///
-/// Where the outboard encoding is that of a blob with the root, of at least one byte and at most `capacity` chunks, and one of the
-/// copies is that blob, it is answered, whatever the other copies are and however the workers meet; or there was no memory, which is
-/// 801, 806, 903 or 911; or such a collision as follows is exhibited. So 805, 901 and 902 say then that there is one. Nor need any
-/// copy be whole: it is enough that what one has of the last chunk makes, with the outboard encoding's parents, the blob's slice, and
-/// so of one for each group of its chunks, or with `Grain::Chunk` for each chunk.
+/// Refuses with 802 `Capacity`, tested first, unless `capacity` is 1 to 65,536; with 801 if there is no memory
+/// for the store, 806 for a worker's seat, and 911 `Starved` for the workers and their lists of copies. An
+/// unfinished blob is refused with 911 if memory was refused to a worker, or in the last round, else with 805
+/// `TooLarge` if one met a length above 1,024 times the capacity, else with 901 `Unfinished`. A finished one is
+/// refused with 902 `NotTheRoot` if its hash isn't the outline's root, and with 903 `Memory` if there is none
+/// for the blob, or for the buffers of at most 256 KiB for each thread through which it is read and hashed.
 ///
-/// What is answered is each blob with the root, at 805 each of them is longer than the capacity, and at 902 there is none;
-/// or a collision is exhibited, two different inputs with one chaining value, one of the blob's and one of a slice's that is
-/// made of the outboard encoding's parents and of a part of one of the copies.
+/// It suffices that the outboard encoding is that of a blob with the root, of at least one byte and at most
+/// `capacity` chunks, and that one copy is that blob, whatever the others are and in whatever order the workers
+/// run. The blob is then returned, unless memory is refused (801, 806, 903 or 911) or a collision is exhibited;
+/// so 805, 901 and 902 imply one. If no copy is complete, it suffices that some copy's bytes of the last chunk
+/// make the blob's slice with the outboard encoding's parents, and so for each group of its chunks, or with
+/// `Grain::Chunk` for each chunk.
+///
+/// The result is every blob with the root; at 805 every such blob is longer than the capacity, and at 902 there
+/// is none. Or a collision is exhibited: two different inputs with the same chaining value, one from the blob
+/// and one from a slice made of the outboard encoding's parents and a range of one of the copies.
 pub fn gather_copies<R: Threads + Sync>(
     rt: &R,
     alloc: Global,

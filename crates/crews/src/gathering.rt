@@ -21,15 +21,15 @@ use std::thread::Threads;
 use store_core::Fixed;
 use store_shared::{Assembly, NewFault, Seat};
 
-/// How a blob is gathered: by how many workers, in which parts, and in how large a store at first.
+/// How a blob is gathered: by how many workers, in which ranges, and with which capacity at first.
 #[derive(Clone, Copy, Debug)]
 pub struct How {
-    /// How many workers gather, 1 to 64: a number beyond counts as the nearest.
+    /// How many workers gather, 1 to 64; a number outside counts as the nearest.
     pub workers: u32,
-    /// The smallest part that is asked for, where more is missing.
+    /// The smallest range that is asked for.
     pub grain: Grain,
-    /// With room for how many chunks the first store is made, at least 1. Where that is less than the capacity, and the blob is too
-    /// large for it or left unfinished, the work is done once more in a store of the whole capacity.
+    /// The capacity of the first store in chunks, at least 1. If that is less than the whole capacity, and the
+    /// blob is too large for it or remains unfinished, the work is repeated in a store of the whole capacity.
     pub room: u32,
 }
 

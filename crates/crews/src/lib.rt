@@ -1,5 +1,5 @@
-//! Many workers fill one shared store, each with its own list of holders that nobody trusts, and the blob is handed out
-//! once its hash is the root.
+//! Many workers fill one shared store, each with its own list of untrusted holders, and the blob is returned if
+//! its hash is the root.
 #![tactic(auto)]
 
 pub use bao_read::{Gate, Open};

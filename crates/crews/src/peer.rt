@@ -1,4 +1,4 @@
-ghost use Rattle.std.specs.Prelude.{◌≡◌, ◌<◌, ◌≤◌, ◌++◌, ℕ, List, IsErrOf, OnErr, OnOk};
+ghost use Rattle.std.specs.Prelude.{◌≡◌, ◌<◌, ◌≤◌, ◌++◌, ℕ, List, [], IsErrOf, OnErr, OnOk};
 ghost use Rattle.store_core.specs.declared.history.Serving.TheVariants.{Text};
 ghost use Rattle.store_core.specs.Histories.{state_after};
 ghost use Rattle.store_core.specs.Serves.{serving};
@@ -8,7 +8,7 @@ use gather::{Holder, HolderFault};
 use std::marker::Model;
 use store_shared::{Assembly, Seat, ServeFault};
 
-/// The holder over a shared store that may be unfinished, with a seat of it: it has the slices that the store serves.
+/// A holder of the slices that a shared store serves, which may be unfinished, by a seat of it.
 #[derive(Drop)]
 pub struct Peer<'a> {
     assembly: &'a Assembly,
@@ -27,7 +27,7 @@ impl<'a> Model for Peer<'a> {
 }
 
 impl<'a> Peer<'a> {
-    /// A holder over this store, with a seat of it.
+    /// Returns a holder of what this store serves, by a seat of it.
     pub fn new(assembly: &'a Assembly, seat: Seat) -> Peer<'a>
         requires of { IsSeatOf assembly.now seat }
         ensures assembly { result.assembly ≡ assembly.now }
@@ -36,7 +36,7 @@ impl<'a> Peer<'a> {
         Peer { assembly, seat }
     }
 
-    /// The seat, which is one of the store's.
+    /// Returns the seat.
     pub fn into_seat(self) -> Seat
         ensures seat { result ≡ self.entry.seat }
         ensures of { IsSeatOf self.entry.assembly result }
@@ -48,27 +48,30 @@ impl<'a> Peer<'a> {
 
 impl<'a> Holder for Peer<'a> {
     ghost use Rattle.gather.specs.declared.holder.HolderFault.TheVariants.{Device};
-    ghost use Rattle.gather.specs.Holders.{Appends};
-    ghost use Rattle.crews.specs.Peers.{Fetches, Starves};
+    ghost use Rattle.gather.specs.Holders.{Appends, GivesNoMore};
+    ghost use Rattle.crews.specs.Peers.{Fetches, MayServe, Starves};
 
     ghost count = { λ _. 0 };
 
-    // What it gives is said by `fetches`.
-    ghost gives = { λ _ _ _ _. Unit {0} };
+    ghost gives = { λ peer start len text. MayServe peer start len text };
 
-    /// Appends the slice that the store serves, or nothing where it has no length or lacks a node. No device fails.
+    /// Appends the slice that the store serves, or nothing if it has no length or lacks a node. It has no
+    /// device that fails.
     ///
-    /// Where the store has a length and holds all nodes of the slice, as far as the seat has seen, that slice's encoding is appended.
+    /// If the seat has seen a length recorded and all nodes of the slice held, that slice's encoding is
+    /// appended. What is appended, unless empty, is the slice of every blob with the store's root; or a
+    /// collision is exhibited: two different inputs with the same chaining value, one from the blob and one
+    /// from the slice that a node or the recorded length came from. Under any root it is accepted as that
+    /// slice, or two such slices contradict each other, as `Assembly::serve_slice` says.
     ///
-    /// What isn't empty is the slice of each blob with the store's root; or a collision is exhibited, two different inputs with
-    /// one chaining value, one of the blob's and one of the piece's that a node of the slice or the recorded length is of. Under
-    /// any root it is accepted as that slice, or two such pieces clash, as `Assembly::serve_slice` says.
+    /// A peer may give as a slice only what its store answers after what the seat has seen and whatever legally
+    /// follows. Once the seat has seen a length recorded and all nodes of a slice held, that is this slice alone.
     fn fetch(&mut self, start: u64, len: u64, into: &mut Vec<u8>) -> Result<(), HolderFault>
-        ensures appended { OnOk result (Appends (λ _. Unit {0}) into.old.items into.new.items) }
-        ensures no_more { Unit {0} → Unit {0} }
+        ensures appended { OnOk result (Appends (MayServe self.old start len) into.old.items into.new.items) }
+        ensures no_more { GivesNoMore MayServe self.old self.new }
         ensures unchanged { OnErr result (into.new.items ≡ into.old.items) }
         ensures device { IsErrOf result Device → 0 < 0 }
-        ensures lost { IsErrOf result Device → Unit {0} }
+        ensures lost { IsErrOf result Device → MayServe self.old start len [] }
         ensures counts { 0 ≤ 0 }
         ensures same { self.new.assembly ≡ self.old.assembly }
         ensures gives { OnOk result ((text : List ℕ) → serving (state_after self.old.seat.view.seen) start len ≡ Text text → into.new.items ≡ into.old.items ++ text) }

@@ -1,12 +1,15 @@
-ghost use Rattle.std.specs.Prelude.{◌≡◌, ◌<◌, ◌≤◌, length, All};
+ghost use Rattle.std.specs.Prelude.{◌≡◌, ◌<◌, ◌≤◌, ℕ, List, length, All};
+ghost use Rattle.gather.specs.Available.{IsServed};
 ghost use Rattle.gather.specs.Forms.{made_of};
-ghost use Rattle.store_shared.specs.Seats.{IsSeatOf};
+ghost use Rattle.gather.specs.Parts.{IsFor};
+ghost use Rattle.store_shared.specs.Seats.{IsSeatOf, fixed_of};
 ghost use Rattle.crews.specs.Crews.{Each, Worked, WorkedOn, all_of};
+ghost use Rattle.crews.specs.Filling.{Closes, Fills};
 
 use crate::crew::Crew;
 use crate::shared::Shared;
 use bao_read::Gate;
-use gather::{Form, Holder, Place, Report, work_as};
+use gather::{Form, Holder, Place, Report, closing_round, work_as};
 use std::alloc::Global;
 use std::thread::{Threads, for_each_mut};
 use store_shared::Assembly;
@@ -63,13 +66,14 @@ fn go_round<H: Holder>(
 )
     requires of { IsSeatOf assembly.now crew.old.seat }
     requires number { (number < crews) × (crews ≤ 64) }
-    ensures { WorkedOn assembly.now (made_of form.now H.gives) H.count crew.old crew.new }
+    ensures worked { WorkedOn assembly.now (made_of form.now H.gives) H.count crew.old crew.new }
+    ensures fills { (blob : List ℕ) → IsFor form.now (fixed_of assembly.now) blob → IsServed (fixed_of assembly.now) blob → Fills form.now H.gives (fixed_of assembly.now) blob crew.old crew.new }
 {
     let place = Place {
         number: number as u32,
         workers: crews as u32,
     };
-    work_as(
+    closing_round(
         alloc,
         form,
         &Shared(assembly),
@@ -78,6 +82,22 @@ fn go_round<H: Holder>(
         place,
         &mut crew.report,
     );
+}
+
+// One crew's closing round, and what it comes to.
+fn close<H: Holder>(
+    alloc: Global,
+    assembly: &Assembly,
+    form: &Form<'_>,
+    number: usize,
+    crews: usize,
+    crew: &mut Crew<H>,
+)
+    requires of { IsSeatOf assembly.now crew.old.seat }
+    requires number { (number < crews) × (crews ≤ 64) }
+    ensures { Closes assembly.now form.now H.gives H.count crew.old crew.new }
+{
+    go_round(alloc, assembly, form, number, crews, crew);
 }
 
 // The closing round, each crew in turn.
@@ -89,11 +109,11 @@ pub(crate) fn last_round<H: Holder>(
 )
     requires count { length crews.old ≤ 64 }
     requires of { All (λ crew. IsSeatOf assembly.now crew.seat) crews.old }
-    ensures { Each (WorkedOn assembly.now (made_of form.now H.gives) H.count) crews.old crews.new }
+    ensures { Each (Closes assembly.now form.now H.gives H.count) crews.old crews.new }
 {
     let workers = crews.len();
     for number in 0..workers {
-        go_round(alloc, assembly, form, number, workers, &mut crews[number]);
+        close(alloc, assembly, form, number, workers, &mut crews[number]);
     }
 }
 

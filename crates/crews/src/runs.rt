@@ -1,10 +1,15 @@
-ghost use Rattle.std.specs.Prelude.{◌≡◌, ◌<◌, ◌≤◌, ◌+◌, IsTrue, length, All};
+ghost use Rattle.std.specs.Prelude.{◌≡◌, ◌<◌, ◌≤◌, ◌+◌, ℕ, IsTrue, List, length, All};
+ghost use Rattle.bao_text.specs.Choice.{chunk_count};
 ghost use Rattle.gather.specs.Counts.{IsAnswered};
+ghost use Rattle.gather.specs.declared.form.Form.TheVariants.{Bare, Slices};
 ghost use Rattle.gather.specs.Forms.{IsMadeBeside, made_of};
 ghost use Rattle.gather.specs.Large.{AreLonger, IsTooLarge};
+ghost use Rattle.gather.specs.Parts.{IsFor, IsOutlineFor};
+ghost use Rattle.store_core.specs.Laws.{IsBlob};
 ghost use Rattle.store_shared.specs.Seats.{IsSeatOf, fixed_of};
 ghost use Rattle.crews.specs.Crews.{Each, IsHandedTo, Worked, all_faults, all_of};
 ghost use Rattle.crews.specs.Beside.{IsOfStore};
+ghost use Rattle.crews.specs.Filling.{Fills};
 ghost use Rattle.crews.specs.Seats.{SeenBinds};
 
 use crate::crew::Crew;
@@ -34,6 +39,8 @@ fn run_as<R: Threads + Sync, H: Holder + Send, G: Gate + Sync>(
     ensures answered { IsAnswered result }
     ensures too_large { IsTrue result.too_large → IsTooLarge (IsHandedTo (made_of form.now H.gives) crews.old) (fixed_of assembly.now) }
     ensures longer { IsTrue result.too_large → AreLonger (IsHandedTo (made_of form.now H.gives) crews.old) (fixed_of assembly.now) }
+    ensures available { (blob : List ℕ) → IsBlob (fixed_of assembly.now) blob → (fixed_of assembly.now).base ≡ 0 → chunk_count (length blob) ≤ (fixed_of assembly.now).capacity → IsFor form.now (fixed_of assembly.now) blob
+        → Each (Fills form.now H.gives (fixed_of assembly.now) blob) crews.old crews.new }
 {
     // For the prover alone: the flags of a mode are apart from the tree's.
     assembly.mode().is_keyed();
@@ -42,32 +49,36 @@ fn run_as<R: Threads + Sync, H: Holder + Send, G: Gate + Sync>(
     all_reports(crews)
 }
 
-/// Gathers what a shared store still lacks of its blob from holders that nobody trusts: one worker a crew, all at once.
+/// Gathers what a shared store lacks of its blob from untrusted holders, with one worker for each element of
+/// `crews`, all at once. The store's base is 0. Returns the sums of the workers' reports.
 ///
-/// There are 1 to 64 crews, and each crew's seat is one of this store's. Each worker first calls `pass` of the gate, once,
-/// with its crew's number from 0. If no length is recorded, it asks its holders in order for the last chunk, checks each
-/// text, and settles the length that it certifies, until one is recorded; it ends where none comes, or where one is above
-/// what the store has room for. Then it goes once round the groups of 64 chunks that the length needs: with C crews and
-/// K groups the worker with the number w begins at group w * K / C. It takes a group's chunks, and asks its holders in
-/// order, each once, for those bytes, checks each text and commits from it, until none of the chunks granted is left;
-/// those that are it gives back. Once it has settled or committed from an encoding, it stores the encoding's parents, group after
-/// group, as far as the encoding claims the recorded length. After all workers ended, each crew in turn makes one more such
-/// round, without the gate.
+/// There are 1 to 64 workers, and each one's seat is of this store. Each first calls `gate` once, with its
+/// number from 0. If no length is recorded, it asks its holders in order for the last chunk, checks what each
+/// supplies and settles the length that it certifies, until one is recorded. It ends if none comes, or if one
+/// is above the store's capacity. Then it goes once round the groups of 64 chunks that the length needs: of C
+/// workers and K groups, worker w begins with group w * K / C. It takes a group's chunks, asks its holders in
+/// order, each once, for those bytes, checks and commits what each supplies until none of the granted chunks is
+/// left, and gives the rest back. From an encoding that it settled or committed from, it also stores the
+/// parents, if the encoding claims the recorded length. When all workers have ended, each in turn makes one
+/// more such round, without the gate. Everything is checked under the store's root in its mode.
 ///
-/// It refuses nothing. Each worker's report, begun anew, stands in its crew, and the answer has their sums, which stay at
-/// 2^64 - 1 once there. Refused memory is counted there; the next holder is then asked. Where a thread can't be started,
-/// its work runs on another thread of the call. Texts are checked under the store's root and in its mode.
+/// It refuses nothing. Each worker's report starts anew. Refused memory is counted there, and the next holder
+/// is then asked. If a thread can't be started, its work runs on another thread of the call.
 ///
-/// What a crew's seat has seen goes on from what it had seen, and is a legal history of the store. A report's
-/// `committed` is the number of chunks in the commits that the crew's own calls added to it, its `parents` that of
-/// the parents that they stored, and the crew claims no more than it did. For each blob with the root, each chunk
-/// seen held is the blob's of that number, counted from the store's first, or a collision is exhibited, two different inputs with
-/// one chaining value, one of the blob's and one of the piece's by which it was committed.
+/// The history that a worker's seat has seen is a legal one, and begins with what it had seen before. In its
+/// report, `committed` is the number of chunks in the commits that it added to that history, and `parents` that
+/// of the parents that it stored. It claims no more than before. For every blob with the root, each chunk seen
+/// held is the blob's of that index, counted from the base; or a collision is exhibited: two different inputs
+/// with the same chaining value, one from the blob and one from the slice from which the chunk was committed.
 ///
-/// `failed` is at most what the holders' counts rose together, and `too_large` is set only where an accepted encoding
-/// certifies a length for which the store has no room: it has none then for any blob with the root, or such a collision is exhibited.
+/// `failed` is at most the rise of the holders' counts. `too_large` is set only if an accepted slice certifies
+/// a length that doesn't fit the store: then no blob with the root fits, or such a collision is exhibited.
 ///
-/// Workers ask for the groups of a whole blob: they fill a store whose base is 0.
+/// It suffices that a worker's holders have a blob with the root between them that fits the store, as for
+/// `gather::run_one`. If no memory was refused to that worker in this call, and no accepted slice certifies a
+/// length that is too large, its seat then knows a length recorded. If that length is the blob's and the seat is
+/// the only one, each chunk is held, or the worker had claimed it before, and each parent is held. This isn't said
+/// of a seat that isn't alone: another one, of these workers or not, may have claimed a chunk meanwhile.
 pub fn run<R: Threads + Sync, H: Holder + Send, G: Gate + Sync>(
     rt: &R,
     alloc: Global,
@@ -84,22 +95,25 @@ pub fn run<R: Threads + Sync, H: Holder + Send, G: Gate + Sync>(
     ensures answered { IsAnswered result }
     ensures too_large { IsTrue result.too_large → IsTooLarge (IsHandedTo H.gives crews.old) (fixed_of assembly.now) }
     ensures longer { IsTrue result.too_large → AreLonger (IsHandedTo H.gives crews.old) (fixed_of assembly.now) }
+    ensures available { (blob : List ℕ) → IsBlob (fixed_of assembly.now) blob → (fixed_of assembly.now).base ≡ 0 → chunk_count (length blob) ≤ (fixed_of assembly.now).capacity
+        → Each (Fills Slices H.gives (fixed_of assembly.now) blob) crews.old crews.new }
 {
     run_as(rt, alloc, assembly, &Form::Slices, crews, gate)
 }
 
-/// Gathers what a shared store still lacks of its blob from bare copies of the blob that nobody trusts, beside an outboard
-/// encoding that was accepted under the store's root and in its mode: one worker a crew, all at once.
+/// Gathers what a shared store lacks of its blob from untrusted plain copies, beside an outboard encoding that
+/// was accepted under the store's root in its mode, as [`run`] does.
 ///
-/// There are 1 to 64 crews, and each crew's seat is one of this store's. All is as with [`run`], but for this. With the
-/// length L that the outline claims, of n chunks, the holders are asked for the last chunk as (1,024 * (n - 1),
-/// L - 1,024 * (n - 1)), and for the group g as (65,536 * g, min(65,536, L - 65,536 * g)), each a first byte and a number of
-/// bytes; so a copy that is too long is asked for no byte beyond L, and one that is too short gives what it has. What a
-/// holder gives are the bytes alone, and they are checked beside the outline (`check_bare`). A worker ends, though not before
-/// its `pass`, as soon as it finds a recorded length other than L, at first or after asking, and so does its closing round.
+/// There are 1 to 64 workers, and each one's seat is of this store. Holders are asked for bytes alone, which
+/// are checked beside the outline (`check_bare`). Let L be the length that the outline claims, and n the number
+/// of its chunks. The last chunk is asked for as (1,024 * (n - 1), L - 1,024 * (n - 1)), and group g as (65,536
+/// * g, min(65,536, L - 65,536 * g)), each an offset and a length. So a copy that is too long is asked for
+/// nothing beyond L, and one that is too short supplies what it has. After its call of `gate`, a worker ends as
+/// soon as it finds a recorded length other than L, first or after asking, and so does its last round.
 ///
-/// It refuses nothing, and its report, what the crews' seats have seen and what they claim are as with [`run`]. The pieces
-/// that are handed over are the slices that the outline's parents and the holders' bytes make together.
+/// It refuses nothing. Its report, what the seats have seen and what they claim are as for [`run`]. What is
+/// handed over are the slices that the outline's parents and the holders' bytes make together. What suffices is also
+/// as there, of a blob of at least one byte whose length the outline claims.
 pub fn run_bare<R: Threads + Sync, H: Holder + Send, G: Gate + Sync>(
     rt: &R,
     alloc: Global,
@@ -118,6 +132,8 @@ pub fn run_bare<R: Threads + Sync, H: Holder + Send, G: Gate + Sync>(
     ensures answered { IsAnswered result }
     ensures too_large { IsTrue result.too_large → IsTooLarge (IsHandedTo (IsMadeBeside outline.now H.gives) crews.old) (fixed_of assembly.now) }
     ensures longer { IsTrue result.too_large → AreLonger (IsHandedTo (IsMadeBeside outline.now H.gives) crews.old) (fixed_of assembly.now) }
+    ensures available { (blob : List ℕ) → IsBlob (fixed_of assembly.now) blob → (fixed_of assembly.now).base ≡ 0 → chunk_count (length blob) ≤ (fixed_of assembly.now).capacity → IsOutlineFor (fixed_of assembly.now) outline.now blob
+        → Each (Fills (Bare outline.entry) H.gives (fixed_of assembly.now) blob) crews.old crews.new }
 {
     run_as(rt, alloc, assembly, &Form::Bare(outline), crews, gate)
 }

@@ -3,7 +3,8 @@ use gather::Shelf;
 use store_core::{Fixed, Settling, StoreFault};
 use store_shared::{Assembly, ParentsFault, Seat};
 
-/// A shared store as its workers see it, each with a seat of its own: what `gather::work` and `gather::salvage` take.
+/// A shared store as its workers see it, each with a seat of its own: an argument of `gather::work` and
+/// `gather::salvage`.
 #[derive(Clone, Copy)]
 pub struct Shared<'a>(pub &'a Assembly);
 
@@ -78,6 +79,11 @@ impl Shelf for Shared<'_> {
             Err(ParentsFault::OtherRoot) => Err(StoreFault::OtherRoot),
             Err(ParentsFault::OtherLength) => Err(StoreFault::OtherLength),
         }
+    }
+
+    #[tactic(auto, using(crate::proofs::Knowing::parent_on, crate::proofs::Sharing::looked_still))]
+    fn has_parent(&self, seat: &mut Seat, boundary: u32) -> bool {
+        self.0.has_parent(seat, boundary)
     }
 
     #[tactic(auto, using(crate::proofs::Knowing::settle_records, crate::proofs::Sharing::settles_large, crate::proofs::Sharing::settles_still))]

@@ -16,41 +16,46 @@ use std::alloc::Global;
 use std::thread::Threads;
 use store_core::Fixed;
 
-/// The blob with the root of `fixed` in its mode, out of sources that are read by position, as files are, and that nobody trusts:
-/// each may have the blob's combined encoding or, beside an outboard encoding, be a plain copy of it, as the form says, or have any
-/// bytes, and other bytes at each read. What they have takes no memory but for the parts that workers ask for.
+/// Returns the blob with the root of `fixed` in its mode, gathered from untrusted sources that are read by
+/// position, such as files.
 ///
-/// So many workers, at least 1 and at most 64, fill a shared store, as `run` and `run_bare` say of a first round, each with a seat
-/// of its own and all sources in their order. Then their seats are joined to one, which goes once more round the groups and asks for
-/// what is held by nobody, so that W workers ask each source for one group W + 1 times at the most; with `Grain::Chunk` it then asks
-/// for each chunk by itself, as `salvage` says. The blob stays in that store, and is read from there. A source of which a read
-/// answers a fault gives nothing then, and the next one is asked.
+/// Each source may have the blob's combined encoding, or, beside an outboard encoding, be a plain copy of it,
+/// as the form says; or it may have any bytes, and others at each read. Only the ranges that workers ask for
+/// take memory.
 ///
-/// The store has room for `how.room` chunks, at least 1 and at most the capacity. Where that is less than the capacity, and the blob
-/// is too large for it or left unfinished, the work is done once more with room for all. As many as an encoding of N bytes can have are
-/// enough for it: N / 1,088 + 1.
+/// The workers, 1 to 64, fill a shared store as in the first round of `run` and `run_bare`, each with a seat of
+/// its own and all sources in order. Then their seats are joined into one, which goes once more round the
+/// groups and asks for what nobody holds. So W workers ask each source for one group at most W + 1 times. With
+/// `Grain::Chunk` it then asks for each chunk separately, as `salvage` does. A source whose read fails supplies
+/// nothing then, and the next one is asked. The blob stays in that store, and is read from there.
 ///
-/// 802 `Capacity` unless the capacity is 1 to 65,536, asked before all else; 801 where there is no memory for the store,
-/// 806 for a worker's seat, and 911 `Starved` for the crews and the lists of sources. Then the blob is answered only
-/// once its hash is the root: 902 `NotTheRoot` where it isn't, 903 `Memory` where there is none for the pieces of at
-/// most 256 KiB in which it is read from the store and hashed, on about so many threads at the most. An unfinished blob is
-/// 911 where memory was refused to a worker, or in the last round, else 805 `TooLarge` where one met a length above 1,024
-/// times the capacity, else 901 `Unfinished`.
+/// The store has a capacity of `how.room` chunks, at least 1 and at most the capacity of `fixed`. If it is
+/// less, and the blob is too large for it or remains unfinished, the work is repeated with the whole capacity.
+/// N / 1,088 + 1 chunks suffice for an encoding of N bytes.
 ///
-/// Where one of the sources never fails, its bytes are known, and they are the combined encoding of a blob with the root,
-/// of at most so many chunks as the capacity, that blob is answered, whatever the other sources are, whether or not they fail, and
-/// however the workers meet; or there was no memory, or such a collision as follows is exhibited. Nor need any source be whole: it
-/// is enough that what one gives as the slice of the last byte is known to be the blob's, and for each group of the blob's
-/// chunks what one gives as the group's slice, or with `Grain::Chunk` for each chunk as the chunk's.
+/// Refuses with 802 `Capacity`, tested first, unless the capacity is 1 to 65,536; with 801 if there is no
+/// memory for the store, 806 for a worker's seat, and 911 `Starved` for the workers and their lists of sources.
+/// An unfinished blob is refused with 911 if memory was refused to a worker, or in the last round, else with
+/// 805 `TooLarge` if one met a length above 1,024 times the capacity, else with 901 `Unfinished`. A finished
+/// one is refused with 902 `NotTheRoot` if its hash isn't the root, and with 903 `Memory` if there is none for
+/// the buffers of at most 256 KiB for each thread through which it is read and hashed.
 ///
-/// Beside the outboard encoding of a blob of at least one byte, a source is enough that never fails and whose bytes are known to be
-/// that blob. Nor need it be whole: it is enough that what one gives of the last chunk is known to make, with the outboard encoding's
-/// parents, the blob's slice, and so for each group of its chunks, or with `Grain::Chunk` for each chunk.
+/// It suffices that one source never fails, that its bytes are known, and that they are the combined encoding
+/// of a blob with the root of at most as many chunks as the capacity, whatever the others are, and in whatever
+/// order the workers run. That blob is then returned, unless memory is refused or a collision is exhibited. If
+/// none is complete, it suffices that what some source supplies as the slice of the last byte is known to be
+/// the blob's, and so for each group, or with `Grain::Chunk` each chunk.
 ///
-/// What is answered is each blob with the root, at 805 each of them is longer than the capacity, and at 902 there is none;
-/// or a collision is exhibited, two different inputs with one chaining value, one of the blob's and one of a slice's that is
-/// accepted under the root. Where the bytes of the source are known from which it came, it is cut out of them, or made of a part of
-/// them and of the outboard encoding's parents. Such a slice certifies the length that is too large, too.
+/// Beside the outboard encoding of a blob of at least one byte, one source suffices that never fails and is
+/// known to be that blob. If none is complete, it suffices that what some source supplies of the last chunk is
+/// known to make the blob's slice with the outboard encoding's parents, and so for each group, or with
+/// `Grain::Chunk` each chunk.
+///
+/// The result is every blob with the root; at 805 every such blob is longer than the capacity, and at 902 there
+/// is none. Or a collision is exhibited: two different inputs with the same chaining value, one from the blob
+/// and one from a slice that is accepted under the root. If the bytes of the source that it came from are
+/// known, it is cut out of them, or made of a range of them and of the outboard encoding's parents. Such a
+/// slice also certifies the length that is too large.
 pub fn gather<R: Threads + Sync, S: Source + Sync>(
     rt: &R,
     alloc: Global,

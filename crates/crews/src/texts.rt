@@ -22,14 +22,14 @@ use std::thread::Threads;
 use store_core::Fixed;
 use store_shared::{Assembly, Seat};
 
-/// So many crews, each with a seat of its own that is split off this one, and holders over all texts in their order;
-/// and the seat that stays. The texts are not copied.
+/// Returns `workers` workers, each with a seat split off from `seat` and holders of all encodings in order; and
+/// the seat that remains. The encodings aren't copied.
 ///
-/// Each crew's seat has seen what this seat had seen, and has neither claims nor calls of its own. The seat that stays
-/// keeps all of this one's: what it had seen, its calls and its claims.
+/// Each new seat has seen what `seat` had seen, and has neither claims nor calls. The seat that remains keeps
+/// all of its own.
 ///
-/// 806 `Seat` where there was no memory for a seat, and 911 `Starved` for the crews and their lists of texts. The
-/// seats are let go then.
+/// Refuses with 806 `Seat` if there is no memory for a seat, and with 911 `Starved` for the workers and their
+/// lists. The seats are then dropped.
 pub fn crews_over<'a>(
     alloc: Global,
     assembly: &Assembly,
@@ -50,29 +50,32 @@ pub fn crews_over<'a>(
     crews_with(alloc, assembly, seat, workers, &Texts(texts))
 }
 
-/// The blob with this root in this mode, out of texts that nobody trusts: each may be its combined encoding, or any
-/// bytes. So many workers, at least 1 and at most 64, fill a shared store, as `run` says of a first round, each with a seat of
-/// its own and all texts in their order. Then their seats are joined to one, which goes once more round the groups and asks for
-/// what is held by nobody, so that W workers ask each text for one group W + 1 times at the most; with `Grain::Chunk` it then
-/// asks for each chunk by itself, as `salvage` says. The store is let go at the end. It has room for as many chunks as a blob
-/// with such an encoding may have, at most `capacity`: where that is less, and the blob is too large for it or left unfinished,
-/// the work is done again with room for all. The texts are not copied.
+/// Returns the blob with this root in this mode, gathered from untrusted `texts`: each may be its combined
+/// encoding, or any bytes. They aren't copied.
 ///
-/// 802 `Capacity` unless `capacity` is 1 to 65,536, asked before all else; 801 where there is no memory for the store,
-/// 806 for a worker's seat, and 911 `Starved` for the crews and the lists of texts. Then the blob is answered only
-/// once its hash is the root: 902 `NotTheRoot` where it isn't, 903 `Memory` where there is none for the blob, or for the
-/// pieces of at most 256 KiB in which it is read from the store and hashed, on about so many threads at the most. An
-/// unfinished blob is 911 where memory was refused to a worker, or in the last round, else 805 `TooLarge` where one met a
-/// length above 1,024 times the capacity, else 901 `Unfinished`.
+/// The workers, 1 to 64, fill a shared store as in the first round of `run`, each with a seat of its own and
+/// all encodings in order. Then their seats are joined into one, which goes once more round the groups and asks
+/// for what nobody holds. So W workers ask each encoding for one group at most W + 1 times. With `Grain::Chunk`
+/// it then asks for each chunk separately, as `salvage` does. The store is dropped at the end. Its capacity is
+/// that of the largest blob with such an encoding, at most `capacity`; if that is less, and the blob is too
+/// large for it or remains unfinished, the work is repeated with the whole capacity.
 ///
-/// Where one of the texts is the combined encoding of a blob with the root, of at most `capacity` chunks, that blob is
-/// answered, whatever the other texts are and however the workers meet, or there was no memory, or such a collision as
-/// follows is exhibited. Nor need any text be whole: it is enough that the slice of the last byte can be cut out of one, and
-/// for each group of the blob's chunks the group's slice out of one, or with `Grain::Chunk` for each chunk the chunk's.
+/// Refuses with 802 `Capacity`, tested first, unless `capacity` is 1 to 65,536; with 801 if there is no memory
+/// for the store, 806 for a worker's seat, and 911 `Starved` for the workers and their lists of encodings. An
+/// unfinished blob is refused with 911 if memory was refused to a worker, or in the last round, else with 805
+/// `TooLarge` if one met a length above 1,024 times the capacity, else with 901 `Unfinished`. A finished one is
+/// refused with 902 `NotTheRoot` if its hash isn't the root, and with 903 `Memory` if there is none for the
+/// blob, or for the buffers of at most 256 KiB for each thread through which it is read and hashed.
 ///
-/// What is answered is each blob with the root, at 805 each of them is longer than the capacity, and at 902 there is none;
-/// or a collision is exhibited, two different inputs with one chaining value, one of the blob's and one of a slice's that is
-/// cut out of one of these texts and accepted under the root. Such a slice certifies the length that is too large, too.
+/// It suffices that one of `texts` is the combined encoding of a blob with the root of at most `capacity`
+/// chunks, whatever the others are, and in whatever order the workers run. That blob is then returned, unless
+/// memory is refused or a collision is exhibited. If none is complete, it suffices that the slice of the last
+/// byte can be cut out of one, and so each group's slice, or with `Grain::Chunk` each chunk's.
+///
+/// The result is every blob with the root; at 805 every such blob is longer than the capacity, and at 902 there
+/// is none. Or a collision is exhibited: two different inputs with the same chaining value, one from the blob
+/// and one from a slice that is cut out of one of `texts` and accepted under the root. Such a slice also
+/// certifies the length that is too large.
 pub fn gather_texts<R: Threads + Sync>(
     rt: &R,
     alloc: Global,

@@ -73,8 +73,8 @@ pub(crate) fn certify<R: Threads + Sync>(
     }
 }
 
-/// A blob that came together, in the shared store that it was gathered in: whoever has it reads its bytes from there, so that
-/// they take no memory of their own. The store is let go with it. Contracts see the blob's bytes.
+/// A gathered blob, in the shared store that it was gathered in: it is read from there, so it takes no further
+/// memory. The store is dropped with it. Contracts refer to the blob's bytes.
 #[derive(Drop)]
 pub struct Whole {
     assembly: Assembly,
@@ -110,7 +110,7 @@ impl Whole {
         }
     }
 
-    /// How many bytes the blob has.
+    /// Returns the length of the blob in bytes.
     pub fn len(&self) -> u64
         ensures { result ≡ length self.now }
     {
@@ -118,15 +118,15 @@ impl Whole {
         *len
     }
 
-    /// Whether the blob has no byte.
+    /// Returns whether the blob is empty.
     pub fn is_empty(&self) -> bool
         ensures { IsTrue result ↔ (self.now ≡ []) }
     {
         self.len() == 0
     }
 
-    /// Reads bytes of the blob from the position `at` on to the front of `out`, and answers how many: as many as there is room
-    /// for, where the blob has so many there. The rest of `out` is unchanged. It takes no memory.
+    /// Reads bytes of the blob from offset `at` on to the front of `out`, and returns how many: as many as fit
+    /// and exist there. The rest of `out` is unchanged. It doesn't allocate.
     pub fn read(&mut self, at: u64, out: &mut [u8]) -> usize
         ensures same { self.new ≡ self.old }
         ensures count { result ≡ min (length out.old) (length self.old - at) }
@@ -140,9 +140,8 @@ impl Whole {
         }
     }
 
-    /// All bytes of the blob, in memory of their own.
-    ///
-    /// Refused where there is none. The blob is as it was in either case.
+    /// Returns all bytes of the blob in memory of their own. Refuses if there is none. The blob is unchanged in
+    /// either case.
     pub fn to_vec(&mut self, alloc: Global) -> Result<Vec<u8>, AllocError>
         ensures same { self.new ≡ self.old }
         ensures bytes { IfOk result (λ blob. blob.items ≡ self.old) }
@@ -152,15 +151,15 @@ impl Whole {
         Ok(blob)
     }
 
-    /// The encoding of the slice (`start`, `len`) of the blob in this mode, byte for byte as `bao_text::slice` makes it.
+    /// Returns the encoding of the slice (`start`, `len`) of the blob in this mode, byte for byte as
+    /// `bao_text::slice` does.
     ///
-    /// 401 `Memory` where there is none for it, or for the blob's bytes beside it; nothing else refuses it. The blob is as
-    /// it was in either case.
+    /// Refuses only with 401 `Memory`, if there is none for the slice or for the blob's bytes beside it. The
+    /// blob is unchanged in either case.
     ///
-    /// It is made of the bytes, all of which are read and hashed, and not of the parents that the store holds. A store that
-    /// has all bytes may lack parents: a text that claims another length leaves chunks there, and none of its parents. And a
-    /// parent that is held may be another's with the blob's value, where the two collide. What is made of the bytes is the
-    /// slice in any case.
+    /// The slice is made of the bytes, all of which are read and hashed, and not of the parents that the store
+    /// holds: a store that has all bytes may lack parents (an encoding that claims another length leaves chunks
+    /// there, but no parents), and a held parent may, in a collision, be another's with the blob's value.
     pub fn serve_slice(
         &mut self,
         alloc: Global,

@@ -59,9 +59,9 @@ module _ (at : List ℕ → FileState) where
 
   left_by : (after : List ℕ → FileState) (request : Request) (fault : Fault) → LacksFile at request.task → LeavesFilesOf at after request fault → KeepsFiles at after
   left_by after request fault lacks (inl kept) = kept
-  left_by after request fault lacks (inr left) = elim left.2 [
+  left_by after request fault lacks (inr left) = elim left.2.2 [
     | inl but ↦ but_list after (list_of request.task) (no_list request.task lacks) but
-    | inr did ↦ absurd (not_right left.0 request.task did.1.0 lacks did.1.1)
+    | inr did ↦ absurd (not_right left.2.0 request.task did.1.0 lacks did.1.1)
   ]
 
   module _ (words : List Text) (after : List ℕ → FileState) (old new : Option (List ℕ)) (asked : (request : Request) → AsksFor words request → LacksFile at request.task) (work : ¬ AsksForHelp words) where

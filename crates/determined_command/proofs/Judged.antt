@@ -45,7 +45,7 @@ stored_there Absent text known are = absurd are
 stored_there (Stored s) text known are = ap (λ (k : List ℕ). Stored k) (sym are)
 
 -- an accepted text has no fault
-accepted_apart : (mode : Mode) (key : List ℕ) (part : Part) (text : List ℕ) → length text < 2 ^ 63 → IsPartText mode key part text → HasFault (IsTextFault (task_of_part mode key part) text) → ⊥
+pub accepted_apart : (mode : Mode) (key : List ℕ) (part : Part) (text : List ℕ) → length text < 2 ^ 63 → IsPartText mode key part text → HasFault (IsTextFault (task_of_part mode key part) text) → ⊥
 accepted_apart mode key part text low accepted fault = apart (part_bytes part) mode key part text low fault.0 fault.2 accepted
 
 module _ (at : List ℕ → FileState) (m : Mode) (sure : Type 0) (xs : List ℕ) where

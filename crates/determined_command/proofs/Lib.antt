@@ -5,3 +5,5 @@ pub mod Judged
 pub mod Holders
 pub mod Absent
 pub mod Below
+pub mod Outcomes
+pub mod Good

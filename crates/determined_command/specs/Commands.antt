@@ -1,5 +1,5 @@
 -- What two runs of one command line have in common.
-use Rattle.std.specs.Prelude.{◌≡◌, ◌≢◌, ◌⊎◌, ℕ, ◌^◌, ◌<◌, true, List, length, Option, None, Some, IfSome}
+use Rattle.std.specs.Prelude.{◌≡◌, ◌≢◌, ◌⊎◌, ℕ, ◌^◌, ◌<◌, true, List, length, Option, None, Some, IfSome, IsSomeAnd}
 use Rattle.std.specs.Io.KnownBytes.{Appends}
 use Rattle.std.specs.Option.{option_copied}
 use Rattle.b3tree.specs.declared.mode.Mode.{Mode}
@@ -16,9 +16,9 @@ use Rattle.bao_request.specs.declared.tasks.Request.{Request}
 use Rattle.bao_request.specs.declared.tasks.Task.{Task}
 use Rattle.bao_request.specs.declared.tasks.Task.TheVariants.{Hash, Encode, CutSlice, Decode, DecodeCopy, Gather, Replay}
 use Rattle.bao_command.specs.Effects.{Writes, list_of}
-use Rattle.bao_command.specs.ModeWords.{HasMode}
+use Rattle.bao_command.specs.ModeWords.{GivesNoKey, HasBadKey, HasKeyAndContext, HasMode, MixesKeys}
 use Rattle.bao_command.specs.Refused.{Collides, OfRoot}
-use Rattle.bao_command.specs.Tasks.{line_of}
+use Rattle.bao_command.specs.Tasks.{GoesApart, HasBadScript, HasManyFiles, HasNoCapacity, HasRoot, IsMixed, IsPastOutput, ReadsList, ReadsOut, line_of}
 use Rattle.determined_tasks.specs.Replays.{AreStored}
 
 -- the same status, or that of memory
@@ -125,3 +125,22 @@ LacksFile at (Decode root part verbose file out) = at file.now ≡ Absent
 LacksFile at (DecodeCopy root outboard verbose copy out) = at outboard.now ≡ Absent
 LacksFile at (Gather root workers capacity long outboard salvage encode verbose missing files out) = ⊥
 LacksFile at (Replay root capacity script files) = at script.now ≡ Absent
+
+-- what is written would take the place of a file that is read, by its name
+abbrev pub WritesOverRead : Request → Type 0
+WritesOverRead request = ReadsList request ⊎ ReadsOut request
+
+-- Over known files there is nothing to refuse about the arguments: the root and the keys are good, the output ends below 2^64, the files are few, their names
+-- apart, a store has the capacity, and each line of the script has a form.
+pub record IsGood (at : List ℕ → FileState) (request : Request) : Type 0 where
+  pub root : HasRoot request.task
+  pub key : ¬ HasBadKey request
+  pub both : ¬ HasKeyAndContext request
+  pub keys : ¬ MixesKeys request
+  pub key_file : ¬ IsSomeAnd request.key_file (λ path. GivesNoKey (at path.now))
+  pub past : ¬ IsPastOutput request.task
+  pub few : ¬ HasManyFiles request.task
+  pub mixed : ¬ IsMixed request.task
+  pub apart : GoesApart request
+  pub capacity : ¬ HasNoCapacity request.task
+  pub script : ¬ HasBadScript at request.task

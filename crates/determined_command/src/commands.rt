@@ -1,17 +1,19 @@
 // The program.
 
-ghost use Rattle.std.specs.Prelude.{◌≡◌, ◌≢◌, ◌⊎◌, ℕ, List, map, string_bytes};
+ghost use Rattle.std.specs.Prelude.{◌≡◌, ◌≢◌, ◌⊎◌, ℕ, List, [], map, string_bytes};
 ghost use Rattle.std.specs.Io.KnownBytes.{Keeps};
 ghost use Rattle.b3tree.specs.declared.mode.Mode.{Mode};
 ghost use Rattle.b3tree.specs.Valid.{AreBytes};
 ghost use Rattle.bao_command.specs.ModeWords.{HasMode};
 ghost use Rattle.bao_command.specs.Outcome.{AreRefused};
-ghost use Rattle.bao_command.specs.Tasks.{Gathers, IsRight, ReadsList, Replays};
+ghost use Rattle.bao_command.specs.Tasks.{Gathers, IsRight, Replays};
 ghost use Rattle.bao_request.specs.declared.tasks.Request.{Request};
 ghost use Rattle.bao_request.specs.declared.tasks.Task.{Task};
-ghost use Rattle.bao_request.specs.CommandLine.{AsksFor, AsksForHelp};
-ghost use Rattle.bao_files.specs.Disks.{KeepsFiles, Unknown};
-ghost use Rattle.determined_command.specs.Commands.{BothKeep, CollidesAsked, IsGatheredUnder, IsJudged, IsKeyKnown, IsOfKnown, LacksFile, PutTwo, SamePrinted, SameStatus, SameVerdict};
+ghost use Rattle.bao_request.specs.CommandLine.{AsksFor, AsksForHelp, program_app};
+ghost use Rattle.clap.specs.Words.{fault_of};
+ghost use Rattle.bao_files.specs.Disks.{FileState, IsKnown, KeepsFiles, Unknown};
+ghost use Rattle.determined_command.specs.Commands.{BothKeep, CollidesAsked, IsGatheredUnder, IsGood, IsJudged, IsKeyKnown, IsOfKnown, IsShort, LacksFile, PutTwo, SamePrinted, SameStatus, SameVerdict, WritesOverRead};
+ghost use Rattle.determined_command.specs.Outcomes.{IsOfOne, Outcome, OutcomeOf, Ran};
 ghost use Rattle.determined_files.specs.Agreeing.{SameWhereKnown};
 
 use bao_command::{Fault, command};
@@ -151,17 +153,32 @@ pub fn absent_file_unread<
     command(rt, disk, words, out, err, progress)
 }
 
-// A list that would take the place of a file that is read, by its name, is never made: no such command is done.
-pub fn list_read_refused<
+// An OUT or a list that would take the place of a file that is read, by its name, is never made: no such command is done, and no file changes. Of a
+// gathering OUT may be one of the files.
+pub fn write_over_read_refused<
     R: AllocGlobal + Threads + Sync,
     D: Disk,
     O: Write,
     E: Write,
     P: Progress + Sync,
 >(rt: &R, disk: &mut D, words: &[String], out: &mut O, err: &mut E, progress: &P) -> u8
-    requires asked { (request : Request) → AsksFor (map string_bytes words.now) request → ReadsList request }
+    requires asked { (request : Request) → AsksFor (map string_bytes words.now) request → WritesOverRead request }
     requires work { ¬ AsksForHelp (map string_bytes words.now) }
-    ensures { result ≢ 0 }
+    ensures status { result ≢ 0 }
+    ensures files { KeepsFiles (D.at disk.old) (D.at disk.new) }
+{
+    command(rt, disk, words, out, err, progress)
+}
+
+// Wrong arguments change no file, whatever they are.
+pub fn usage_changes_none<
+    R: AllocGlobal + Threads + Sync,
+    D: Disk,
+    O: Write,
+    E: Write,
+    P: Progress + Sync,
+>(rt: &R, disk: &mut D, words: &[String], out: &mut O, err: &mut E, progress: &P) -> u8
+    ensures { result ≡ 2 → KeepsFiles (D.at disk.old) (D.at disk.new) }
 {
     command(rt, disk, words, out, err, progress)
 }
@@ -170,3 +187,43 @@ pub fn list_read_refused<
 pub fn lines_are_of_bytes()
     ensures { (mode : Mode) (task : Task) (bytes : List ℕ) → IsRight (λ _. Unknown) mode task bytes → ¬ Replays task → AreBytes bytes }
 {}
+
+// Where all files are known, hashing and decoding do what the files make of them: what is printed and written is that outcome, and a text is refused only
+// where it is one that isn't accepted.
+pub fn one_file_decides<
+    R: AllocGlobal + Threads + Sync,
+    D: Disk,
+    O: Write,
+    E: Write,
+    P: Progress + Sync,
+>(rt: &R, disk: &mut D, words: &[String], out: &mut O, err: &mut E, progress: &P) -> u8
+    requires asked { (request : Request) → AsksFor (map string_bytes words.now) request → IsOfOne request.task }
+    requires known { (path : List ℕ) → IsKnown (D.at disk.old path) }
+    requires short { (path : List ℕ) → IsShort (D.at disk.old path) }
+    requires work { ¬ AsksForHelp (map string_bytes words.now) }
+    ensures { (result ≡ 0) ⊎ (result ≡ 1) → Ran (map string_bytes words.now) (D.at disk.old) (D.at disk.new) (O.contents out.old) (O.contents out.new) result }
+{
+    command(rt, disk, words, out, err, progress)
+}
+
+// There is one outcome.
+pub fn outcome_is_one()
+    ensures { (at : List ℕ → FileState) (mode : Mode) (task : Task) (a b : Outcome) → OutcomeOf at mode task a → OutcomeOf at mode task b → a ≡ b }
+{}
+
+// Over known files a good command isn't refused with 2.
+pub fn good_command_runs<
+    R: AllocGlobal + Threads + Sync,
+    D: Disk,
+    O: Write,
+    E: Write,
+    P: Progress + Sync,
+>(rt: &R, disk: &mut D, words: &[String], out: &mut O, err: &mut E, progress: &P) -> u8
+    requires asked { (request : Request) → AsksFor (map string_bytes words.now) request → IsGood (D.at disk.old) request }
+    requires known { (path : List ℕ) → IsKnown (D.at disk.old path) }
+    requires some { (request : Request) × AsksFor (map string_bytes words.now) request }
+    requires taken { fault_of program_app (map string_bytes words.now) ≡ [] }
+    ensures { result ≢ 2 }
+{
+    command(rt, disk, words, out, err, progress)
+}

@@ -2,7 +2,7 @@
 use Rattle.std.proofs.Common.{◌≡◌, ℕ, List, [], ◌∷◌, ◌++◌, length, inl, inr, sym, ap, subst, ◌∙◌, arith, append-nil}
 use Rattle.std.specs.Prelude.{Result, Ok, Err, OnOk}
 use Rattle.gather.specs.declared.holder.HolderFault.{HolderFault}
-use Rattle.crews.specs.Peers.{Fetches, IsFetchCall}
+use Rattle.crews.specs.Peers.{Fetches, IsFetchCall, text_of}
 use Rattle.store_core.specs.declared.history.Call.TheVariants.{Serve}
 use Rattle.store_core.specs.declared.history.Event.{Event}
 use Rattle.store_core.specs.declared.history.Serving.{Serving}
@@ -16,11 +16,6 @@ use Rattle.store_core.specs.States.{empty}
 use Rattle.store_core.specs.Views.{mine}
 use Rattle.store_core.proofs.Lasting.{legal-append}
 use Rattle.determined_gather.proofs.Asked.{all_own, none, own_long, seen_long}
-
-abbrev text_of : Serving → List ℕ
-text_of NoLength = []
-text_of (Lacking node) = []
-text_of (Text text) = text
 
 -- the reply of a call with which no other seat's came
 replied : (old new later : SeatView) (start len : ℕ) (answer : Serving) → AreAllNames old.names → mine old ≡ old.seen → Called (Serve start len answer) old new → LooksRound new later

@@ -8,4 +8,7 @@ pub mod Firsts
 pub mod Alike
 pub mod LoneStoring
 pub mod PieceNodes
+pub mod FullServing
 pub mod SlicesServed
+pub mod Composing
+pub mod AloneFilling

@@ -6,7 +6,7 @@ use Rattle.bao_text.specs.declared.choice.Choice.{Choice}
 use Rattle.bao_text.specs.declared.walk.Node.{Node}
 use Rattle.bao_text.specs.declared.walk.Node.TheVariants.{Chunk, Parent}
 use Rattle.bao_text.specs.Choice.{chunk_count, of_slice}
-use Rattle.bao_text.specs.NodeNames.{boundary, name}
+use Rattle.bao_text.specs.NodeNames.{boundary, name, slice_names}
 use Rattle.bao_text.specs.Nodes.{TreeNode, nodes, placed_nodes, size}
 use Rattle.bao_check.specs.Parents.{is_parent_at, parent_in}
 use Rattle.bao_check.specs.Pieces.{chunk_in}
@@ -66,6 +66,21 @@ unnamed (node ∷ rest) x there = elim (Contains-cons_cases (map name rest) (nam
   | inr inner ↦ let found = unnamed rest x inner in (found.0, (Contains-tail rest node found.0 found.1.0, found.1.1))
 ]
 
+-- the nodes of a slice of a blob: chunks of the blob, and parents at boundaries within it
+pub each_node : (n start len : ℕ) (P : Node → Type 0) → ((c : ℕ) → c < chunk_count n → P (Chunk c)) → ((m : ℕ) → 0 < m → m < chunk_count n → P (Parent m))
+    → (x : Node) → Contains (slice_names n start len) x → P x
+each_node n start len P chunk parent x there =
+    let found = unnamed (nodes n start len) x there in
+    let node = found.0 in
+    let within : IsWithin 0 (chunk_count n) node = All-member (IsWithin 0 (chunk_count n)) (nodes n start len) (numbers_within (of_slice n start len) 0 n [] 8) node found.1.0 in
+    let named : P (name node) = elim (cases_Bool node.is_chunk) [
+      | inl it ↦ rw it (chunk node.number (omega (arith, within.1)))
+      | inr other ↦
+          let inside = All-member (IsInside 0 (chunk_count n)) (nodes n start len) (boundaries_inside (of_slice n start len) 0 n [] 8) node found.1.0 other in
+          rw other (parent (boundary node) (omega (arith, inside.0)) (omega (arith, inside.1)))
+    ] in
+    subst P (sym found.1.1) named
+
 some_mapped : {X Y : Type 0} (f : X → Y) (o : Option X) → IsSome o → is_some (option_map f o) ≡ true
 some_mapped f None is = is
 some_mapped f (Some x) is = refl
@@ -85,22 +100,10 @@ module _ (text : List ℕ) (n len : ℕ) (all : n ≤ len) where
       parent_in-some text (placed_nodes 8 (nodes n 0 len)) m
       ∙ parent_wanted whole m (record { before = omega (arith, low, high, all); after = omega arith }) 0 n [] 8 8 low (omega (arith, high))
 
-  node_of_whole : (start some : ℕ) (node : TreeNode) → Contains (nodes n start some) node → HasIn text 8 (nodes n 0 len) (name node)
-  node_of_whole start some node there =
-      let within : IsWithin 0 (chunk_count n) node = All-member (IsWithin 0 (chunk_count n)) (nodes n start some) (numbers_within (of_slice n start some) 0 n [] 8) node there in
-      elim (cases_Bool node.is_chunk) [
-        | inl chunk ↦ rw chunk (chunk_of_whole node.number (omega (arith, within.1)))
-        | inr parent ↦
-            let inside = All-member (IsInside 0 (chunk_count n)) (nodes n start some) (boundaries_inside (of_slice n start some) 0 n [] 8) node there parent in
-            rw parent (parent_of_whole (boundary node) (omega (arith, inside.0)) (omega (arith, inside.1)))
-      ]
-
 -- each slice
 pub every_slice : (piece : Piece) → piece.base ≡ 0 → piece.start ≡ 0 → length_of piece ≤ piece.len → (start len : ℕ) → HasSliceOf piece start len
 every_slice piece first begin all start len x there =
-    let found = unnamed (nodes (length_of piece) start len) x there in
-    let own : HasIn piece.text 8 (nodes (length_of piece) 0 piece.len) (name found.0) =
-    node_of_whole piece.text (length_of piece) piece.len all start len found.0 found.1.0 in
+    let n : ℕ = length_of piece in
     has_node piece first x
-    (subst (λ (from : ℕ). HasIn piece.text 8 (nodes (length_of piece) from piece.len) x) (sym begin)
-    (subst (λ (y : Node). HasIn piece.text 8 (nodes (length_of piece) 0 piece.len) y) (sym found.1.1) own))
+    (subst (λ (from : ℕ). HasIn piece.text 8 (nodes n from piece.len) x) (sym begin)
+    (each_node n start len (HasIn piece.text 8 (nodes n 0 piece.len)) (chunk_of_whole piece.text n piece.len all) (parent_of_whole piece.text n piece.len all) x there))

@@ -1,5 +1,6 @@
 -- What a seat that is alone stores of a piece, and which slices it serves then.
-use Rattle.std.specs.Prelude.{◌≡◌, ◌⊎◌, ℕ, ◌/◌, ◌<◌, true, List, Contains, Some, is_some}
+use Rattle.std.specs.Prelude.{◌≡◌, ◌⊎◌, ℕ, ◌/◌, ◌<◌, true, List, length, Contains, Some, is_some}
+use Rattle.bao_text.specs.Choice.{chunk_count}
 use Rattle.bao_text.specs.declared.walk.Node.{Node}
 use Rattle.bao_text.specs.declared.walk.Node.TheVariants.{Chunk, Parent}
 use Rattle.bao_text.specs.NodeNames.{slice_names}
@@ -13,6 +14,7 @@ use Rattle.store_core.specs.Histories.{state_after}
 use Rattle.store_core.specs.Laws.{IsBlob}
 use Rattle.store_core.specs.Pieces.{holds_chunk, holds_parent, length_of}
 use Rattle.store_core.specs.Serves.{node_held}
+use Rattle.store_core.specs.States.{State, is_held}
 
 -- a chunk's number, or a parent's boundary
 abbrev pub number_of : Node → ℕ
@@ -41,3 +43,13 @@ AreStored view piece end = (node : Node) → HasNode piece node → number_of no
 -- the text is the slice of each blob with the root, or a collision is exhibited from a piece that was handed over
 abbrev pub IsTheSlice : (Piece → Type 0) → Fixed → ℕ → ℕ → List ℕ → Type 0
 IsTheSlice handed fixed start len text = (blob : List ℕ) → IsBlob fixed blob → (text ≡ slice_text fixed.mode blob start len) ⊎ HasCollision handed fixed blob
+
+-- A store has every node of a blob: the blob's length is recorded, and each of its chunks and of its parents is held.
+pub record HasEveryNode (s : State) (blob : List ℕ) : Type 0 where
+  pub recorded : s.recorded ≡ Some (length blob)
+  pub chunks : (c : ℕ) → c < chunk_count (length blob) → is_held s c ≡ true
+  pub parents : (m : ℕ) → 0 < m → m < chunk_count (length blob) → is_some (s.parents m) ≡ true
+
+-- any node
+abbrev pub IsAnyNode : Node → Type 0
+IsAnyNode node = Unit {0}

@@ -7,10 +7,13 @@
 
 mod copies;
 mod faults;
+mod filled;
 mod finishing;
 mod holders;
 mod lists;
+mod peers;
 mod rooms;
+mod rounds;
 mod served;
 mod shared;
 mod texts;

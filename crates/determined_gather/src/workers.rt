@@ -6,6 +6,9 @@
 
 ghost use Rattle.std.specs.Prelude.{◌≡◌, ◌⊎◌, ◌<◌, ◌≤◌, ℕ, All, List, None, Some, length, map};
 ghost use Rattle.crews.specs.Beside.{IsOfStore};
+ghost use Rattle.gather.specs.declared.grain.Grain.TheVariants.{Group as ByGroup};
+ghost use Rattle.gather.specs.Available.{HaveSlices, IsFilled, IsServed};
+ghost use Rattle.gather.specs.Counts.{HasFailedSince, IsToldTooLarge};
 ghost use Rattle.gather.specs.Holders.{IsHanded};
 ghost use Rattle.gather.specs.Large.{HasCollision};
 ghost use Rattle.store_core.specs.Laws.{IsBlob};
@@ -17,7 +20,7 @@ ghost use Rattle.store_shared.specs.Seats.{IsSeatOf, fixed_of as fixed_in};
 use bao_check::Outline;
 use bao_read::Gate;
 use crews::{Crew, run, run_bare};
-use gather::{Holder, Report, run_one};
+use gather::{Holder, Place, Report, Shelf, run_one, work};
 use std::alloc::Global;
 use std::thread::Threads;
 use store_core::Store;
@@ -86,4 +89,24 @@ pub fn run_bare_determined<R: Threads + Sync, H: Holder + Send, G: Gate + Sync>(
     let one = run_bare(rt, alloc, a, outline, ours, gate);
     let other = run_bare(rt, alloc, b, outline, theirs, gate);
     (one, other)
+}
+
+// A worker that was out of memory works when it is asked again: only memory that is refused in the second call excuses it.
+pub fn work_asked_again<S: Shelf, H: Holder>(
+    alloc: Global,
+    shelf: &S,
+    seat: &mut S::Seat,
+    holders: &mut [H],
+    place: Place,
+) -> (Report, Report)
+    requires has { S.has shelf.now seat.old }
+    requires place { place.number < place.workers }
+    ensures { (blob : List ℕ) → IsServed (S.fixed_of seat.old) blob → HaveSlices ByGroup H.gives (S.fixed_of seat.old).mode blob holders.old
+        → HasFailedSince result.0 result.1 ⊎ IsToldTooLarge result.1 (IsHanded H.gives holders.old) (S.fixed_of seat.old) ⊎ IsFilled S.records S.holds S.busy seat.old seat.new blob }
+{
+    let mut report = Report::new();
+    work(alloc, shelf, seat, holders, place, &mut report);
+    let first = report;
+    work(alloc, shelf, seat, holders, place, &mut report);
+    (first, report)
 }

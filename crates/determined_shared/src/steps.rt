@@ -1,5 +1,5 @@
 // Steps on a store's words, and calls of many steps, made with a grip that is alone: what a store's seat asks is made of
-// them. Where a law isn't here, docs/PROMISES.md says why.
+// them. no-law.txt says why the others have no law.
 
 ghost use Rattle.std.specs.Prelude.{◌≡◌, ◌<◌, ◌≤◌, ◌^◌, [], IfOk, IsOk, Some, true, is_some};
 ghost use Rattle.bao_check.specs.Checked.{piece_claimed};

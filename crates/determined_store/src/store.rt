@@ -83,6 +83,13 @@ pub fn length_determined(a: &Store, b: &Store) -> (Option<u64>, Option<u64>)
     (a.length(), b.length())
 }
 
+pub fn has_parent_determined(a: &Store, b: &Store, boundary: u32) -> (bool, bool)
+    requires { IsSame a.now b.now }
+    ensures { result.0 ≡ result.1 }
+{
+    (a.has_parent(boundary), b.has_parent(boundary))
+}
+
 pub fn held_count_determined(a: &Store, b: &Store) -> (u64, u64)
     requires { IsSame a.now b.now }
     ensures { result.0 ≡ result.1 }

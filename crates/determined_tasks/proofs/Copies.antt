@@ -36,7 +36,7 @@ comes o copy faultless file path old new (Err (Check fault)) h = h
 pub copies_agree : (o : Outline) (faultless also_faultless : Type 0) (contents others : Option (List ℕ)) (file path : Bor (List ℕ)) (old also a b : Option (List ℕ))
     (r s : Result ℕ DecodeFault) → contents ≡ others → IfSome contents (λ copy. CopiesKnown o faultless copy file path old a r)
     → IfSome others (λ copy. CopiesKnown o also_faultless copy file path also b s)
-    → IfSome contents (λ _. AgreeUnless (λ m n. m ≡ n) (MayComeOfCopy faultless file path) (MayComeOfCopy also_faultless file path) r s)
+    → IfSome contents (λ copy. AgreeUnless (λ m n. m ≡ n) (MayComeOfCopy (IsGoodCopy o copy) faultless file path) (MayComeOfCopy (IsGoodCopy o copy) also_faultless file path) r s)
 copies_agree o faultless also_faultless None others file path old also a b r s same p q = tt
 copies_agree o faultless also_faultless (Some copy) others file path old also a b r s same p q =
     known_answers (IsGoodCopy o copy) (IsCopyFault o copy) (length copy) copy (apart o copy) (one o copy) faultless also_faultless file path old also a b r s

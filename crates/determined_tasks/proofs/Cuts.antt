@@ -3,15 +3,13 @@ use Rattle.std.proofs.Common.{◌≡◌, ◌^◌, ◌<◌, ℕ, List, length, tr
 use Rattle.std.specs.Borrow.{Bor}
 use Rattle.b3tree.specs.declared.mode.Mode.{Mode}
 use Rattle.bao_text.specs.Cut.{claimed, cut_text}
-use Rattle.bao_decode.specs.Cutting.{IsCutOf}
 use Rattle.bao_decode.specs.Ranges.{IsPartText, written_count}
-use Rattle.bao_decode.specs.Weaving.{CutBesideStops, IsCutBeside, are_whole, woven_text}
+use Rattle.bao_decode.specs.Weaving.{CutBesideStops, are_whole, woven_text}
 use Rattle.bao_decode.specs.declared.decode_fault.DecodeFault.{DecodeFault}
 use Rattle.bao_decode.specs.declared.decode_fault.DecodeFault.TheVariants.{File}
 use Rattle.bao_decode.proofs.Cuttings.{cut_text-few}
-use Rattle.bao_decode.proofs.Openings.{stored_is}
 use Rattle.bao_decode.proofs.Weavings.{whole_fits, woven_len}
-use Rattle.bao_files.specs.Disks.{FileState, IsKnown, Puts, Stored}
+use Rattle.bao_files.specs.Disks.{FileState, Puts}
 use Rattle.bao_files.specs.declared.fault.FileFault.TheVariants as file
 use Rattle.bao_text.specs.declared.kinds.Part.{Part}
 use Rattle.bao_text.specs.declared.kinds.Part.TheVariants.{Slice}
@@ -19,24 +17,6 @@ use Rattle.determined_files.proofs.OnDisks.{puts_same}
 use Rattle.determined_files.specs.Agreeing.{AgreeUnless, SameWhereKnown}
 use Rattle.determined_tasks.specs.Copies.{MayComeBeside, MayComeOfCopy}
 use Rattle.determined_tasks.proofs.Decoded.{decodes_agree}
-
--- what is cut out of a known encoding is one text
-pub cut_is : (state : FileState) (text xs : List ℕ) (start len : ℕ) → state ≡ Stored text → length text < 2 ^ 64 → IsCutOf state start len xs → xs ≡ cut_text text start len
-cut_is state text xs start len there fits cut =
-    let all : cut.0 ≡ text = stored_is state cut.0 text there cut.1 in
-    subst (λ (t : List ℕ). xs ≡ cut_text t start len) all (cut.2 (subst (λ (t : List ℕ). length t < 2 ^ 64) (sym all) fits))
-
-pub known_of : (state : FileState) (text : List ℕ) → state ≡ Stored text → IsKnown state
-known_of state text there = subst IsKnown (sym there) tt
-
--- so it is out of a known copy beside a known outboard encoding
-pub cut_beside_is : (outboard copy : FileState) (outline bytes xs : List ℕ) (start len : ℕ) → outboard ≡ Stored outline → copy ≡ Stored bytes
-    → are_whole (claimed outline) outline bytes ≡ true → IsCutBeside outboard copy start len xs → xs ≡ cut_text (woven_text (claimed outline) outline bytes) start len
-cut_beside_is outboard copy outline bytes xs start len at_outboard at_copy whole cut =
-    let o : cut.0 ≡ outline = stored_is outboard cut.0 outline at_outboard cut.2 in
-    let b : cut.1 ≡ bytes = stored_is copy cut.1 bytes at_copy cut.3 in
-    let also : are_whole (claimed cut.0) cut.0 cut.1 ≡ true = (λ i. are_whole (claimed (o i)) (o i) (b i)) ∙ whole in
-    cut.4 (known_of outboard outline at_outboard) (known_of copy bytes at_copy) also ∙ (λ i. cut_text (woven_text (claimed (o i)) (o i) (b i)) start len)
 
 -- it isn't longer than any file
 pub woven_short : (outline bytes : List ℕ) (start len : ℕ) → are_whole (claimed outline) outline bytes ≡ true
@@ -62,21 +42,24 @@ module _ (mode : Mode) (root : List ℕ) (start len : ℕ) (outline bytes : List
   abbrev woven : List ℕ
   woven = cut_text (woven_text (claimed outline) outline bytes) start len
 
+  abbrev Good : Type 0
+  Good = IsPartText mode root (Slice start len) woven
+
   abbrev IsDone : ℕ → Type 0
-  IsDone m = IsPartText mode root (Slice start len) woven × (m ≡ written_count (Slice start len) woven)
+  IsDone m = Good × (m ≡ written_count (Slice start len) woven)
 
   abbrev Stops : Type 0 → DecodeFault → Type 0
   Stops faultless fault = CutBesideStops mode root start len faultless outline bytes outboard copy path fault
 
   -- a fault of the slice may come of the copy, and of the outboard encoding beside it
-  copy_may : (faultless : Type 0) (f : DecodeFault) → MayComeOfCopy faultless copy path f → MayComeBeside faultless outboard copy path f
+  copy_may : (faultless : Type 0) (f : DecodeFault) → MayComeOfCopy Good faultless copy path f → MayComeBeside Good faultless outboard copy path f
   copy_may faultless f (inl memory) = inl memory
   copy_may faultless f (inr (inl write)) = inr (inl write)
   copy_may faultless f (inr (inr read)) = inr (inr (inr read))
 
   wider : (faultless also_faultless : Type 0) (r s : Result ℕ DecodeFault)
-      → AgreeUnless (λ m n. m ≡ n) (MayComeOfCopy faultless copy path) (MayComeOfCopy also_faultless copy path) r s
-      → AgreeUnless (λ m n. m ≡ n) (MayComeBeside faultless outboard copy path) (MayComeBeside also_faultless outboard copy path) r s
+      → AgreeUnless (λ m n. m ≡ n) (MayComeOfCopy Good faultless copy path) (MayComeOfCopy Good also_faultless copy path) r s
+      → AgreeUnless (λ m n. m ≡ n) (MayComeBeside Good faultless outboard copy path) (MayComeBeside Good also_faultless outboard copy path) r s
   wider faultless also_faultless (Ok m) (Ok n) h = h
   wider faultless also_faultless (Ok m) (Err f) h = copy_may also_faultless f h
   wider faultless also_faultless (Err e) (Ok n) h = copy_may faultless e h
@@ -86,17 +69,17 @@ module _ (mode : Mode) (root : List ℕ) (start len : ℕ) (outline bytes : List
 
   -- the fault of a read of the outboard encoding's length, or one of the slice
   ours_first : (faultless also_faultless : Type 0) (e : DecodeFault) (s : Result ℕ DecodeFault) → (e ≡ File (file.Read outboard)) × ¬ faultless
-      → AgreeUnless (λ m n. m ≡ n) (MayComeBeside faultless outboard copy path) (MayComeBeside also_faultless outboard copy path) (Err e) s
+      → AgreeUnless (λ m n. m ≡ n) (MayComeBeside Good faultless outboard copy path) (MayComeBeside Good also_faultless outboard copy path) (Err e) s
   ours_first faultless also_faultless e (Ok n) read = inr (inr (inl read))
   ours_first faultless also_faultless e (Err f) read = inr (inl (inr (inr (inl read))))
 
   theirs_first : (faultless also_faultless : Type 0) (r : Result ℕ DecodeFault) (f : DecodeFault) → (f ≡ File (file.Read outboard)) × ¬ also_faultless
-      → AgreeUnless (λ m n. m ≡ n) (MayComeBeside faultless outboard copy path) (MayComeBeside also_faultless outboard copy path) r (Err f)
+      → AgreeUnless (λ m n. m ≡ n) (MayComeBeside Good faultless outboard copy path) (MayComeBeside Good also_faultless outboard copy path) r (Err f)
   theirs_first faultless also_faultless (Ok m) f read = inr (inr (inl read))
   theirs_first faultless also_faultless (Err e) f read = inr (inr (inr (inr (inl read))))
 
   pub slices_beside_agree : (faultless also_faultless : Type 0) (r s : Result ℕ DecodeFault) → IfOk r IsDone → IfErr r (Stops faultless) → IfOk s IsDone → IfErr s (Stops also_faultless)
-      → AgreeUnless (λ m n. m ≡ n) (MayComeBeside faultless outboard copy path) (MayComeBeside also_faultless outboard copy path) r s
+      → AgreeUnless (λ m n. m ≡ n) (MayComeBeside Good faultless outboard copy path) (MayComeBeside Good also_faultless outboard copy path) r s
   slices_beside_agree faultless also_faultless (Err e) s p (inl read) q q' = ours_first faultless also_faultless e s read
   slices_beside_agree faultless also_faultless (Ok m) (Err f) p p' q (inl read) = theirs_first faultless also_faultless (Ok m) f read
   slices_beside_agree faultless also_faultless (Err e) (Err f) p (inr h) q (inl read) = theirs_first faultless also_faultless (Err e) f read

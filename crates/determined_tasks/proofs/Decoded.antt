@@ -27,15 +27,15 @@ use Rattle.determined_tasks.proofs.Texts.{apart, one}
 
 module _ (mode : Mode) (root : List ℕ) (part : Part) (text : List ℕ) (low : length text < 2 ^ 63) where
   -- a fault of a file may come at any time
-  file_may : (faultless : Type 0) (file path : Bor (List ℕ)) (f : FileFault) → DecodeStops mode root part faultless text file path (File f) → MayComeOfCopy faultless file path (File f)
+  file_may : (faultless : Type 0) (file path : Bor (List ℕ)) (f : FileFault) → DecodeStops mode root part faultless text file path (File f) → MayComeOfCopy (IsPartText mode root part text) faultless file path (File f)
   file_may faultless file path f (inl memory) = inl (ap (λ x. File x) memory)
   file_may faultless file path f (inr (inl read)) = inr (inr (ap (λ x. File x) read.0, read.1))
-  file_may faultless file path f (inr (inr write)) = inr (inl (ap (λ x. File x) write))
+  file_may faultless file path f (inr (inr write)) = inr (inl (ap (λ x. File x) write.0, write.1))
 
   pub decodes_agree : (faultless also_faultless : Type 0) (file path : Bor (List ℕ)) (r s : Result ℕ DecodeFault)
       → IfOk r (λ m. IsPartText mode root part text × (m ≡ written_count part text)) → IfErr r (DecodeStops mode root part faultless text file path)
       → IfOk s (λ m. IsPartText mode root part text × (m ≡ written_count part text)) → IfErr s (DecodeStops mode root part also_faultless text file path)
-      → AgreeUnless (λ m n. m ≡ n) (MayComeOfCopy faultless file path) (MayComeOfCopy also_faultless file path) r s
+      → AgreeUnless (λ m n. m ≡ n) (MayComeOfCopy (IsPartText mode root part text) faultless file path) (MayComeOfCopy (IsPartText mode root part text) also_faultless file path) r s
   decodes_agree faultless also_faultless file path (Ok m) (Ok k) p p' q q' = p.1 ∙ sym q.1
   decodes_agree faultless also_faultless file path (Ok m) (Err (File y)) p p' q q' = file_may also_faultless file path y q'
   decodes_agree faultless also_faultless file path (Ok m) (Err (Check y)) p p' q q' = absurd (apart (part_bytes part) mode root part text low y q' p.0)
@@ -78,16 +78,16 @@ module _ (mode : Mode) (root outline bytes : List ℕ) where
   beside_one x y (inr h) (inr k) = one_bare_fault mode root outline 0 (chunk_count (claimed outline)) bytes x y h.1 k.1
 
   beside_may : (faultless : Type 0) (outboard file path : Bor (List ℕ)) (f : FileFault) → BesideStops mode root faultless outline bytes outboard file path (File f)
-      → MayComeBeside faultless outboard file path (File f)
+      → MayComeBeside (IsCopyBeside mode root outline bytes) faultless outboard file path (File f)
   beside_may faultless outboard file path f (inl memory) = inl (ap (λ x. File x) memory)
   beside_may faultless outboard file path f (inr (inl read)) = inr (inr (inl (ap (λ x. File x) read.0, read.1)))
   beside_may faultless outboard file path f (inr (inr (inl read))) = inr (inr (inr (ap (λ x. File x) read.0, read.1)))
-  beside_may faultless outboard file path f (inr (inr (inr write))) = inr (inl (ap (λ x. File x) write))
+  beside_may faultless outboard file path f (inr (inr (inr write))) = inr (inl (ap (λ x. File x) write.0, write.1))
 
   pub copies_on_agree : (faultless also_faultless : Type 0) (outboard file path : Bor (List ℕ)) (r s : Result ℕ DecodeFault)
       → IfOk r (λ m. IsCopyBeside mode root outline bytes × (m ≡ length bytes)) → IfErr r (BesideStops mode root faultless outline bytes outboard file path)
       → IfOk s (λ m. IsCopyBeside mode root outline bytes × (m ≡ length bytes)) → IfErr s (BesideStops mode root also_faultless outline bytes outboard file path)
-      → AgreeUnless (λ m n. m ≡ n) (MayComeBeside faultless outboard file path) (MayComeBeside also_faultless outboard file path) r s
+      → AgreeUnless (λ m n. m ≡ n) (MayComeBeside (IsCopyBeside mode root outline bytes) faultless outboard file path) (MayComeBeside (IsCopyBeside mode root outline bytes) also_faultless outboard file path) r s
   copies_on_agree faultless also_faultless outboard file path (Ok m) (Ok k) p p' q q' = p.1 ∙ sym q.1
   copies_on_agree faultless also_faultless outboard file path (Ok m) (Err (File y)) p p' q q' = beside_may also_faultless outboard file path y q'
   copies_on_agree faultless also_faultless outboard file path (Ok m) (Err (Check y)) p p' q q' = absurd (beside_apart y q' p.0)

@@ -4,7 +4,7 @@ use Rattle.std.specs.Borrow.{Bor}
 use Rattle.b3tree.specs.declared.mode.Mode.{Mode}
 use Rattle.bao_decode.specs.declared.decode_fault.DecodeFault.{DecodeFault}
 use Rattle.bao_decode.specs.declared.decode_fault.DecodeFault.TheVariants.{Check, File}
-use Rattle.bao_decode.specs.Ranges.{part_bytes}
+use Rattle.bao_decode.specs.Ranges.{IsPartText, part_bytes}
 use Rattle.bao_decode.specs.TextPass.{DraftsKnown, LeavesDraft}
 use Rattle.bao_files.specs.declared.fault.FileFault.{FileFault}
 use Rattle.bao_text.specs.declared.kinds.Part.{Part}
@@ -16,16 +16,16 @@ use Rattle.determined_tasks.proofs.Texts.{apart, one}
 module _ (mode : Mode) (root : List ℕ) (part : Part) (text : List ℕ) (low : length text < 2 ^ 63) where
   -- a fault of a file may come at any time
   file_may : (faultless : Type 0) (file path : Bor (List ℕ)) (old new : Option (List ℕ)) (f : FileFault) → LeavesDraft mode root part faultless text file path old new (File f)
-      → MayComeOfCopy faultless file path (File f)
+      → MayComeOfCopy (IsPartText mode root part text) faultless file path (File f)
   file_may faultless file path old new f h = elim h [
     | inl k ↦ inl (ap (λ x. File x) k.0)
     | inr (inl k) ↦ inr (inr (ap (λ x. File x) k.0, k.1))
-    | inr (inr k) ↦ inr (inl (ap (λ x. File x) k.0))
+    | inr (inr k) ↦ inr (inl (ap (λ x. File x) k.0, k.1))
   ]
 
   draft_answers : (faultless also_faultless : Type 0) (file path : Bor (List ℕ)) (old also a b : Option (List ℕ)) (r s : Result ℕ DecodeFault)
       → DraftsKnown mode root part faultless text file path old a r → DraftsKnown mode root part also_faultless text file path also b s
-      → AgreeUnless (λ m n. m ≡ n) (MayComeOfCopy faultless file path) (MayComeOfCopy also_faultless file path) r s
+      → AgreeUnless (λ m n. m ≡ n) (MayComeOfCopy (IsPartText mode root part text) faultless file path) (MayComeOfCopy (IsPartText mode root part text) also_faultless file path) r s
   draft_answers faultless also_faultless file path old also a b (Ok m) (Ok k) p q = p.1 ∙ sym q.1
   draft_answers faultless also_faultless file path old also a b (Ok m) (Err (File y)) p q = file_may also_faultless file path also b y q
   draft_answers faultless also_faultless file path old also a b (Ok m) (Err (Check y)) p q = absurd (apart (part_bytes part) mode root part text low y q.0 p.0.0)
@@ -52,7 +52,7 @@ module _ (mode : Mode) (root : List ℕ) (part : Part) (text : List ℕ) (low : 
 pub drafts_agree : (mode : Mode) (root : List ℕ) (part : Part) (faultless also_faultless : Type 0) (contents others : Option (List ℕ)) (file path : Bor (List ℕ)) (old also a b : Option (List ℕ))
     (r s : Result ℕ DecodeFault) → contents ≡ others → IfSome contents (λ text. DraftsKnown mode root part faultless text file path old a r)
     → IfSome others (λ text. DraftsKnown mode root part also_faultless text file path also b s)
-    → IfSome contents (λ text. length text < 2 ^ 63 → AgreeUnless (λ m n. m ≡ n) (MayComeOfCopy faultless file path) (MayComeOfCopy also_faultless file path) r s)
+    → IfSome contents (λ text. length text < 2 ^ 63 → AgreeUnless (λ m n. m ≡ n) (MayComeOfCopy (IsPartText mode root part text) faultless file path) (MayComeOfCopy (IsPartText mode root part text) also_faultless file path) r s)
 drafts_agree mode root part faultless also_faultless None others file path old also a b r s same p q = tt
 drafts_agree mode root part faultless also_faultless (Some text) others file path old also a b r s same p q = λ low.
     draft_answers mode root part text low faultless also_faultless file path old also a b r s p

@@ -27,16 +27,16 @@ module _ (Good : Type 0) (IsFault : CheckFault → Type 0) (n : ℕ) (bytes : Li
   Comes faultless file path old new (Err fault) = Leaves faultless file path old new fault
 
   -- a fault of a file may come at any time
-  file_may : (faultless : Type 0) (file path : Bor (List ℕ)) (old new : Option (List ℕ)) (f : FileFault) → Leaves faultless file path old new (File f) → MayComeOfCopy faultless file path (File f)
+  file_may : (faultless : Type 0) (file path : Bor (List ℕ)) (old new : Option (List ℕ)) (f : FileFault) → Leaves faultless file path old new (File f) → MayComeOfCopy Good faultless file path (File f)
   file_may faultless file path old new f h = elim h [
     | inl k ↦ inl (ap (λ x. File x) k.0)
     | inr (inl k) ↦ inr (inr (ap (λ x. File x) k.0, k.1))
-    | inr (inr k) ↦ inr (inl (ap (λ x. File x) k.0))
+    | inr (inr k) ↦ inr (inl (ap (λ x. File x) k.0, k.1))
   ]
 
   pub known_answers : (faultless also_faultless : Type 0) (file path : Bor (List ℕ)) (old also a b : Option (List ℕ)) (r s : Result ℕ DecodeFault)
       → Comes faultless file path old a r → Comes also_faultless file path also b s
-      → AgreeUnless (λ m n. m ≡ n) (MayComeOfCopy faultless file path) (MayComeOfCopy also_faultless file path) r s
+      → AgreeUnless (λ m n. m ≡ n) (MayComeOfCopy Good faultless file path) (MayComeOfCopy Good also_faultless file path) r s
   known_answers faultless also_faultless file path old also a b (Ok m) (Ok k) p q = p.1 ∙ sym q.1
   known_answers faultless also_faultless file path old also a b (Ok m) (Err (File y)) p q = file_may also_faultless file path also b y q
   known_answers faultless also_faultless file path old also a b (Ok m) (Err (Check y)) p q = absurd (apart y q.0 p.0)

@@ -47,7 +47,7 @@ module _ (what : List ℕ → List ℕ) (mode : Mode) (root : List ℕ) (part : 
 
   pub text_answers : (faultless also_faultless : Type 0) (file path : Bor (List ℕ)) (old also a b : Option (List ℕ)) (r s : Result ℕ DecodeFault)
       → WritesKnown what mode root part faultless text file path old a r → WritesKnown what mode root part also_faultless text file path also b s
-      → AgreeUnless (λ m n. m ≡ n) (MayComeOfCopy faultless file path) (MayComeOfCopy also_faultless file path) r s
+      → AgreeUnless (λ m n. m ≡ n) (MayComeOfCopy Good faultless file path) (MayComeOfCopy Good also_faultless file path) r s
   text_answers faultless also_faultless file path old also a b r s p q =
       known_answers Good IsFault (written_count part text) (what text) apart one faultless also_faultless file path old also a b r s (comes faultless file path old a r p)
       (comes also_faultless file path also b s q)
@@ -61,7 +61,7 @@ module _ (what : List ℕ → List ℕ) (mode : Mode) (root : List ℕ) (part : 
 pub texts_agree : (mode : Mode) (root : List ℕ) (part : Part) (faultless also_faultless : Type 0) (contents others : Option (List ℕ)) (file path : Bor (List ℕ)) (old also a b : Option (List ℕ))
     (r s : Result ℕ DecodeFault) → contents ≡ others → IfSome contents (λ text. DecodesKnown mode root part faultless text file path old a r)
     → IfSome others (λ text. DecodesKnown mode root part also_faultless text file path also b s)
-    → IfSome contents (λ text. length text < 2 ^ 63 → AgreeUnless (λ m n. m ≡ n) (MayComeOfCopy faultless file path) (MayComeOfCopy also_faultless file path) r s)
+    → IfSome contents (λ text. length text < 2 ^ 63 → AgreeUnless (λ m n. m ≡ n) (MayComeOfCopy (IsPartText mode root part text) faultless file path) (MayComeOfCopy (IsPartText mode root part text) also_faultless file path) r s)
 texts_agree mode root part faultless also_faultless None others file path old also a b r s same p q = tt
 texts_agree mode root part faultless also_faultless (Some text) others file path old also a b r s same p q = λ low.
     text_answers (part_bytes part) mode root part text low faultless also_faultless file path old also a b r s p
@@ -83,7 +83,7 @@ module _ (mode : Mode) (root : List ℕ) (start len : ℕ) (faultless also_fault
 
   pub slices_agree : (contents others : Option (List ℕ)) → contents ≡ others → IfSome contents (Cuts faultless old a r) → IfSome others (Cuts also_faultless also b s)
       → IfSome contents (λ text. length text < 2 ^ 64 → length (cut_text text start len) < 2 ^ 63
-      → AgreeUnless (λ m n. m ≡ n) (MayComeOfCopy faultless file path) (MayComeOfCopy also_faultless file path) r s)
+      → AgreeUnless (λ m n. m ≡ n) (MayComeOfCopy (IsPartText mode root (Slice start len) (cut_text text start len)) faultless file path) (MayComeOfCopy (IsPartText mode root (Slice start len) (cut_text text start len)) also_faultless file path) r s)
   slices_agree None others same p q = tt
   slices_agree (Some text) others same p q = λ fits low.
       text_answers (λ (x : List ℕ). x) mode root (Slice start len) (cut_text text start len) low faultless also_faultless file path old also a b r s (p fits)

@@ -77,6 +77,11 @@ SameRight before one other (Ok m) (Err f) = f ≢ Gather NotTheRoot
 SameRight before one other (Err e) (Ok n) = e ≢ Gather NotTheRoot
 SameRight before one other (Err e) (Err f) = (e ≢ Gather NotTheRoot) × (f ≢ Gather NotTheRoot)
 
+-- Both were refused, for the same, or one for want of memory.
+abbrev pub AreSameFaults : Result ℕ GatheredFault → Result ℕ GatheredFault → Type 0
+AreSameFaults (Err e) (Err f) = (e ≡ File Memory) ⊎ (f ≡ File Memory) ⊎ (e ≡ f)
+AreSameFaults one other = ⊥
+
 -- Of an outboard encoding whose bytes are known: where both refuse it, it is for one fault, and where one has put a blob the other doesn't refuse it.
 abbrev pub SameOutboard : Result ℕ GatheredFault → Result ℕ GatheredFault → Type 0
 SameOutboard (Ok m) (Err (Outboard f)) = ⊥

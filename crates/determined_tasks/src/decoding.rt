@@ -3,10 +3,14 @@
 ghost use Rattle.std.specs.Prelude.{◌≡◌, ◌^◌, ◌<◌, ℕ, List, [], IfOk, IfSome, OnErr, OnOk, length};
 ghost use Rattle.bao_check.specs.Accepted.{IsAccepted, slice_nodes};
 ghost use Rattle.bao_check.specs.Checked.{piece_len, piece_mode, piece_root, piece_start, piece_text};
+ghost use Rattle.bao_decode.specs.Copies.{IsCopyBeside};
+ghost use Rattle.bao_decode.specs.CopyPass.{IsGoodCopy};
+ghost use Rattle.bao_decode.specs.Ranges.{IsPartText};
 ghost use Rattle.bao_decode.specs.declared.decode_fault.DecodeFault.TheVariants as DecodeFault;
 ghost use Rattle.bao_files.specs.Disks.{Absent, IsKnown, Stored};
 ghost use Rattle.bao_files.specs.declared.fault.FileFault.TheVariants as FileFault;
 ghost use Rattle.bao_text.specs.Cut.{cut_text};
+ghost use Rattle.bao_text.specs.declared.kinds.Part.TheVariants as Part;
 ghost use Rattle.determined_check.specs.Agreeing.{AgreeOfBytes, SamePiece};
 ghost use Rattle.determined_files.specs.Agreeing.{AgreeUnless, SameWhereKnown, SameWritten};
 ghost use Rattle.determined_tasks.specs.Copies.{IsOfCopy, MayComeBeside, MayComeOfCopy};
@@ -59,8 +63,8 @@ pub fn read_text_determined<'a, R: Read, S: Read>(
     (one, other)
 }
 
-// Memory may run out, a writer may fail, and a read of a source that isn't faultless may, at any time. Everything else is the
-// encoding's, where it isn't longer than any file.
+// Memory may run out at any time, and a read of a source that isn't faultless may fail. Writing may fail too, but that is returned only if the
+// encoding is accepted. Everything else is decided by the encoding, if it isn't longer than any file.
 pub fn write_decoded_determined<'a, S: Source, T: Source, V: Write, W: Write>(
     alloc: Global,
     mode: &Mode,
@@ -75,8 +79,8 @@ pub fn write_decoded_determined<'a, S: Source, T: Source, V: Write, W: Write>(
 ) -> (Result<u64, DecodeFault<'a>>, Result<u64, DecodeFault<'a>>)
     requires contents { S.contents our_text.now ≡ T.contents their_text.now }
     requires same { V.contents ours.old ≡ W.contents theirs.old }
-    ensures answer { IfSome (S.contents our_text.now) (λ text. length text < 2 ^ 63 → AgreeUnless (λ m n. m ≡ n) (MayComeOfCopy (S.faultless our_text.now) file.entry path.entry)
-        (MayComeOfCopy (T.faultless their_text.now) file.entry path.entry) result.0 result.1) }
+    ensures answer { IfSome (S.contents our_text.now) (λ text. length text < 2 ^ 63 → AgreeUnless (λ m n. m ≡ n) (MayComeOfCopy (IsPartText mode.now root.now.0 part.now text) (S.faultless our_text.now) file.entry path.entry)
+        (MayComeOfCopy (IsPartText mode.now root.now.0 part.now text) (T.faultless their_text.now) file.entry path.entry) result.0 result.1) }
     ensures written { IfSome (S.contents our_text.now) (λ text. length text < 2 ^ 63
         → IfSome (V.contents ours.old) (λ _. SameWritten IsOfCopy (V.contents ours.new) (W.contents theirs.new) result.0 result.1)) }
 {
@@ -85,7 +89,7 @@ pub fn write_decoded_determined<'a, S: Source, T: Source, V: Write, W: Write>(
     (one, other)
 }
 
-// The same of one pass. What it has written of an encoding that is refused is thrown away.
+// The same for one pass. What it has written of a refused encoding is thrown away.
 pub fn write_draft_determined<'a, S: Source, T: Source, V: Write, W: Write>(
     alloc: Global,
     mode: &Mode,
@@ -100,8 +104,8 @@ pub fn write_draft_determined<'a, S: Source, T: Source, V: Write, W: Write>(
 ) -> (Result<u64, DecodeFault<'a>>, Result<u64, DecodeFault<'a>>)
     requires contents { S.contents our_text.now ≡ T.contents their_text.now }
     requires same { V.contents ours.old ≡ W.contents theirs.old }
-    ensures answer { IfSome (S.contents our_text.now) (λ text. length text < 2 ^ 63 → AgreeUnless (λ m n. m ≡ n) (MayComeOfCopy (S.faultless our_text.now) file.entry path.entry)
-        (MayComeOfCopy (T.faultless their_text.now) file.entry path.entry) result.0 result.1) }
+    ensures answer { IfSome (S.contents our_text.now) (λ text. length text < 2 ^ 63 → AgreeUnless (λ m n. m ≡ n) (MayComeOfCopy (IsPartText mode.now root.now.0 part.now text) (S.faultless our_text.now) file.entry path.entry)
+        (MayComeOfCopy (IsPartText mode.now root.now.0 part.now text) (T.faultless their_text.now) file.entry path.entry) result.0 result.1) }
     ensures written { IfSome (S.contents our_text.now) (λ text. length text < 2 ^ 63
         → IfSome (V.contents ours.old) (λ _. SameWritten (λ _. ⊥) (V.contents ours.new) (W.contents theirs.new) result.0 result.1)) }
 {
@@ -110,7 +114,8 @@ pub fn write_draft_determined<'a, S: Source, T: Source, V: Write, W: Write>(
     (one, other)
 }
 
-// Memory may run out, a writer may fail, and a read of a copy that isn't faultless may, at any time. Everything else is the copy's.
+// Memory may run out at any time, and a read of a copy that isn't faultless may fail. Writing may fail too, but that is returned only if the copy
+// is accepted. Everything else is decided by the copy.
 pub fn write_copy_determined<'a, S: Source, T: Source, V: Write, W: Write>(
     alloc: Global,
     outline: &Outline<'_>,
@@ -123,8 +128,8 @@ pub fn write_copy_determined<'a, S: Source, T: Source, V: Write, W: Write>(
 ) -> (Result<u64, DecodeFault<'a>>, Result<u64, DecodeFault<'a>>)
     requires contents { S.contents our_copy.now ≡ T.contents their_copy.now }
     requires same { V.contents ours.old ≡ W.contents theirs.old }
-    ensures answer { IfSome (S.contents our_copy.now) (λ _. AgreeUnless (λ m n. m ≡ n) (MayComeOfCopy (S.faultless our_copy.now) file.entry path.entry)
-        (MayComeOfCopy (T.faultless their_copy.now) file.entry path.entry) result.0 result.1) }
+    ensures answer { IfSome (S.contents our_copy.now) (λ copy. AgreeUnless (λ m n. m ≡ n) (MayComeOfCopy (IsGoodCopy outline.now copy) (S.faultless our_copy.now) file.entry path.entry)
+        (MayComeOfCopy (IsGoodCopy outline.now copy) (T.faultless their_copy.now) file.entry path.entry) result.0 result.1) }
     ensures written { IfSome (S.contents our_copy.now) (λ _. IfSome (V.contents ours.old) (λ _. SameWritten IsOfCopy (V.contents ours.new) (W.contents theirs.new) result.0 result.1)) }
 {
     let one = write_copy(alloc, outline, our_copy, file, ours, path);
@@ -132,7 +137,7 @@ pub fn write_copy_determined<'a, S: Source, T: Source, V: Write, W: Write>(
     (one, other)
 }
 
-// The same of a slice that is cut out of an encoding.
+// The same for a slice that is cut out of an encoding.
 pub fn write_slice_determined<'a, S: Source, T: Source, V: Write, W: Write>(
     alloc: Global,
     mode: &Mode,
@@ -149,7 +154,7 @@ pub fn write_slice_determined<'a, S: Source, T: Source, V: Write, W: Write>(
     requires contents { S.contents our_text.now ≡ T.contents their_text.now }
     requires same { V.contents ours.old ≡ W.contents theirs.old }
     ensures answer { IfSome (S.contents our_text.now) (λ text. length text < 2 ^ 64 → length (cut_text text start len) < 2 ^ 63
-        → AgreeUnless (λ m n. m ≡ n) (MayComeOfCopy (S.faultless our_text.now) file.entry path.entry) (MayComeOfCopy (T.faultless their_text.now) file.entry path.entry) result.0 result.1) }
+        → AgreeUnless (λ m n. m ≡ n) (MayComeOfCopy (IsPartText mode.now root.now.0 (Part.Slice start len) (cut_text text start len)) (S.faultless our_text.now) file.entry path.entry) (MayComeOfCopy (IsPartText mode.now root.now.0 (Part.Slice start len) (cut_text text start len)) (T.faultless their_text.now) file.entry path.entry) result.0 result.1) }
     ensures written { IfSome (S.contents our_text.now) (λ text. length text < 2 ^ 64 → length (cut_text text start len) < 2 ^ 63
         → IfSome (V.contents ours.old) (λ _. SameWritten IsOfCopy (V.contents ours.new) (W.contents theirs.new) result.0 result.1)) }
 {
@@ -160,8 +165,8 @@ pub fn write_slice_determined<'a, S: Source, T: Source, V: Write, W: Write>(
     (one, other)
 }
 
-// Memory may run out, writing may fail, and a read of a file may, on a disk that isn't faultless, at any time. Everything else is the encoding's, where
-// it isn't longer than any file, and of each path of which it was known before what is there is the same.
+// Memory may run out at any time, and on a disk that isn't faultless a read may fail. Writing may fail too, but that is returned only if the encoding
+// is accepted. Everything else is decided by the encoding, if it isn't longer than any file, and both disks agree at each path that was known before.
 pub fn decode_on_determined<'a, D: Disk, E: Disk, P: Progress>(
     alloc: Global,
     ours: &mut D,
@@ -175,7 +180,7 @@ pub fn decode_on_determined<'a, D: Disk, E: Disk, P: Progress>(
 ) -> (Result<u64, DecodeFault<'a>>, Result<u64, DecodeFault<'a>>)
     requires { (at : List ℕ) → D.at ours.old at ≡ E.at theirs.old at }
     ensures answer { IsKnown (D.at ours.old path.now) → (text : List ℕ) → D.at ours.old file.now ≡ Stored text → length text < 2 ^ 63
-        → AgreeUnless (λ m n. m ≡ n) (MayComeOfCopy (D.faultless ours.old) file.entry path.entry) (MayComeOfCopy (E.faultless theirs.old) file.entry path.entry) result.0 result.1 }
+        → AgreeUnless (λ m n. m ≡ n) (MayComeOfCopy (IsPartText mode.now root.now.0 part.now text) (D.faultless ours.old) file.entry path.entry) (MayComeOfCopy (IsPartText mode.now root.now.0 part.now text) (E.faultless theirs.old) file.entry path.entry) result.0 result.1 }
     ensures absent { D.at ours.old file.now ≡ Absent
         → AgreeUnless (λ _ _. ⊥) (λ fault. fault ≡ DecodeFault.File FileFault.Memory) (λ fault. fault ≡ DecodeFault.File FileFault.Memory) result.0 result.1 }
     ensures put { IsKnown (D.at ours.old file.now) → OnOk result.0 (OnOk result.1 (SameWhereKnown (D.at ours.old) (D.at ours.new) (E.at theirs.new))) }
@@ -187,7 +192,7 @@ pub fn decode_on_determined<'a, D: Disk, E: Disk, P: Progress>(
     )
 }
 
-// The same of a plain copy beside an outboard encoding.
+// The same for a plain copy beside an outboard encoding.
 pub fn decode_copy_on_determined<'a, D: Disk, E: Disk, P: Progress>(
     alloc: Global,
     ours: &mut D,
@@ -201,8 +206,8 @@ pub fn decode_copy_on_determined<'a, D: Disk, E: Disk, P: Progress>(
 ) -> (Result<u64, DecodeFault<'a>>, Result<u64, DecodeFault<'a>>)
     requires { (at : List ℕ) → D.at ours.old at ≡ E.at theirs.old at }
     ensures answer { IsKnown (D.at ours.old path.now) → (outline bytes : List ℕ) → D.at ours.old outboard.now ≡ Stored outline → D.at ours.old copy.now ≡ Stored bytes
-        → AgreeUnless (λ m n. m ≡ n) (MayComeBeside (D.faultless ours.old) outboard.entry copy.entry path.entry)
-        (MayComeBeside (E.faultless theirs.old) outboard.entry copy.entry path.entry) result.0 result.1 }
+        → AgreeUnless (λ m n. m ≡ n) (MayComeBeside (IsCopyBeside mode.now root.now.0 outline bytes) (D.faultless ours.old) outboard.entry copy.entry path.entry)
+        (MayComeBeside (IsCopyBeside mode.now root.now.0 outline bytes) (E.faultless theirs.old) outboard.entry copy.entry path.entry) result.0 result.1 }
     ensures put { IsKnown (D.at ours.old copy.now) → OnOk result.0 (OnOk result.1 (SameWhereKnown (D.at ours.old) (D.at ours.new) (E.at theirs.new))) }
     ensures kept { OnErr result.0 (OnErr result.1 (SameWhereKnown (D.at ours.old) (D.at ours.new) (E.at theirs.new))) }
 {

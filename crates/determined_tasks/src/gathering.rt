@@ -6,11 +6,12 @@ ghost use Rattle.std.specs.Borrow.{Bor};
 ghost use Rattle.std.specs.Prelude.{◌≡◌, ◌⊎◌, ◌^◌, ◌<◌, ℕ, List, IfSome, Some, length, slice_get, true};
 ghost use Rattle.bao_files.specs.Disks.{IsKnown, Stored};
 ghost use Rattle.bao_tasks.specs.FromFiles.{AreEnough, CollidesBeside, CollidesBesideOutline, HasRoom, HaveBytes, IsExcusedGathering, IsFromFile, IsInFile};
+ghost use Rattle.bao_tasks.specs.GatheredFaults.{AreAbsent};
 ghost use Rattle.bao_text.specs.Texts.{outboard_text};
 ghost use Rattle.gather.specs.Large.{HasCollision, fixed_as};
 ghost use Rattle.store_core.specs.Laws.{IsBlob};
 ghost use Rattle.determined_files.specs.Agreeing.{AgreeUnless, SameWhereKnown};
-ghost use Rattle.determined_tasks.specs.Blobs.{SameBlob, SameOutboard, SamePut, SameRight};
+ghost use Rattle.determined_tasks.specs.Blobs.{AreSameFaults, SameBlob, SameOutboard, SamePut, SameRight};
 
 use b3tree::{Hash, Mode};
 use bao_files::{Disk, Progress};
@@ -70,7 +71,7 @@ pub fn write_gathered_determined<
 // The same out of the same known files. Where both put a blob, it is one, or the two are a collision. On disks without faults, where it is known what
 // is at OUT, the collision of a blob with the root is named from the files; neither says that there is none with the root, where there is one; and where
 // one of the files is true, or several have the blob together in the parts that each run asks for, both put it, unless there was no memory or writing
-// failed. Which of the other faults is answered isn't determined.
+// failed. Where no file is there, both name the first, memory aside. Which of the other faults is answered isn't determined.
 pub fn gather_on_determined<
     'a,
     R: AllocGlobal + Threads + Sync,
@@ -100,6 +101,7 @@ pub fn gather_on_determined<
     requires long { how.long ≡ other_how.long }
     requires capacity { how.capacity ≡ other_how.capacity }
     ensures put { SamePut mode.now root.now.0 how.encode (D.at ours.old) (D.at ours.new) (E.at theirs.new) path.now result.0 result.1 }
+    ensures absent { AreAbsent (D.at ours.old) files.now → AreSameFaults result.0 result.1 }
     ensures right { D.faultless ours.old → E.faultless theirs.old → IsKnown (D.at ours.old path.now) → (blob : List ℕ) → IsBlob (fixed_as root.now mode.now how.capacity) blob
         → SameRight (D.at ours.old) (D.at ours.new) (E.at theirs.new) result.0 result.1
         ⊎ HasCollision (IsFromFile form.now how.capacity (D.at ours.old) files.now) (fixed_as root.now mode.now how.capacity) blob }

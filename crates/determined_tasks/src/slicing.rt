@@ -1,11 +1,13 @@
 // Slices that are cut out of files, and verified.
 
 ghost use Rattle.std.specs.Prelude.{◌≡◌, ◌^◌, ◌<◌, ℕ, List, length, OnErr, OnOk, true};
-ghost use Rattle.bao_decode.specs.Weaving.{are_whole};
+ghost use Rattle.bao_decode.specs.Ranges.{IsPartText};
+ghost use Rattle.bao_decode.specs.Weaving.{are_whole, woven_text};
 ghost use Rattle.bao_decode.specs.declared.decode_fault.DecodeFault.TheVariants as DecodeFault;
 ghost use Rattle.bao_files.specs.Disks.{Absent, IsKnown, Stored};
 ghost use Rattle.bao_files.specs.declared.fault.FileFault.TheVariants as FileFault;
-ghost use Rattle.bao_text.specs.Cut.{claimed};
+ghost use Rattle.bao_text.specs.Cut.{claimed, cut_text};
+ghost use Rattle.bao_text.specs.declared.kinds.Part.TheVariants as Part;
 ghost use Rattle.determined_files.specs.Agreeing.{AgreeUnless, SameWhereKnown};
 ghost use Rattle.determined_tasks.specs.Copies.{MayComeBeside, MayComeOfCopy};
 
@@ -14,8 +16,8 @@ use bao_decode::{DecodeFault, slice_beside_on, slice_on};
 use bao_files::Disk;
 use std::alloc::Global;
 
-// Memory may run out, writing may fail, and a read of a file may, on a disk that isn't faultless, at any time. Everything else is the encoding's, where
-// it isn't longer than any file, and of each path of which it was known before what is there is the same.
+// Memory may run out at any time, and on a disk that isn't faultless a read may fail. Writing may fail too, but that is returned only if the slice is
+// accepted. Everything else is decided by the encoding, if it isn't longer than any file, and both disks agree at each path that was known before.
 pub fn slice_on_determined<'a, D: Disk, E: Disk>(
     alloc: Global,
     ours: &mut D,
@@ -29,7 +31,7 @@ pub fn slice_on_determined<'a, D: Disk, E: Disk>(
 ) -> (Result<u64, DecodeFault<'a>>, Result<u64, DecodeFault<'a>>)
     requires { (at : List ℕ) → D.at ours.old at ≡ E.at theirs.old at }
     ensures answer { IsKnown (D.at ours.old path.now) → (text : List ℕ) → D.at ours.old file.now ≡ Stored text → length text < 2 ^ 63
-        → AgreeUnless (λ m n. m ≡ n) (MayComeOfCopy (D.faultless ours.old) file.entry path.entry) (MayComeOfCopy (E.faultless theirs.old) file.entry path.entry) result.0 result.1 }
+        → AgreeUnless (λ m n. m ≡ n) (MayComeOfCopy (IsPartText mode.now root.now.0 (Part.Slice start len) (cut_text text start len)) (D.faultless ours.old) file.entry path.entry) (MayComeOfCopy (IsPartText mode.now root.now.0 (Part.Slice start len) (cut_text text start len)) (E.faultless theirs.old) file.entry path.entry) result.0 result.1 }
     ensures absent { D.at ours.old file.now ≡ Absent
         → AgreeUnless (λ _ _. ⊥) (λ fault. fault ≡ DecodeFault.File FileFault.Memory) (λ fault. fault ≡ DecodeFault.File FileFault.Memory) result.0 result.1 }
     ensures put { (text : List ℕ) → D.at ours.old file.now ≡ Stored text → length text < 2 ^ 64
@@ -42,7 +44,7 @@ pub fn slice_on_determined<'a, D: Disk, E: Disk>(
     )
 }
 
-// The same of a plain copy beside an outboard encoding, where the two have all bytes of the length that this claims.
+// The same for a plain copy beside an outboard encoding, if the two have all bytes of the length that the encoding claims.
 pub fn slice_beside_on_determined<'a, D: Disk, E: Disk>(
     alloc: Global,
     ours: &mut D,
@@ -57,8 +59,8 @@ pub fn slice_beside_on_determined<'a, D: Disk, E: Disk>(
 ) -> (Result<u64, DecodeFault<'a>>, Result<u64, DecodeFault<'a>>)
     requires { (at : List ℕ) → D.at ours.old at ≡ E.at theirs.old at }
     ensures answer { IsKnown (D.at ours.old path.now) → (outline bytes : List ℕ) → D.at ours.old outboard.now ≡ Stored outline → D.at ours.old copy.now ≡ Stored bytes
-        → are_whole (claimed outline) outline bytes ≡ true → AgreeUnless (λ m n. m ≡ n) (MayComeBeside (D.faultless ours.old) outboard.entry copy.entry path.entry)
-        (MayComeBeside (E.faultless theirs.old) outboard.entry copy.entry path.entry) result.0 result.1 }
+        → are_whole (claimed outline) outline bytes ≡ true → AgreeUnless (λ m n. m ≡ n) (MayComeBeside (IsPartText mode.now root.now.0 (Part.Slice start len) (cut_text (woven_text (claimed outline) outline bytes) start len)) (D.faultless ours.old) outboard.entry copy.entry path.entry)
+        (MayComeBeside (IsPartText mode.now root.now.0 (Part.Slice start len) (cut_text (woven_text (claimed outline) outline bytes) start len)) (E.faultless theirs.old) outboard.entry copy.entry path.entry) result.0 result.1 }
     ensures absent { D.at ours.old outboard.now ≡ Absent
         → AgreeUnless (λ _ _. ⊥) (λ fault. fault ≡ DecodeFault.File FileFault.Memory) (λ fault. fault ≡ DecodeFault.File FileFault.Memory) result.0 result.1 }
     ensures put { (outline bytes : List ℕ) → D.at ours.old outboard.now ≡ Stored outline → D.at ours.old copy.now ≡ Stored bytes

@@ -13,27 +13,25 @@ pub fn worth_of_encoding_determined<S: Source>(
     alloc: Global,
     mode: &Mode,
     root: &Hash,
-    capacity: u32,
     source: &S,
 ) -> (Result<Worth, Memory>, Result<Worth, Memory>)
     ensures { IfSome (S.contents source.now) (λ text. length text < 2 ^ 64 → S.faultless source.now → IfOk result.0 (λ a. IfOk result.1 (λ b. a ≡ b))) }
 {
     (
-        worth_of_encoding(alloc, mode, root, capacity, source),
-        worth_of_encoding(alloc, mode, root, capacity, source),
+        worth_of_encoding(alloc, mode, root, source),
+        worth_of_encoding(alloc, mode, root, source),
     )
 }
 
 pub fn worth_of_copy_determined<S: Source>(
     alloc: Global,
     outline: &Outline<'_>,
-    capacity: u32,
     source: &S,
 ) -> (Result<Worth, Memory>, Result<Worth, Memory>)
     ensures { IfSome (S.contents source.now) (λ copy. length copy < 2 ^ 64 → S.faultless source.now → IfOk result.0 (λ a. IfOk result.1 (λ b. a ≡ b))) }
 {
     (
-        worth_of_copy(alloc, outline, capacity, source),
-        worth_of_copy(alloc, outline, capacity, source),
+        worth_of_copy(alloc, outline, source),
+        worth_of_copy(alloc, outline, source),
     )
 }

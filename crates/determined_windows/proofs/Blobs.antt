@@ -1,6 +1,6 @@
 -- Blobs that were written for one root are one, or a collision.
-use Rattle.std.proofs.Common.{◌≡◌, ◌≢◌, ◌⊎◌, inl, inr, ℕ, ◌^◌, ◌<◌, ◌≤◌, List, [], ◌∷◌, length, Option, None, Some, IfOk, IfSome, IsErrOf, Result, Ok, Err, refl, sym, ap, subst, ◌∙◌, arith}
-use Rattle.std.specs.Io.KnownBytes.{Appends}
+use Rattle.std.proofs.Common.{◌≡◌, ◌≢◌, ◌⊎◌, inl, inr, ℕ, ◌^◌, ◌<◌, ◌≤◌, List, [], ◌∷◌, ◌++◌, append-nil, length, Option, None, Some, IfOk, IfSome, IsErrOf, Result, Ok, Err, refl, sym, ap, subst, ◌∙◌, arith}
+use Rattle.std.specs.Io.KnownBytes.{Appends, Keeps}
 use Rattle.std.proofs.lemmas.Bool.{cases_lt}
 use Rattle.b3tree.specs.declared.mode.Mode.{Mode}
 use Rattle.b3tree.specs.declared.values.Hash.{Hash}
@@ -11,8 +11,8 @@ use Rattle.bao_windows.specs.Available.{AreSound, HasNoEnd, IsFirstEnd}
 use Rattle.bao_windows.specs.Copies.{HaveCopies, IsOwn}
 use Rattle.bao_windows.specs.declared.fault.WindowsFault.{WindowsFault}
 use Rattle.bao_windows.specs.declared.wanted.Wanted.{Wanted}
-use Rattle.bao_windows.specs.Windows.{IsFrom, IsLengthOfEach, fixed_for}
-use Rattle.bao_windows.specs.Written.{IsWrittenOut, WroteBlob}
+use Rattle.bao_windows.specs.Windows.{AllAt, IsFrom, IsLengthOfEach, IsOfAccepted, fixed_for}
+use Rattle.bao_windows.specs.Written.{IsBegun, IsWrittenOut, WroteBlob}
 use Rattle.determined_windows.specs.Agreeing.{HaveBlob, IsClaimed, IsHad, IsOneAnswer, SameBlob, SameLength}
 use Rattle.gather.specs.Available.{HaveSlices}
 use Rattle.gather.specs.declared.form.Form.{Form}
@@ -22,8 +22,10 @@ use Rattle.gather.specs.Lists.{source_gives}
 use Rattle.gather.specs.declared.fault.GatherFault.{GatherFault}
 use Rattle.gather.specs.declared.fault.GatherFault.TheVariants.{Unfinished}
 use Rattle.gather.specs.Large.{HasCollision}
+use Rattle.store_core.specs.declared.fixed.Fixed.{Fixed}
 use Rattle.store_core.specs.declared.history.Piece.{Piece}
 use Rattle.store_core.specs.Laws.{IsBlob}
+use Rattle.store_core.specs.Pieces.{IsAcceptedPiece}
 
 -- a length that is certified of sources whose bytes are known is one, and always is
 pub one_length : {S : Type 0} (contents : S → Option (List ℕ)) (faultless : S → Type 0) (wanted : Wanted) (sources : List S) → AreSound contents faultless sources → (a b : Result ℕ GatherFault)
@@ -171,3 +173,18 @@ pub claimed_agree : (form other : Form) (l : ℕ) (r s : Result ℕ GatherFault)
 claimed_agree form other l (Ok m) (Ok n) ours theirs p q = is_claimed form l m ours p ∙ sym (is_claimed other l n theirs q)
 claimed_agree form other l (Ok m) (Err f) ours theirs p q = tt
 claimed_agree form other l (Err e) s ours theirs p q = tt
+
+-- where no slice is accepted under the root, nothing was written
+keeps_none : (old new : Option (List ℕ)) (bytes : List ℕ) → bytes ≡ [] → Appends old new bytes → Keeps old new
+keeps_none None new bytes none appends = tt
+keeps_none (Some xs) None bytes none appends = appends
+keeps_none (Some xs) (Some ys) bytes none appends = appends ∙ ap (λ (s : List ℕ). xs ++ s) none ∙ append-nil xs
+
+no_bytes : (handed : Piece → Type 0) (fixed : Fixed) (at : ℕ) (bytes : List ℕ) → ((piece : Piece) → handed piece → IsAcceptedPiece fixed piece → ⊥)
+    → AllAt (IsOfAccepted handed fixed) at bytes → bytes ≡ []
+no_bytes handed fixed at [] none slices = refl
+no_bytes handed fixed at (b ∷ bytes) none slices = let slice = slices 0 (omega arith) in absurd (none slice.piece slice.from slice.accepted)
+
+pub nothing_written : (handed : Piece → Type 0) (fixed : Fixed) (at : ℕ) (old new : Option (List ℕ)) → ((piece : Piece) → handed piece → IsAcceptedPiece fixed piece → ⊥)
+    → IsBegun handed fixed at old new → Keeps old new
+nothing_written handed fixed at old new none begun = keeps_none old new begun.0 (no_bytes handed fixed at begun.0 none begun.1.slices) begun.2

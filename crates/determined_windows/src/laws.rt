@@ -6,7 +6,10 @@ ghost use Rattle.bao_windows.specs.Available.{AreSound};
 ghost use Rattle.bao_windows.specs.Windows.{IsFrom, fixed_for};
 ghost use Rattle.determined_windows.specs.Agreeing.{IsClaimed, IsHad, IsOneAnswer, SameBlob, SameLength};
 ghost use Rattle.gather.specs.Large.{HasCollision};
+ghost use Rattle.store_core.specs.declared.history.Piece.{Piece};
 ghost use Rattle.store_core.specs.Laws.{IsBlob};
+ghost use Rattle.store_core.specs.Pieces.{IsAcceptedPiece};
+ghost use Rattle.std.specs.Io.KnownBytes.{Keeps};
 
 use bao_read::Source;
 use bao_windows::{Wanted, WindowsFault, certified_length, write_windows};
@@ -94,4 +97,19 @@ pub fn write_windows_determined<
             theirs,
         ),
     )
+}
+
+// Where no slice that comes from a source is accepted under the root, nothing is written, whether or not a blob has that root.
+pub fn write_windows_of_nothing<R: AllocGlobal + Threads + Sync, S: Source + Sync, W: Write>(
+    rt: &R,
+    wanted: &Wanted<'_>,
+    workers: u32,
+    capacity: u64,
+    sources: &[S],
+    out: &mut W,
+) -> Result<u64, WindowsFault>
+    requires { (piece : Piece) → IsFrom wanted.now S.contents S.faultless sources.now piece → IsAcceptedPiece (fixed_for wanted.now) piece → ⊥ }
+    ensures { Keeps (W.contents out.old) (W.contents out.new) }
+{
+    write_windows(rt, wanted, workers, capacity, sources, out)
 }

@@ -4,7 +4,7 @@ use Rattle.std.proofs.lemmas.Bool.{or_left, or_right}
 use Rattle.bao_check.specs.Parents.{parent_in}
 use Rattle.bao_text.specs.NodeNames.{boundary}
 use Rattle.bao_text.specs.Nodes.{TreeNode, placed_nodes, size}
-use Rattle.gather.specs.Counts.{HasFailed}
+use Rattle.gather.specs.Counts.{HasFailedSince}
 use Rattle.gather.specs.Groups.{AreGroups, has_in, is_in}
 use Rattle.store_core.specs.Pieces.{holds_parent}
 use Rattle.gather.specs.declared.report.Report.{Report}
@@ -48,13 +48,13 @@ parent_marked piece groups base m marked low has =
     marked (m / 64) (omega (arith, low)) ∙ parent_in_group (piece_text piece) 8 (piece_nodes piece) m has
 
 -- all parents of a piece below a group are held, and those of the group are then: those of the groups between aren't the piece's
-pub held_below : {S : Type 0} (has_parent : S → ℕ → Type 0) (old new : S) (piece : Piece) (from group : ℕ) (report report' : Report) → (HasFailed report → HasFailed report')
+pub held_below : {S : Type 0} (has_parent : S → ℕ → Type 0) (old new : S) (piece : Piece) (from group : ℕ) (first report report' : Report) → (HasFailedSince first report → HasFailedSince first report')
     → ((m : ℕ) → has_parent old m → has_parent new m)
     → ((m : ℕ) → from ≤ m / 64 → m / 64 < group → m < 65536 → holds_parent piece m ≡ true → ⊥)
-    → HasFailed report' ⊎ ((m : ℕ) → m / 64 ≡ group → holds_parent piece m ≡ true → has_parent new m)
-    → HasFailed report ⊎ ((m : ℕ) → m / 64 < from → m < 65536 → holds_parent piece m ≡ true → has_parent old m)
-    → HasFailed report' ⊎ ((m : ℕ) → m / 64 < group + 1 → m < 65536 → holds_parent piece m ≡ true → has_parent new m)
-held_below has_parent old new piece from group report report' on lasts none here before = elim before [
+    → HasFailedSince first report' ⊎ ((m : ℕ) → m / 64 ≡ group → holds_parent piece m ≡ true → has_parent new m)
+    → HasFailedSince first report ⊎ ((m : ℕ) → m / 64 < from → m < 65536 → holds_parent piece m ≡ true → has_parent old m)
+    → HasFailedSince first report' ⊎ ((m : ℕ) → m / 64 < group + 1 → m < 65536 → holds_parent piece m ≡ true → has_parent new m)
+held_below has_parent old new piece from group first report report' on lasts none here before = elim before [
   | inl failed ↦ inl (on failed)
   | inr all ↦ elim here [
     | inl failed ↦ inl failed

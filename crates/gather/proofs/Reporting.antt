@@ -4,7 +4,8 @@ use Rattle.gather.specs.declared.holder.HolderFault.{HolderFault}
 use Rattle.gather.specs.declared.holder.HolderFault.TheVariants.{Device}
 use Rattle.gather.specs.declared.holder.HolderFault.TheVariants as unfetched
 use Rattle.gather.specs.declared.report.Report.{Report}
-use Rattle.gather.specs.Counts.{FailsNoLess, Fits, Goes, HasFailed, IsAnswered, Reports, asked_once, checked_once, failed_once, lost_once, memory_once, plus, refused_once}
+use Rattle.gather.proofs.Serving.{memory_counts}
+use Rattle.gather.specs.Counts.{FailsNoLess, Fits, Goes, HasFailedSince, IsAnswered, Reports, asked_once, checked_once, failed_once, lost_once, memory_once, plus, refused_once}
 use Rattle.gather.specs.Holders.{AreLater, GivesNoMore, IsGiven, IsHanded, IsIt, IsNone}
 use Rattle.gather.specs.Large.{EndsTooFar, IsTooLarge}
 
@@ -51,9 +52,9 @@ pub large_wider : (handed wider : Piece → Type 0) → ((piece : Piece) → han
 large_wider handed wider more fixed large = record { piece = large.piece; from = more large.piece large.from; large = large.large }
 
 -- a fetch without a text: its device failed, or memory was refused
-pub lost_or_failed : {P : Type 0} (x y : Report) (fault : HolderFault) → y ≡ lost_once fault x → (fault ≡ Device → P) → HasFailed y ⊎ P
-lost_or_failed x y Device told lost = inr (lost refl)
-lost_or_failed x y unfetched.Memory told lost = inl (omega (arith, ap (λ (r : Report). r.memory) told))
+pub lost_or_failed : {P : Type 0} (w x y : Report) (fault : HolderFault) → x ≡ asked_once w → y ≡ lost_once fault x → (fault ≡ Device → P) → HasFailedSince w y ⊎ P
+lost_or_failed w x y Device asked told lost = inr (lost refl)
+lost_or_failed w x y unfetched.Memory asked told lost = inl (memory_counts w x y (ap (λ (r : Report). r.memory) asked) told)
 
 module _ {S : Type 0} (fixed_of : S → Fixed) (gained : (Piece → Type 0) → S → S → ℕ → ℕ → Type 0) (goes : Goes fixed_of gained) where
   -- nothing was called
@@ -86,6 +87,7 @@ module _ {S : Type 0} (fixed_of : S → Fixed) (gained : (Piece → Type 0) → 
       | inr large ↦
           inr (subst (λ (fixed : Fixed). IsTooLarge A fixed) (goes.keeps A r s first.chunks first.parents first.gains) (large_wider B A first.no_more (fixed_of s) large))
     ];
+    stays = λ is. second.stays (first.stays is);
   }
 
   -- calls of pieces that were handed over store so many chunks and parents, and nothing is asked
@@ -102,6 +104,7 @@ module _ {S : Type 0} (fixed_of : S → Fixed) (gained : (Piece → Type 0) → 
     answered = λ is. is;
     no_less = (omega arith, omega arith);
     too_large = λ is. inl is;
+    stays = λ is. is;
   }
 
   -- a call that stores nothing and counts nothing
@@ -117,8 +120,8 @@ module _ {S : Type 0} (fixed_of : S → Fixed) (gained : (Piece → Type 0) → 
   -- a fetch with a text, whose piece some call had, and no more; the piece may certify a length above what the store has room for
   fetch_told : (s t : S) (A B : Piece → Type 0) (a b : ℕ) (x y : Report) (large : Bool) → gained A s t 0 0 → ((piece : Piece) → B piece → A piece) → Fits x
       → (a ≤ b) × (y ≡ asked_once x) → (IsTrue large → IsTrue x.too_large ⊎ IsTooLarge A (fixed_of s))
-      → Reports fixed_of gained s t A B a b x (record y { too_large = large })
-  fetch_told s t A B a b x y large still no_more fits fetch told =
+      → (IsTrue x.too_large → IsTrue large) → Reports fixed_of gained s t A B a b x (record y { too_large = large })
+  fetch_told s t A B a b x y large still no_more fits fetch told stays =
       subst (λ (z : Report). Reports fixed_of gained s t A B a b x (record z { too_large = large })) (sym fetch.1) (record {
         chunks = 0;
         parents = 0;
@@ -130,18 +133,19 @@ module _ {S : Type 0} (fixed_of : S → Fixed) (gained : (Piece → Type 0) → 
         answered = λ is. omega (arith, is);
         no_less = (omega arith, omega arith);
         too_large = told;
+        stays = stays;
       })
 
   pub fetch_some : (s t : S) (A B : Piece → Type 0) (a b : ℕ) (x y : Report) → gained A s t 0 0 → ((piece : Piece) → B piece → A piece) → Fits x
       → (a ≤ b) × (y ≡ asked_once x) → Reports fixed_of gained s t A B a b x y
   fetch_some s t A B a b x y still no_more fits fetch =
       subst (λ (z : Report). Reports fixed_of gained s t A B a b x z) (sym fetch.1)
-      (fetch_told s t A B a b x (asked_once x) x.too_large still no_more fits (fetch.0, refl) (λ is. inl is))
+      (fetch_told s t A B a b x (asked_once x) x.too_large still no_more fits (fetch.0, refl) (λ is. inl is) (λ is. is))
 
   pub fetch_large : (s t : S) (A B : Piece → Type 0) (a b : ℕ) (x y : Report) (piece : Piece) → gained (IsIt piece) s t 0 0 → ((piece : Piece) → B piece → A piece) → Fits x
       → (a ≤ b) × (y ≡ asked_once x) → A piece → EndsTooFar (fixed_of s) piece → Reports fixed_of gained s t A B a b x (record y { too_large = true })
   fetch_large s t A B a b x y piece still no_more fits fetch from large =
-      fetch_told s t A B a b x y true (it_gained A s t piece 0 0 from still) no_more fits fetch (λ is. inr (record { piece = piece; from = from; large = large }))
+      fetch_told s t A B a b x y true (it_gained A s t piece 0 0 from still) no_more fits fetch (λ is. inr (record { piece = piece; from = from; large = large })) (λ is. refl)
 
   -- a refused growth is counted beside
   pub starved : (s t : S) (A B : Piece → Type 0) (a b : ℕ) (x y : Report) → Fits x → Reports fixed_of gained s t A B a b x y → Reports fixed_of gained s t A B a b x (memory_once y)
@@ -156,6 +160,7 @@ module _ {S : Type 0} (fixed_of : S → Fixed) (gained : (Piece → Type 0) → 
     answered = one.answered;
     no_less = (omega (arith, one.no_less.0, fits.2), omega (arith, one.no_less.1));
     too_large = one.too_large;
+    stays = one.stays;
   }
 
   -- a fetch whose text a check refused for another cause than memory, or without one, as a device failed
@@ -178,6 +183,7 @@ module _ {S : Type 0} (fixed_of : S → Fixed) (gained : (Piece → Type 0) → 
         answered = counts.3;
         no_less = counts.4;
         too_large = λ large. inl (subst (λ (b : Bool). IsTrue b) counts.5 large);
+        stays = subst (λ (b : Bool). IsTrue b) (sym counts.5);
       }
 
   -- a fetch without a text
@@ -223,6 +229,7 @@ module _ {S : Type 0} (fixed_of : S → Fixed) (gained : (Piece → Type 0) → 
     answered = one.answered;
     no_less = one.no_less;
     too_large = λ large. elim (one.too_large large) [ inl before ↦ inl before | inr is ↦ inr (large_wider A A' wide (fixed_of s) is) ];
+    stays = one.stays;
   }
 
   -- what is said of one piece that was handed over is so beside some holders

@@ -1,5 +1,9 @@
 -- The slices of a blob with the root, for which the store has room.
-use Rattle.gather.proofs.Common.{◌≡◌, ℕ, ◌+◌, ◌-◌, ◌*◌, ◌/◌, ◌^◌, ◌<◌, ◌≤◌, List, length, true, is_some, IsSome, Option, None, Some, refl, sym, subst, arith, option_map, IsKeyed, IsAccepted, places_of, slice_nodes, chunk_in, chunk_place, chunk_in-place, slice_present, claimed-chosen_text, slice_accepted, chunk_count, of_slice, slice_end, slice_start, nodes, slice_text, Fixed, has_room_of, IsBlob, EndsBlob, holds_chunk, length_of, places_in}
+use Rattle.gather.proofs.Common.{◌≡◌, ◌∙◌, ℕ, ◌+◌, ◌-◌, ◌*◌, ◌/◌, ◌^◌, ◌<◌, ◌≤◌, List, [], length, true, is_some, IsSome, Option, None, Some, refl, sym, subst, arith, option_map, IsKeyed, IsAccepted, places_of, slice_nodes, chunk_in, chunk_place, chunk_in-place, slice_present, claimed-chosen_text, slice_accepted, chunk_count, of_slice, slice_end, slice_start, nodes, slice_text, Fixed, has_room_of, IsBlob, EndsBlob, holds_chunk, length_of, places_in}
+use Rattle.bao_check.proofs.Descents.{parent_wanted}
+use Rattle.bao_check.proofs.Parenting.{parent_in-some}
+use Rattle.bao_check.specs.Parents.{parent_place}
+use Rattle.store_core.specs.Pieces.{holds_parent}
 use Rattle.gather.specs.Available.{IsServed, slice_of}
 
 some_mapped : {X Y : Type 0} (f : X → Y) (o : Option X) → IsSome o → IsSome (option_map f o)
@@ -34,6 +38,16 @@ module _ (fixed : Fixed) (blob : List ℕ) (short : length blob < 2 ^ 64) where
   reached : (c start len : ℕ) → fixed.base ≡ 0 → c < chunk_count (length blob) → start ≤ 1024 * c → 1024 * c < start + len → holds_chunk (slice_of fixed blob start len) c ≡ true
   reached c start len first below before after = counted start len c first (present start len c (omega (arith, before)) (omega (arith, below, before, after)))
 
+  -- a parent, where its right part's first chunk is of the slice
+  parented : (start len m : ℕ) → 0 < m → m < chunk_count (length blob) → start ≤ 1024 * m → 1024 * m < start + len → holds_parent (slice_of fixed blob start len) m ≡ true
+  parented start len m some below before after =
+      let n = length blob in
+      let text = slice_text fixed.mode blob start len in
+      let there : is_some (parent_place (places_of (nodes n start len)) m) ≡ true =
+      parent_wanted (of_slice n start len) m (record { before = omega (arith, below, before, after); after = omega (arith, below, before, after) }) 0 n [] 8 8 some (omega (arith, below)) in
+      parent_in-some text (places_in (slice_of fixed blob start len)) m
+      ∙ subst (λ (total : ℕ). is_some (parent_place (places_of (nodes total start len)) m) ≡ true) (sym (long start len)) there
+
 pub served : (fixed : Fixed) (blob : List ℕ) → IsKeyed fixed.mode → IsBlob fixed blob → fixed.base ≡ 0 → chunk_count (length blob) ≤ fixed.capacity → fixed.capacity ≤ 65536
     → IsServed fixed blob
 served fixed blob keyed is first room limit =
@@ -48,4 +62,5 @@ served fixed blob keyed is first room limit =
       claims = long fixed blob short;
       ends = last_there fixed blob short;
       holds = λ c start len below before after. reached fixed blob short c start len first below before after;
+      parents = λ m start len. parented fixed blob short start len m;
     }

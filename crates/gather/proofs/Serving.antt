@@ -1,10 +1,10 @@
 -- What a worker does with the slices of a blob that a holder gives.
-use Rattle.gather.proofs.Common.{◌≢◌, eqb-true, eq-eqb, ◌≡◌, ℕ, ◌+◌, ◌-◌, ◌*◌, ◌/◌, ◌%◌, ◌^◌, ◌<◌, ◌≤◌, ◌==◌, ◌&&◌, not, Bool, true, false, List, [], ◌∷◌, zero, suc, get_or, set, slice_get, IfSome, IsSome, Option, None, Some, length, refl, sym, ap, subst, ◌∙◌, arith, inl, inr, ltb-true, mul_comm, nat_lt, get_or_from_slice_get, and_parts, both_ways, cases_Bool, cases_lt, lt-ltb, add-mod_right, div-lt_iff_lt-mul, mod-eq_of_lt, mul-lt-mul_of_pos_right, Mode, IsAccepted, slice_nodes, HoldsLast, IsPiece, Checked, slice_text, Fixed, Piece, has_room, IsMaskOf, has_bit, in_mask, EndsBlob, length_of, piece_of, IsOf}
+use Rattle.gather.proofs.Common.{◌≢◌, eqb-true, eq-eqb, ◌≡◌, ℕ, ◌+◌, ◌-◌, ◌*◌, ◌/◌, ◌%◌, ◌^◌, ◌<◌, ◌≤◌, min, ◌==◌, ◌&&◌, not, Bool, true, false, List, [], ◌∷◌, zero, suc, get_or, set, slice_get, IfSome, IsSome, Option, None, Some, length, refl, sym, ap, subst, ◌∙◌, arith, inl, inr, ltb-true, mul_comm, nat_lt, get_or_from_slice_get, and_parts, both_ways, cases_Bool, cases_lt, lt-ltb, add-mod_right, div-lt_iff_lt-mul, mod-eq_of_lt, mul-lt-mul_of_pos_right, Mode, IsAccepted, slice_nodes, HoldsLast, IsPiece, Checked, slice_text, Fixed, Piece, has_room, IsMaskOf, has_bit, in_mask, EndsBlob, length_of, piece_of, IsOf}
 use Rattle.gather.proofs.Bits.{has_bit_zero}
 use Rattle.gather.specs.Holders.{AreLater}
 use Rattle.gather.specs.declared.grain.Grain.{Grain}
 use Rattle.gather.specs.Available.{GivesSlice, HasSlice, HasTrue, HaveSlices, IsServed, IsWanted, slice_of}
-use Rattle.gather.specs.Counts.{HasFailed, memory_once}
+use Rattle.gather.specs.Counts.{HasFailed, HasFailedSince, memory_once}
 use Rattle.gather.specs.declared.report.Report.{Report}
 use Rattle.gather.specs.Large.{EndsTooFar}
 
@@ -42,11 +42,22 @@ never_large fixed piece blob start len served is large =
     both_ways _ large.above (ap (λ (l : ℕ). has_room fixed l) long ∙ served.fits)
 
 -- a fetch that memory was refused to counts that
-pub memory_counts : (x y : Report) → y ≡ memory_once x → HasFailed y
-memory_counts x y is = subst (λ (r : Report). 0 < r.memory) (sym is) (omega arith)
+pub memory_counts : (w x y : Report) → x.memory ≡ w.memory → y ≡ memory_once x → HasFailedSince w y
+memory_counts w x y same is = let counts : y.memory ≡ min (x.memory + 1) (2 ^ 64 - 1) = ap (λ (r : Report). r.memory) is in
+    elim (cases_lt w.memory (2 ^ 64 - 1)) [ inl low ↦ inl (omega (arith, counts, same, low)) | inr high ↦ inr (omega (arith, counts, same, high)) ]
 
-pub fails_on : (x y : Report) → (x.memory ≤ y.memory) × (x.failed ≤ y.failed) → HasFailed x → HasFailed y
-fails_on x y no_less memory = omega (arith, memory, no_less.0)
+-- it was so since an earlier report, and until a later one
+pub fails_from : (w x y : Report) → (w.memory ≤ x.memory) × (w.failed ≤ x.failed) → HasFailedSince x y → HasFailedSince w y
+fails_from w x y no_less (inl more) = inl (omega (arith, more, no_less.0))
+fails_from w x y no_less (inr end) = inr end
+
+pub fails_until : (w x y : Report) → (x.memory ≤ y.memory) × (x.failed ≤ y.failed) → HasFailedSince w x → HasFailedSince w y
+fails_until w x y no_less (inl more) = inl (omega (arith, more, no_less.0))
+fails_until w x y no_less (inr end) = inr (omega (arith, end, no_less.0))
+
+pub failed_since : (x y : Report) → HasFailedSince x y → HasFailed y
+failed_since x y (inl more) = omega (arith, more)
+failed_since x y (inr end) = omega (arith, end)
 
 not_true : (b : Bool) → not b ≡ true → b ≡ false
 not_true true is = let no : false ≡ true = is in cc

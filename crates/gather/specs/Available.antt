@@ -11,7 +11,7 @@ use Rattle.store_core.specs.declared.fixed.Fixed.{Fixed}
 use Rattle.store_core.specs.declared.history.Piece.{Piece}
 use Rattle.store_core.specs.Events.{has_room}
 use Rattle.store_core.specs.Masks.{has_bit, in_mask}
-use Rattle.store_core.specs.Pieces.{EndsBlob, holds_chunk, length_of}
+use Rattle.store_core.specs.Pieces.{EndsBlob, holds_chunk, holds_parent, length_of}
 
 -- the slice of a blob, as a piece to a store
 abbrev pub slice_of : Fixed → List ℕ → ℕ → ℕ → Piece
@@ -32,6 +32,7 @@ pub record IsServed (fixed : Fixed) (blob : List ℕ) : Type 0 where
   pub claims : (start len : ℕ) → length_of (slice_of fixed blob start len) ≡ length blob
   pub ends : (start len : ℕ) → length blob ≤ start + len → EndsBlob (slice_of fixed blob start len)
   pub holds : (c start len : ℕ) → c < chunk_count (length blob) → start ≤ 1024 * c → 1024 * c < start + len → holds_chunk (slice_of fixed blob start len) c ≡ true
+  pub parents : (m start len : ℕ) → 0 < m → m < chunk_count (length blob) → start ≤ 1024 * m → 1024 * m < start + len → holds_parent (slice_of fixed blob start len) m ≡ true
 
 -- what a holder gives as the slice (start, len) is the blob's
 abbrev pub GivesSlice : {H : Type 0} → (H → ℕ → ℕ → List ℕ → Type 0) → Mode → List ℕ → ℕ → ℕ → H → Type 0
@@ -89,3 +90,10 @@ pub record IsFilled {S : Type 0} (records holds busy : S → ℕ → Type 0) (ol
   pub recorded : ℕ
   pub is : records new recorded
   pub chunks : recorded ≡ length blob → (c : ℕ) → c < chunk_count (length blob) → holds new c ⊎ busy old c
+
+-- The length is recorded, and if it is the blob's, each parent of the blob is held: there is one for each of its chunks but the
+-- first, which its right part begins with.
+pub record HasAllParents {S : Type 0} (records has_parent : S → ℕ → Type 0) (seat : S) (blob : List ℕ) : Type 0 where
+  pub recorded : ℕ
+  pub is : records seat recorded
+  pub parents : recorded ≡ length blob → (m : ℕ) → 0 < m → m < chunk_count (length blob) → has_parent seat m

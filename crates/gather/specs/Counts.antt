@@ -49,6 +49,10 @@ lost_once Memory report = memory_once report
 abbrev pub HasFailed : Report → Type 0
 HasFailed report = 0 < report.memory
 
+-- it was so since another report: it was counted, or the count can't go up any more
+abbrev pub HasFailedSince : Report → Report → Type 0
+HasFailedSince old new = (old.memory < new.memory) ⊎ (2 ^ 64 - 1 ≤ new.memory)
+
 -- counts of both go up
 abbrev pub FailsNoLess : Report → Report → Type 0
 FailsNoLess old new = (old.memory ≤ new.memory) × (old.failed ≤ new.failed)
@@ -61,10 +65,14 @@ Fits report = (report.committed < 2 ^ 64) × (report.parents < 2 ^ 64) × (repor
 abbrev pub IsAnswered : Report → Type 0
 IsAnswered report = min (report.refused + report.failed) (2 ^ 64 - 1) ≤ report.asked
 
+-- it says that the blob is too large, and one of the pieces that were handed over certifies it
+abbrev pub IsToldTooLarge : Report → (Piece → Type 0) → Fixed → Type 0
+IsToldTooLarge report handed fixed = IsTrue report.too_large × IsTooLarge handed fixed
+
 -- What a worker's report gained is so, between two seats, what its holders may hand over before and after, and two sums
 -- of their counts of device faults: its own calls stored the chunks and the parents that are counted, of pieces that were
 -- handed over; no more device faults are counted than the holders counted; and a blob is called too large only where
--- such a piece certifies that it is.
+-- such a piece certifies that it is, and stays so.
 pub record Reports {S : Type 0} (fixed_of : S → Fixed) (gained : (Piece → Type 0) → S → S → ℕ → ℕ → Type 0) (old new : S) (handed handed' : Piece → Type 0) (before after : ℕ) (report report' : Report) : Type 0 where
   pub chunks : ℕ
   pub parents : ℕ
@@ -76,6 +84,7 @@ pub record Reports {S : Type 0} (fixed_of : S → Fixed) (gained : (Piece → Ty
   pub answered : IsAnswered report → IsAnswered report'
   pub no_less : FailsNoLess report report'
   pub too_large : IsTrue report'.too_large → IsTrue report.too_large ⊎ IsTooLarge handed (fixed_of old)
+  pub stays : IsTrue report.too_large → IsTrue report'.too_large
 
 -- none was stored, and nothing more is claimed
 abbrev pub Still : {S : Type 0} → (S → S → ℕ → ℕ → Type 0) → (S → ℕ → Bool) → S → S → Type 0

@@ -9,15 +9,15 @@ use crate::places::Placed;
 use bao_read::Source;
 use bao_text::append_cut;
 
-/// The holder over a combined encoding, which nobody has checked: over its bytes, or over a source from which it is read by
-/// position. It keeps them by reference.
+/// A holder of a combined encoding, which nobody has checked: of its bytes, or of a source that is read by
+/// position. It borrows them.
 #[derive(Drop)]
 pub struct Encoded<P> {
     places: P,
 }
 
 impl<P: Holding> Encoded<P> {
-    /// A holder of what is there.
+    /// Returns a holder of these bytes.
     pub fn new(places: P) -> Encoded<P>
         ensures { result.places ≡ places }
     {
@@ -26,7 +26,8 @@ impl<P: Holding> Encoded<P> {
 }
 
 impl<'a, S: Source> Encoded<Placed<'a, S>> {
-    /// A holder of what this source has. Its memory doesn't grow with the encoding. No fault is counted yet.
+    /// Returns a holder of what the source has. Its memory doesn't grow with the encoding, and its count of
+    /// faults is 0.
     pub fn at(source: &'a S) -> Encoded<Placed<'a, S>>
         ensures source { result.places.source.now ≡ source.now }
         ensures faults { result.places.faults ≡ 0 }
@@ -42,8 +43,8 @@ impl<P: Holding> Holder for Encoded<P> {
 
     ghost gives = { λ holder start len text. P.gives holder.places (λ bytes. cut_text bytes start len) text };
 
-    /// Appends the slice as `cut_slice` would cut it out of all bytes that are there. The length, and each subtree of which all
-    /// is wanted, are one part that is copied from its place on, and no room is taken for more than the slice that is asked for.
+    /// Appends the slice that `cut_slice` would cut out of all the bytes there. The length, and each subtree
+    /// that is wanted as a whole, is copied as one range, and memory is taken for no more than the slice.
     fn fetch(&mut self, start: u64, len: u64, into: &mut Vec<u8>) -> Result<(), HolderFault>
         ensures appended { OnOk result (Appends (P.gives self.old.places (λ bytes. cut_text bytes start len)) into.old.items into.new.items) }
         ensures no_more { GivesNoMore (λ holder start len text. P.gives holder.places (λ bytes. cut_text bytes start len) text) self.old self.new }

@@ -7,7 +7,7 @@ use std::alloc::AllocError;
 use store_core::{BadCapacity, Missing};
 use thiserror::Error;
 
-/// Why a store's blob was not handed out. The store is unchanged.
+/// Why a store's blob was not returned. The store is unchanged.
 #[derive(Clone, Copy, Debug, PartialEq, Eq, Error)]
 pub enum FinishFault {
     /// No length is recorded, or a byte below it isn't held. Number 901.
@@ -16,7 +16,7 @@ pub enum FinishFault {
     /// All bytes are held, and their hash isn't the root. Number 902.
     #[error("902 not the root")]
     NotTheRoot,
-    /// There was no memory. Number 903.
+    /// Out of memory. Number 903.
     #[error("903 memory")]
     Memory,
 }
@@ -44,7 +44,7 @@ impl From<Missing> for FinishFault {
 impl FinishFault {
     ghost use Rattle.gather.specs.Faults.{number_of};
 
-    /// The fault's number: 901 to 903.
+    /// Returns the number of the fault: 901 to 903.
     pub fn code(&self) -> u16
         ensures { result ≡ number_of self.now }
     {
@@ -59,16 +59,16 @@ impl FinishFault {
 /// Why no blob was gathered.
 #[derive(Clone, Copy, Debug, PartialEq, Eq, Error)]
 pub enum GatherFault {
-    /// There was no memory for a store that several workers share. Number 801.
+    /// Out of memory for a store that several workers share. Number 801.
     #[error("801 memory")]
     Store,
-    /// The capacity is not 1 to 65,536 chunks. Number 802.
+    /// The capacity isn't 1 to 65,536 chunks. Number 802.
     #[error("802 capacity")]
     Capacity,
-    /// The blob is unfinished, and what was handed over certifies a length above the capacity. Number 805.
+    /// The blob is unfinished, and an accepted slice certifies a length above the capacity. Number 805.
     #[error("805 too large")]
     TooLarge,
-    /// There was no memory for the seat of one of several workers. Number 806.
+    /// Out of memory for the seat of one of several workers. Number 806.
     #[error("806 memory")]
     Seat,
     /// The blob is unfinished. Number 901.
@@ -77,11 +77,11 @@ pub enum GatherFault {
     /// All bytes are held, and their hash isn't the root. Number 902.
     #[error("902 not the root")]
     NotTheRoot,
-    /// There was no memory for the blob. Number 903.
+    /// Out of memory for the blob. Number 903.
     #[error("903 memory")]
     Memory,
-    /// There was no memory for a worker's list of holders, or one met none in its work and the blob is unfinished.
-    /// Number 911.
+    /// Out of memory for a worker's list of holders, or during its work, and the blob is unfinished. Number
+    /// 911.
     #[error("911 memory")]
     Starved,
 }
@@ -99,7 +99,7 @@ impl From<BadCapacity> for GatherFault {
 impl GatherFault {
     ghost use Rattle.gather.specs.Faults.{number_of_gather};
 
-    /// The fault's number: 801, 802, 805, 806, 901 to 903 or 911.
+    /// Returns the number of the fault: 801, 802, 805, 806, 901 to 903 or 911.
     pub fn code(&self) -> u16
         ensures { result ≡ number_of_gather self.now }
     {
@@ -116,9 +116,8 @@ impl GatherFault {
     }
 }
 
-/// Why workers with this report left a blob unfinished: what they lacked first of memory, room and texts. It is 911
-/// `Starved` where they ran out of memory, else 805 `TooLarge` where they met a length above 1,024 times the
-/// capacity, else 901 `Unfinished`.
+/// Returns why workers with this report left a blob unfinished: 911 `Starved` if they ran out of memory, else
+/// 805 `TooLarge` if they met a length above 1,024 times the capacity, else 901 `Unfinished`.
 pub fn cause(report: &Report) -> GatherFault
     ensures { result ≡ cause_of report.now }
 {
@@ -131,8 +130,8 @@ pub fn cause(report: &Report) -> GatherFault
     }
 }
 
-/// Why no blob was gathered by workers with this report, where its store handed none out for `fault`: an unfinished one
-/// has its cause in their work.
+/// Returns why workers with this report gathered no blob, if their store refused it with `fault`: for an
+/// unfinished blob, their `cause`.
 pub fn why(fault: FinishFault, report: &Report) -> GatherFault
     ensures { result ≡ why_of fault report.now }
 {
@@ -143,7 +142,7 @@ pub fn why(fault: FinishFault, report: &Report) -> GatherFault
     }
 }
 
-/// Whether it may be for want of room that no blob was gathered: where it is 805 `TooLarge` or 901 `Unfinished`.
+/// Returns whether a larger capacity might help: for 805 `TooLarge` and 901 `Unfinished`.
 pub fn may_lack_room<T>(gathered: &Result<T, GatherFault>) -> bool
     ensures { IsTrue result ↔ (IsErrOf gathered.now TooLarge ⊎ IsErrOf gathered.now Unfinished) }
 {

@@ -33,11 +33,12 @@ fn read_all(alloc: Global, store: &Store, end: u64) -> Result<Vec<u8>, FinishFau
     Ok(blob)
 }
 
-/// Whether this is the hash of the blob of a store with this root and mode: 902 `NotTheRoot` unless it is the root.
+/// Compares a hash with the root of a store: refuses with 902 `NotTheRoot` unless it is the root.
 ///
-/// Where it is the hash of all bytes that a store holds below its recorded length, these are another's then: for each blob
-/// with the root, a collision is exhibited, two different inputs with one chaining value, one of the blob's and one of a piece's of which
-/// the store's history committed a chunk, or by which it settled the length.
+/// If it is the hash of all bytes that a store holds below its recorded length and is refused, then for every
+/// blob with the root the contract exhibits a collision: two different inputs with the same chaining value, one
+/// from the blob and one from a slice from which the store's history committed a chunk, or by which it settled
+/// the length.
 #[tactic(auto, using(crate::proofs::Finishing::alike, crate::proofs::Finishing::differs, crate::proofs::Finishing::judged_other, crate::proofs::Finishing::judged_root))]
 pub fn judge(fixed: &Fixed, hashed: Hash) -> Result<(), FinishFault>
     ensures root { IsOk result ↔ (hashed.0 ≡ fixed.now.root.0) }
@@ -52,14 +53,16 @@ pub fn judge(fixed: &Fixed, hashed: Hash) -> Result<(), FinishFault>
     Ok(())
 }
 
-/// The blob of a store: all bytes below the recorded length, once their hash in the mode is its root.
+/// Returns the blob of a store: all bytes below the recorded length, if their hash in the store's mode is its
+/// root. The store is unchanged.
 ///
-/// In this order: 901 `Unfinished` where no length is recorded; 903 `Memory`; 901 where a byte below the length isn't
-/// held; 902 `NotTheRoot` where the hash of the bytes isn't the root. The store is unchanged.
+/// Refuses, in this order, with 901 `Unfinished` if no length is recorded, 903 `Memory`, 901 if a byte below
+/// the length isn't held, and 902 `NotTheRoot` if the hash isn't the root.
 ///
-/// For each blob with the root and whatever legal history led to the store, the blob is the one that is answered, and
-/// there is none at `NotTheRoot`; or a collision is exhibited, two different inputs with one chaining value, one of the blob's and one of
-/// a piece's of which that history committed a chunk, or by which it settled the length.
+/// For every blob with the root, and whatever legal history led to the store, the result is that blob, and
+/// `NotTheRoot` never occurs; or the contract exhibits a collision: two different inputs with the same chaining
+/// value, one from the blob and one from a slice from which that history committed a chunk, or by which it
+/// settled the length.
 #[tactic(auto, using(crate::proofs::Finishing::judged_at, crate::proofs::Finishing::verdict_binds, crate::proofs::Finishing::verdict_finishes))]
 pub fn finish_one(alloc: Global, store: &Store) -> Result<Vec<u8>, FinishFault>
     ensures finishes { Finishes (λ blob. blob.items) (fixed_of store.now) (state_of store.now) result }

@@ -10,19 +10,19 @@ use store_core::{Fixed, GROUP_BYTES};
 // Bytes of a chunk, for numbers of bytes.
 pub(crate) const CHUNK_LEN: u64 = b3tree::CHUNK_LEN as u64;
 
-/// So many bytes of a blob, from byte `start` on.
+/// The `len` bytes of a blob from byte `start` on.
 #[derive(Clone, Copy, Debug)]
 pub struct ByteRange {
     pub start: u64,
     pub len: u64,
 }
 
-/// What a worker's holders give, and so which bytes it asks them for, and how it checks what comes.
+/// What a worker's holders supply: it decides which bytes are asked for, and how they are checked.
 #[derive(Clone, Copy, Debug)]
 pub enum Form<'a> {
     /// Slices, each with the parents that certify it.
     Slices,
-    /// Bytes of plain copies of the blob: they are checked beside this outboard encoding of it.
+    /// Bytes of plain copies of the blob, which are checked beside this outboard encoding of it.
     Bare(&'a Outline<'a>),
 }
 

@@ -1,8 +1,8 @@
-/// The smallest part of a blob that holders are asked for, where more is missing.
+/// The smallest range that holders are asked for.
 #[derive(Clone, Copy, Debug, PartialEq, Eq)]
 pub enum Grain {
-    /// A group of 64 chunks: one damaged chunk in it costs a holder's whole group.
+    /// A group of 64 chunks: a damaged chunk costs a holder's whole group.
     Group,
-    /// A chunk: where groups are missing after they were asked for, each of their chunks is asked for by itself.
+    /// A chunk: if groups are missing after they were asked for, each of their chunks is asked for separately.
     Chunk,
 }

@@ -5,7 +5,7 @@ ghost use Rattle.gather.specs.Holders.{Appends};
 use crate::holder::HolderFault;
 use bao_text::{Memory, Places};
 
-/// What a holder is over: bytes that lie at places, in memory or in a source that is read by position.
+/// What a holder reads from: bytes by position, in memory or in a source.
 pub trait Holding: Places {
     // How many faults of its device it has counted.
     ghost count: { Self → ℕ };
@@ -22,8 +22,8 @@ pub trait Holding: Places {
     // That what is made of its bytes in this way was appended, as far as they are known.
     ghost adds: { Self → (List ℕ → List ℕ) → List ℕ → List ℕ → Type 0 };
 
-    /// Counts a fault of a copy, if its device failed, and answers it. Once the count is 2^64 - 1 it stays, and such a fault is
-    /// none.
+    /// Counts a fault of a copy if the device failed, and returns it. Once the count is 2^64 - 1 it stays, and
+    /// such a fault becomes `Ok`.
     fn missed(&mut self, fault: Self::Fault) -> Result<(), HolderFault>
         requires { Self.fails self.old fault }
         ensures device { IsErrOf result Device → count self.old < count self.new }
@@ -34,7 +34,7 @@ pub trait Holding: Places {
         ensures no_more { (way : List ℕ → List ℕ) (text : List ℕ) → gives self.new way text → gives self.old way text }
         ensures stays { stays self.old self.new };
 
-    /// How many faults of its device it has counted.
+    /// Returns how many faults of its device were counted.
     fn faults(&self) -> u64
         ensures { result ≡ count self.now };
 
@@ -46,7 +46,7 @@ pub trait Holding: Places {
     ghost still: { (it : Self) → stays it it };
 }
 
-/// Bytes in memory. No device of theirs fails.
+/// Bytes in memory, which have no device that fails.
 impl<'a> Holding for &'a [u8] {
     ghost use Rattle.std.proofs.Common.{refl};
     ghost use Rattle.gather.specs.Given.{given_here};

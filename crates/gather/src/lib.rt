@@ -1,6 +1,7 @@
-//! Gathers a blob from holders that nobody trusts, and hands it out once its hash is the root.
+//! Gathers a blob from untrusted holders, and returns it if its hash is the root.
 #![tactic(auto)]
 
+pub use completing::closing_round;
 pub use encoded::Encoded;
 pub use fault::{FinishFault, GatherFault, cause, may_lack_room, why};
 pub use finish::{finish_one, judge};
@@ -21,6 +22,7 @@ pub use sources::{CopiesAt, Sources};
 pub use texts::{gather_texts, holders_over};
 pub use worker::{Place, work, work_as};
 
+mod completing;
 mod encoded;
 mod fault;
 mod finish;

@@ -7,17 +7,17 @@ use crate::plain::{Plain, copies_over};
 use crate::texts::holders_over;
 use std::alloc::{AllocError, Global};
 
-/// What all workers ask, of which each has a list of holders of its own.
+/// What all workers read from; each has its own list of holders.
 pub trait Lists<H> {
     // The holders are over it.
     ghost over: { Self → List H → Type 0 };
 
-    /// One more list of holders over it. Refused where there is no memory for the list.
+    /// Returns another list of holders. Refuses if there is no memory for the list.
     fn list(&self, alloc: Global) -> Result<Vec<H>, AllocError>
         ensures { IfOk result (λ holders. over self.now holders.items) };
 }
 
-/// Texts in memory, each of which may be a combined encoding. They are not copied.
+/// Encodings in memory, each of which may be the blob's combined encoding. They aren't copied.
 #[derive(Clone, Copy)]
 pub struct Texts<'a>(pub &'a [Vec<u8>]);
 
@@ -29,7 +29,7 @@ impl<'a> Lists<Encoded<&'a [u8]>> for Texts<'a> {
     }
 }
 
-/// Plain copies in memory. Their bytes stay where they are.
+/// Plain copies in memory. They aren't copied.
 #[derive(Clone, Copy)]
 pub struct Copies<'a>(pub &'a [Vec<u8>]);
 

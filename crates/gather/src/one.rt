@@ -2,15 +2,17 @@ ghost use Rattle.std.specs.Prelude.{◌≡◌, ◌≤◌, ◌+◌, ◌⊎◌, �
 ghost use Rattle.store_core.specs.Stores.{fixed_of};
 ghost use Rattle.gather.specs.Claims.{Among};
 ghost use Rattle.bao_text.specs.Choice.{chunk_count};
-ghost use Rattle.gather.specs.Available.{HaveSlices, IsFilled};
+ghost use Rattle.gather.specs.Available.{HasAllParents, HaveSlices, IsFilled};
 ghost use Rattle.gather.specs.declared.grain.Grain.TheVariants.{Group as ByGroup};
-ghost use Rattle.gather.specs.Counts.{HasFailed, IsAnswered};
-ghost use Rattle.gather.specs.Lasting.{HoldsChunk, IsBusy, Records};
+ghost use Rattle.gather.specs.Counts.{HasFailed, IsAnswered, IsToldTooLarge};
+ghost use Rattle.gather.specs.Lasting.{HasParent, HoldsChunk, IsBusy, Records};
 ghost use Rattle.store_core.specs.Laws.{IsBlob};
 ghost use Rattle.gather.specs.Holders.{AreLater, IsHanded};
 ghost use Rattle.gather.specs.Large.{AreLonger, IsTooLarge};
 ghost use Rattle.gather.specs.Worked.{AddsBlobs, AddsCertified, Gains, HasWorked, worker_claims};
 
+use crate::completing::closing_round;
+use crate::form::Form;
 use crate::holder::Holder;
 use crate::report::Report;
 use crate::shelf::Shelf;
@@ -83,6 +85,10 @@ impl Shelf for Alone {
         store.commit_parents(group, piece)
     }
 
+    fn has_parent(&self, store: &mut Store, boundary: u32) -> bool {
+        store.has_parent(boundary)
+    }
+
     #[tactic(auto, using(crate::proofs::Alone::settles_still, crate::proofs::Alone::settles_large, crate::proofs::Knowing::settle_records))]
     fn settle(&self, store: &mut Store, tail: &Tail<'_>) -> Settling {
         // For the prover alone: a tail is of a piece with its last chunk.
@@ -95,33 +101,36 @@ impl Shelf for Alone {
     }
 }
 
-/// Gathers what a store still lacks of its blob from holders that nobody trusts: one worker, whose seat is 0.
+/// Gathers what a store lacks of its blob from untrusted holders: one worker, whose seat is 0. The store's base
+/// is 0.
 ///
-/// If no length is recorded, the worker asks its holders in order for the last chunk, checks each text, and settles
-/// the length that it certifies, until one is recorded; it ends where none comes, or where one is above what the
-/// store has room for. Then it goes over the groups of 64 chunks that the length needs. It takes a group's chunks, and
-/// asks its holders in order, each once, for those bytes, checks each text and commits from it, until none of the
-/// chunks granted is left; those that are it gives back. Once it has settled or committed from an encoding, it stores the
-/// encoding's parents too. All this is done twice.
+/// If no length is recorded, the worker asks its holders in order for the last chunk, checks what each supplies
+/// and settles the length that it certifies, until one is recorded. It ends if none comes, or if one is above
+/// the store's capacity. Then, for each group of 64 chunks that the length needs, it takes the group's chunks,
+/// asks its holders in order, each once, for those bytes, checks and commits what each supplies until none of
+/// the granted chunks is left, and gives the rest back. From an encoding that it settled or committed from, it
+/// also stores the parents. All this is done twice. Last, for each group of which a parent isn't held, whichever
+/// of its chunks are, it asks its holders in order for the group and stores the parents of what is accepted,
+/// until none is missing. Everything is checked under the store's root in its mode.
 ///
-/// It refuses nothing. Refused memory is counted in the report: where a take meets it the group is left, else the
-/// next holder is asked. Texts are checked under the store's root and in its mode.
+/// It refuses nothing. Refused memory is counted in the report: if a take is refused, the group is skipped,
+/// else the next holder is asked.
 ///
-/// What the worker did is a history of its own calls, each with the right reply in its turn, of pieces that its holders
-/// may have given: so what is stored comes from such encodings, accepted under the store's root. For each blob with that
-/// root, each chunk stored is the blob's of that number, counted from the store's first, or a collision is exhibited, two different
-/// inputs with one chaining value, one of the blob's and one of that encoding's. No claim is left that the worker took.
+/// What the worker did is a history of its own calls, with slices that its holders may have supplied, accepted
+/// under the store's root. For every blob with that root, each chunk stored is the blob's of that index,
+/// counted from the base; or the contract exhibits a collision: two different inputs with the same chaining
+/// value, one from the blob and one from that slice. No claim remains that the worker made.
 ///
-/// The worker asks for the groups of a whole blob, so the store has to be of one: its base is 0. Then it is enough that, of a blob
-/// with the root for which the store has room, one of the holders gives the slice of the last byte, and for each group of its
-/// chunks one gives the group's slice, whatever they give as other slices. Where memory wasn't refused, nor an accepted encoding
-/// certifies a length that is too large, a length is recorded then, and if it is that blob's, each of its chunks is held, or was
-/// claimed by somebody before. Other holders' devices may fail: one that fails gives the empty text, which is no slice, so that
-/// a holder that gives the blob's slice is one whose device doesn't fail there.
+/// It suffices that, for a blob with the root that fits the store, one holder supplies the slice of the last
+/// byte, and for each group of its chunks some holder supplies the group's slice, whatever they supply
+/// otherwise, and even if other devices fail. If no memory was refused and no accepted slice certifies a length
+/// that is too large, a length is then recorded; and if it is that blob's, each of its chunks is held, or was
+/// already claimed by another seat, and each of its parents is held. So once all chunks are held, only memory
+/// can refuse a slice.
 ///
-/// The report's `committed` is the number of chunks stored and `parents` that of parents, `failed` is at most what
-/// the holders' counts rose together, and `too_large` is set only where an accepted encoding certifies a length
-/// for which the store has no room: it has none then for any blob with the root, or such a collision is exhibited.
+/// In the report, `committed` and `parents` are how many chunks and parents were stored, and `failed` is at
+/// most the rise of the holders' counts. `too_large` is set only if an accepted slice certifies a length that
+/// doesn't fit the store: then no blob with the root fits, or such a collision is exhibited.
 pub fn run_one<H: Holder>(alloc: Global, store: &mut Store, holders: &mut [H]) -> Report
     ensures worked { Gains (IsHanded H.gives holders.old) store.old store.new result }
     ensures certified { AddsCertified (IsHanded H.gives holders.old) store.old store.new }
@@ -134,7 +143,10 @@ pub fn run_one<H: Holder>(alloc: Global, store: &mut Store, holders: &mut [H]) -
     ensures longer { IsTrue result.too_large → AreLonger (IsHanded H.gives holders.old) (fixed_of store.old) }
     ensures available { (blob : List ℕ) → IsBlob (fixed_of store.old) blob → (fixed_of store.old).base ≡ 0 → chunk_count (length blob) ≤ (fixed_of store.old).capacity
         → HaveSlices ByGroup H.gives (fixed_of store.old).mode blob holders.old
-        → HasFailed result ⊎ IsTooLarge (IsHanded H.gives holders.old) (fixed_of store.old) ⊎ IsFilled Records HoldsChunk IsBusy store.old store.new blob }
+        → HasFailed result ⊎ IsToldTooLarge result (IsHanded H.gives holders.old) (fixed_of store.old) ⊎ IsFilled Records HoldsChunk IsBusy store.old store.new blob }
+    ensures complete { (blob : List ℕ) → IsBlob (fixed_of store.old) blob → (fixed_of store.old).base ≡ 0 → chunk_count (length blob) ≤ (fixed_of store.old).capacity
+        → HaveSlices ByGroup H.gives (fixed_of store.old).mode blob holders.old
+        → HasFailed result ⊎ IsToldTooLarge result (IsHanded H.gives holders.old) (fixed_of store.old) ⊎ HasAllParents Records HasParent store.new blob }
 {
     let place = Place {
         number: 0,
@@ -146,6 +158,14 @@ pub fn run_one<H: Holder>(alloc: Global, store: &mut Store, holders: &mut [H]) -
     accepted_binds();
     let mut report = Report::new();
     work(alloc, &Alone, store, holders, place, &mut report);
-    work(alloc, &Alone, store, holders, place, &mut report);
+    closing_round(
+        alloc,
+        &Form::Slices,
+        &Alone,
+        store,
+        holders,
+        place,
+        &mut report,
+    );
     report
 }

@@ -3,7 +3,7 @@ ghost use Rattle.bao_check.specs.Checked.{piece_nodes};
 ghost use Rattle.bao_text.specs.NodeNames.{name};
 ghost use Rattle.gather.specs.Available.{Keeps};
 ghost use Rattle.gather.specs.Claims.{Among};
-ghost use Rattle.gather.specs.Counts.{HasFailed, Reports};
+ghost use Rattle.gather.specs.Counts.{HasFailedSince, Reports};
 ghost use Rattle.gather.specs.Groups.{AreGroups, IsNext};
 ghost use Rattle.gather.specs.Holders.{IsIt};
 ghost use Rattle.store_core.specs.Pieces.{holds_parent, length_of, piece_of};
@@ -18,8 +18,8 @@ use store_core::StoreFault;
 
 const GROUPS: usize = MAX_GROUPS as usize;
 
-/// Which of the 1,024 groups of 64 boundaries that a store can have have a parent of the piece: those of which
-/// `commit_parents` can store any from it. It takes no memory.
+/// Returns which of a store's 1,024 possible groups of 64 boundaries have a parent of the accepted slice, so
+/// that `commit_parents` can store some from it. It doesn't allocate.
 pub fn boundary_groups(piece: &Checked<'_>) -> [bool; GROUPS]
     ensures { AreGroups (map name (piece_nodes piece.now)) result }
 {
@@ -61,7 +61,7 @@ pub(crate) fn store_parents<S: Shelf>(
     ensures claims { Among (S.claims seat.old) (S.claims seat.new) }
     ensures keeps { Keeps (S.claims seat.old) (S.claims seat.new) }
     ensures parents { IsOf (S.fixed_of seat.old) piece.now → S.records seat.old (length_of (piece_of (S.fixed_of seat.old).base piece.now))
-        → HasFailed report.new ⊎ ((m : ℕ) → m < 65536 → holds_parent (piece_of (S.fixed_of seat.old).base piece.now) m ≡ true → S.has_parent seat.new m) }
+        → HasFailedSince report.old report.new ⊎ ((m : ℕ) → m < 65536 → holds_parent (piece_of (S.fixed_of seat.old).base piece.now) m ≡ true → S.has_parent seat.new m) }
 {
     report.fits();
     let groups = boundary_groups(piece);

@@ -14,8 +14,7 @@ const END: u128 = u64::MAX as u128;
 // The most bytes that are asked for at once: a group's chunks with their parents are fewer.
 const ASKED_LEN: u128 = 1 << 17;
 
-/// What a source has, as bytes that lie at places, and how many faults of its reads are counted. It keeps the source by
-/// reference.
+/// The bytes of a source by position, with a count of the reads that failed. It borrows the source.
 #[derive(Drop)]
 pub struct Placed<'a, S: Source> {
     source: &'a S,
@@ -73,7 +72,7 @@ impl<'a, S: Source> Places for Placed<'a, S> {
     }
 }
 
-/// `Device` where a read answered a fault, one of the kind `Interrupted` too, which is not tried again.
+/// `Device` if a read failed (also with the kind `Interrupted`; it isn't retried).
 impl<'a, S: Source> Holding for Placed<'a, S> {
     ghost use Rattle.std.specs.Prelude.{◌⊎◌, ◌^◌};
     ghost use Rattle.std.proofs.Common.{refl};

@@ -10,15 +10,15 @@ use crate::places::Placed;
 use bao_read::Source;
 use std::alloc::{AllocError, Global};
 
-/// The holder over a plain copy of a blob, which nobody has checked: over its bytes, or over a source from which it is read
-/// by position. It keeps them by reference.
+/// A holder of a plain copy of a blob, which nobody has checked: of its bytes, or of a source that is read by
+/// position. It borrows them.
 #[derive(Drop)]
 pub struct Plain<P> {
     places: P,
 }
 
 impl<P: Holding> Plain<P> {
-    /// A holder of what is there.
+    /// Returns a holder of these bytes.
     pub fn new(places: P) -> Plain<P>
         ensures { result.places ≡ places }
     {
@@ -27,7 +27,8 @@ impl<P: Holding> Plain<P> {
 }
 
 impl<'a, S: Source> Plain<Placed<'a, S>> {
-    /// A holder of what this source has. Its memory doesn't grow with the copy. No fault is counted yet.
+    /// Returns a holder of what the source has. Its memory doesn't grow with the copy, and its count of faults
+    /// is 0.
     pub fn at(source: &'a S) -> Plain<Placed<'a, S>>
         ensures source { result.places.source.now ≡ source.now }
         ensures faults { result.places.faults ≡ 0 }
@@ -43,8 +44,8 @@ impl<P: Holding> Holder for Plain<P> {
 
     ghost gives = { λ holder start len text. P.gives holder.places (λ bytes. piece bytes start len) text };
 
-    /// Appends the copy's bytes from byte `start` on, `len` in number, as far as it has them: with a copy of N bytes, from
-    /// min(start, N) up to and without min(start + len, N). Where it is read, room is taken as they come.
+    /// Appends the `len` bytes of the copy from byte `start` on, as far as it has them: of N bytes, those from
+    /// min(start, N) up to min(start + len, N). If the copy is read, memory grows as the bytes arrive.
     fn fetch(&mut self, start: u64, len: u64, into: &mut Vec<u8>) -> Result<(), HolderFault>
         ensures appended { OnOk result (Appends (P.gives self.old.places (λ bytes. piece bytes start len)) into.old.items into.new.items) }
         ensures no_more { GivesNoMore (λ holder start len text. P.gives holder.places (λ bytes. piece bytes start len) text) self.old self.new }
@@ -72,7 +73,7 @@ impl<P: Holding> Holder for Plain<P> {
     }
 }
 
-/// A holder over each plain copy, in their order. The copies' bytes stay where they are.
+/// Returns a holder for each plain copy, in order. The copies' bytes aren't copied.
 pub fn copies_over<'a>(
     alloc: Global,
     copies: &'a [Vec<u8>],

@@ -4,27 +4,27 @@ ghost use Rattle.gather.specs.Counts.{Fits, asked_once, checked_once, lost_once,
 use crate::holder::HolderFault;
 use bao_check::CheckFault;
 
-/// What a worker did. Counts stay at 2^64 - 1 once there.
+/// What a worker did. A count stays at 2^64 - 1 once there.
 #[derive(Clone, Copy, Debug, PartialEq, Eq)]
 pub struct Report {
-    /// Chunks that it committed.
+    /// Chunks committed.
     pub committed: u64,
-    /// Parents that it stored.
+    /// Parents stored.
     pub parents: u64,
     /// Fetches.
     pub asked: u64,
-    /// Texts that a check refused for another cause than memory.
+    /// Encodings that a check refused, for another reason than memory.
     pub refused: u64,
     /// Fetches whose device failed.
     pub failed: u64,
-    /// Growths that were refused.
+    /// Refusals of memory.
     pub memory: u64,
-    /// Whether a certified length was above what the store has room for.
+    /// Whether a certified length was above the store's capacity.
     pub too_large: bool,
 }
 
 impl Report {
-    /// Nothing was done.
+    /// Returns the report of no work.
     pub fn new() -> Report
         ensures { result ≡ no_counts }
     {

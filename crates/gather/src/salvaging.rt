@@ -1,12 +1,11 @@
 ghost use Rattle.std.specs.Prelude.{◌⊎◌, ℕ, List, sum_by};
 ghost use Rattle.gather.specs.Available.{HaveSlices, IsFilled, IsServed};
 ghost use Rattle.gather.specs.Claims.{Among};
-ghost use Rattle.gather.specs.Counts.{HasFailed, Reports};
+ghost use Rattle.gather.specs.Counts.{HasFailedSince, IsToldTooLarge, Reports};
 ghost use Rattle.gather.specs.declared.grain.Grain.TheVariants.{Chunk as ByChunk};
 ghost use Rattle.gather.specs.Forms.{AreSlices, made_of};
 ghost use Rattle.gather.specs.Parts.{HaveParts, IsFor};
 ghost use Rattle.gather.specs.Holders.{AreLater, IsHanded};
-ghost use Rattle.gather.specs.Large.{IsTooLarge};
 
 use crate::form::Form;
 use crate::holder::Holder;
@@ -18,21 +17,22 @@ use bao_text::chunk_count;
 use std::alloc::Global;
 use store_core::{MAX_CAPACITY, with_bit};
 
-/// A worker's work where groups are missing that no holder has whole: it sees to it that a length is recorded, as
-/// [`work`](crate::work) does, and goes once over all chunks that the length needs, in their order. It takes each that
-/// isn't held, and asks its holders in order, each once, for its bytes alone, (1,024 * c, 1,024) for the chunk c, until it
-/// is committed; else it gives it back. So a chunk that no holder has costs no other one. No claim is left that it took.
+/// A worker's round over single chunks, for groups that no holder has as a whole.
 ///
-/// Holders of plain copies are asked for min(1,024, L - 1,024 * c) bytes of it, with the length L that the form's outboard
-/// encoding claims, and the worker ends where another length is recorded.
+/// It records a length as [`work`](crate::work) does, and goes once over all chunks that the length needs, in
+/// order. It takes each chunk that isn't held, asks its holders in order, each once, for that chunk's bytes
+/// alone, (1,024 * c, 1,024) for chunk c, until it is committed, and else gives it back. So a chunk that no
+/// holder has costs no other. No claim remains that it made. It refuses nothing, and adds to the report as
+/// [`work`](crate::work) does.
 ///
-/// It is enough that, of a blob with the root for which the store has room, one of the holders gives the slice of the last
-/// byte, and for each of its chunks one gives the chunk's slice, whatever they give as other slices, as with
-/// [`run_one`](crate::run_one).
-/// Beside an outboard encoding that claims the blob's length, of at least one byte, the same is enough of what its parents and a
-/// holder's bytes make together, the last chunk in the place of the last byte.
+/// Holders of plain copies are asked for min(1,024, L - 1,024 * c) bytes, where L is the length that the form's
+/// outboard encoding claims, and the worker ends if another length is recorded.
 ///
-/// It refuses nothing. The report goes on from what it was, as with [`work`](crate::work).
+/// It suffices that, for a blob with the root that fits the store, one holder supplies the slice of the last
+/// byte, and for each of its chunks some holder supplies the chunk's slice, whatever they supply otherwise, as
+/// for [`run_one`](crate::run_one). Beside an outboard encoding that claims the blob's length, of at least one
+/// byte, it suffices that a holder's bytes make these slices with the outboard encoding's parents, the last
+/// chunk in place of the last byte.
 pub fn salvage<S: Shelf, H: Holder>(
     alloc: Global,
     form: &Form<'_>,
@@ -47,9 +47,9 @@ pub fn salvage<S: Shelf, H: Holder>(
     ensures later { AreLater (made_of form.now H.gives) holders.old holders.new }
     ensures claims { Among (S.claims seat.old) (S.claims seat.new) }
     ensures served { AreSlices form.now → (blob : List ℕ) → IsServed (S.fixed_of seat.old) blob → HaveSlices ByChunk (made_of form.now H.gives) (S.fixed_of seat.old).mode blob holders.old
-        → HasFailed report.new ⊎ IsTooLarge (IsHanded (made_of form.now H.gives) holders.old) (S.fixed_of seat.old) ⊎ IsFilled S.records S.holds S.busy seat.old seat.new blob }
+        → HasFailedSince report.old report.new ⊎ IsToldTooLarge report.new (IsHanded (made_of form.now H.gives) holders.old) (S.fixed_of seat.old) ⊎ IsFilled S.records S.holds S.busy seat.old seat.new blob }
     ensures parts { (blob : List ℕ) → IsFor form.now (S.fixed_of seat.old) blob → IsServed (S.fixed_of seat.old) blob → HaveParts form.now ByChunk H.gives (S.fixed_of seat.old).mode blob holders.old
-        → HasFailed report.new ⊎ IsTooLarge (IsHanded (made_of form.now H.gives) holders.old) (S.fixed_of seat.old) ⊎ IsFilled S.records S.holds S.busy seat.old seat.new blob }
+        → HasFailedSince report.old report.new ⊎ IsToldTooLarge report.new (IsHanded (made_of form.now H.gives) holders.old) (S.fixed_of seat.old) ⊎ IsFilled S.records S.holds S.busy seat.old seat.new blob }
 {
     report.fits();
     let mut room = Vec::new(alloc);

@@ -16,10 +16,10 @@ ghost use Rattle.gather.specs.Large.{EndsTooFar};
 use bao_check::{Checked, Tail};
 use store_core::{Fixed, Settling, StoreFault};
 
-/// A store as one of its workers sees it: what [`work`](crate::work) asks of it. The worker's own part of the store is
-/// its seat, and a seat that is handed to a call is one of this store's.
+/// A store as one of its workers sees it: what [`work`](crate::work) requires. A worker's own part of the store
+/// is its seat, and each call takes a seat of this store.
 ///
-/// A group is 64 chunks, a mask is of the chunks of a group: bit j stands for chunk 64 * group + j.
+/// A group has 64 chunks; in a mask of a group's chunks, bit j stands for chunk 64 * group + j.
 pub trait Shelf {
     /// One worker's part of the store.
     type Seat;
@@ -55,14 +55,15 @@ pub trait Shelf {
     // What is known lasts.
     ghost lasts: { Lasts gained claims records holds has_parent busy };
 
-    /// The root and the mode of the store's blob, how many chunks it has room for, and from which of the blob's on.
+    /// Returns the root and the mode of the store's blob, the capacity in chunks, and the index in the blob of
+    /// its first chunk.
     fn fixed(&self, seat: &Self::Seat) -> Fixed
         requires { has self.now seat.now }
         ensures { result ≡ fixed_of seat.now };
 
-    /// Claims the wanted chunks of a group that may be granted, and answers their mask.
+    /// Claims those wanted chunks of a group that may be granted, and returns their mask.
     ///
-    /// At a fault nothing more is claimed: 701 where there was no memory, 803 where there is no such group.
+    /// Refuses with 701 if out of memory, and with 803 if there is no such group; nothing more is then claimed.
     fn take(&self, seat: &mut Self::Seat, group: u32, want: u64) -> Result<u64, StoreFault>
         requires { has self.now seat.old }
         ensures has { has self.now seat.new }
@@ -73,16 +74,18 @@ pub trait Shelf {
             → (in_mask group granted c ≡ true) ⊎ holds seat.old c ⊎ busy seat.old c) }
         ensures refused { IfErr result (λ fault. (fault ≡ Memory) ⊎ ((fixed_of seat.old).capacity ≤ 64 * group)) };
 
-    /// Ends the seat's claims among the mask of a group, and answers the mask of those that it had.
+    /// Ends the seat's claims to chunks of `mask`, and returns the mask of those that it had.
     fn give(&self, seat: &mut Self::Seat, group: u32, mask: u64) -> u64
         requires { has self.now seat.old }
         ensures has { has self.now seat.new }
         ensures gained { gained IsNone seat.old seat.new 0 0 }
         ensures claims { Without (claims seat.old) group mask (claims seat.new) };
 
-    /// Stores the chunks of a group that the seat claims and the piece holds, ends these claims, and answers their mask.
+    /// Stores those chunks of a group that the seat claims and the accepted slice has, ends these claims, and
+    /// returns their mask.
     ///
-    /// At a fault nothing is stored: 701 where there was no memory, 804 where the piece is of another root or mode.
+    /// Refuses with 701 if out of memory, and with 804 if the slice has another root or mode; nothing is then
+    /// stored.
     fn commit(
         &self,
         seat: &mut Self::Seat,
@@ -98,11 +101,12 @@ pub trait Shelf {
         ensures held { IfOk result (λ committed. (c : ℕ) → in_mask group committed c ≡ true → holds seat.new c) }
         ensures refused { IfErr result (λ fault. (fault ≡ Memory) ⊎ (¬ IsOf (fixed_of seat.old) piece.now)) };
 
-    /// Stores parents of the piece at boundaries of a group, and answers their mask: bit j stands for the parent whose
-    /// right part begins at chunk 64 * group + j. All parents of the piece there are known to be held then.
+    /// Stores parents of the accepted slice at boundaries of a group, and returns their mask: bit j stands for
+    /// the parent whose right child begins at chunk 64 * group + j. Afterwards all parents of the slice there
+    /// are known to be held.
     ///
-    /// At a fault nothing is stored: 701 where there was no memory, 804 where the piece is of another root or mode, 807
-    /// where the length that it claims isn't the recorded one, or there is none.
+    /// Refuses with 701 if out of memory, with 804 if the slice has another root or mode, and with 807 if it
+    /// claims another length than the recorded one, or none is recorded; nothing is then stored.
     fn commit_parents(
         &self,
         seat: &mut Self::Seat,
@@ -117,7 +121,15 @@ pub trait Shelf {
         ensures parents { IfOk result (λ _. (m : ℕ) → m / 64 ≡ group → holds_parent (piece_of (fixed_of seat.old).base piece.now) m ≡ true → has_parent seat.new m) }
         ensures refused { IfErr result (λ fault. (fault ≡ Memory) ⊎ (¬ IsOf (fixed_of seat.old) piece.now) ⊎ IsOfOtherLength records seat.old (piece_of (fixed_of seat.old).base piece.now)) };
 
-    /// Records the length in bytes that a piece with the last chunk certifies, if none is recorded.
+    /// Returns whether the parent whose right child begins with chunk `boundary` is held.
+    fn has_parent(&self, seat: &mut Self::Seat, boundary: u32) -> bool
+        requires has { has self.now seat.old }
+        requires boundary { boundary < (fixed_of seat.old).capacity }
+        ensures has { has self.now seat.new }
+        ensures still { Still (gained IsNone) claims seat.old seat.new }
+        ensures held { result ≡ true → has_parent seat.new boundary };
+
+    /// Records the blob's length in bytes that the tail certifies, if none is recorded.
     fn settle(&self, seat: &mut Self::Seat, tail: &Tail<'_>) -> Settling
         requires { has self.now seat.old }
         ensures has { has self.now seat.new }
@@ -126,7 +138,7 @@ pub trait Shelf {
         ensures other { result ≡ OtherRoot → ¬ IsOf (fixed_of seat.old) (tail_piece tail.now) }
         ensures records { result ≢ TooLarge → result ≢ OtherRoot → (l : ℕ) × records seat.new l };
 
-    /// The recorded length in bytes, if there is one.
+    /// Returns the recorded length in bytes, if there is one.
     fn length(&self, seat: &mut Self::Seat) -> Option<u64>
         requires { has self.now seat.old }
         ensures has { has self.now seat.new }

@@ -36,7 +36,7 @@ fn copies_at_over<'a, S: Source>(
     Ok(holders)
 }
 
-/// Sources that are read by position, each of which may be a combined encoding.
+/// Sources that are read by position, each of which may be the blob's combined encoding.
 #[derive(Drop)]
 pub struct Sources<'a, S: Source>(pub &'a [S]);
 

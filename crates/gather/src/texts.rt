@@ -17,7 +17,7 @@ use b3tree::{Hash, Mode};
 use std::alloc::{AllocError, Global};
 use store_core::Store;
 
-/// A holder over each text, in their order. The texts are not copied.
+/// Returns a holder for each encoding, in order. The encodings aren't copied.
 pub fn holders_over<'a>(
     alloc: Global,
     texts: &'a [Vec<u8>],
@@ -61,25 +61,28 @@ fn gather_within(
     }
 }
 
-/// The blob with this root in this mode, out of texts that nobody trusts: each may be its combined encoding, or any
-/// bytes. One worker asks them in their order, as `run_one` says, and fills a store with their chunks and parents;
-/// it is let go at the end. The store has room for as many chunks as a blob with such an encoding may have, at most
-/// `capacity`: where that is less, and the blob is too large for it or left unfinished, the work is done again with room
-/// for all. The texts are not copied.
+/// Returns the blob with this root in this mode, gathered from untrusted `texts`: each may be its combined
+/// encoding, or any bytes.
 ///
-/// 802 `Capacity` unless `capacity` is 1 to 65,536; 911 `Starved` where there is no memory for a list of the texts.
-/// Then the blob is answered only once its hash is the root: 902 `NotTheRoot` where it isn't, 903 `Memory` where there
-/// is no memory for the blob. An unfinished blob is 911 where the worker ran out of memory, else 805 `TooLarge`
-/// where it met a length above 1,024 times the capacity, else 901 `Unfinished`.
+/// One worker asks them in order, as in `run_one`, and fills a store. The store's capacity is that of the
+/// largest blob with such an encoding, at most `capacity`; if that is less, and the blob is too large for it or
+/// remains unfinished, the work is repeated with the whole capacity. The encodings aren't copied, and the store
+/// is dropped at the end.
 ///
-/// Where one of the texts is the combined encoding of a blob with the root, of at most `capacity` chunks, that blob is
-/// answered, whatever the other texts are, or there was no memory, or such a collision as follows is exhibited. Nor need any
-/// text be whole: it is enough that the slice of the last byte can be cut out of one, and for each group of the blob's chunks
-/// the group's slice out of one.
+/// Refuses with 802 `Capacity` unless `capacity` is 1 to 65,536, and with 911 `Starved` if there is no memory
+/// for a list of the encodings. An unfinished blob is refused with 911 if the worker ran out of memory, else
+/// with 805 `TooLarge` if it met a length above 1,024 times the capacity, else with 901 `Unfinished`. A
+/// finished one is refused with 902 `NotTheRoot` if its hash isn't the root, and with 903 `Memory`.
 ///
-/// What is answered is each blob with the root, at 805 each of them is longer than the capacity, and at 902 there is none;
-/// or a collision is exhibited, two different inputs with one chaining value, one of the blob's and one of a slice's that is
-/// cut out of one of these texts and accepted under the root. Such a slice certifies the length that is too large, too.
+/// It suffices that one of `texts` is the combined encoding of a blob with the root of at most `capacity`
+/// chunks, whatever the others are; or, if none is complete, that the slice of the last byte can be cut out of
+/// one, and each group's slice out of some. That blob is then returned, unless memory is refused or a collision
+/// is exhibited.
+///
+/// The result is every blob with the root; at 805 every such blob is longer than the capacity, and at 902 there
+/// is none. Or a collision is exhibited: two different inputs with the same chaining value, one from the blob
+/// and one from a slice that is cut out of one of `texts` and accepted under the root. Such a slice also
+/// certifies the length that is too large.
 pub fn gather_texts(
     alloc: Global,
     root: Hash,

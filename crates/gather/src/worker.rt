@@ -6,9 +6,8 @@ ghost use Rattle.gather.specs.Available.{GivesSlice, HasSlice, HaveSlices, IsFil
 ghost use Rattle.gather.specs.declared.grain.Grain.TheVariants.{Group as ByGroup};
 ghost use Rattle.gather.specs.Forms.{AreSlices, IsLengthOf, IsPart, checked_len, made_of};
 ghost use Rattle.gather.specs.Parts.{HaveParts, IsAgreed, IsEndIn, IsFor};
-ghost use Rattle.store_core.specs.Pieces.{holds_chunk};
-ghost use Rattle.gather.specs.Counts.{HasFailed, Reports};
-ghost use Rattle.gather.specs.Large.{IsTooLarge};
+ghost use Rattle.store_core.specs.Pieces.{holds_chunk, holds_parent};
+ghost use Rattle.gather.specs.Counts.{HasFailedSince, IsToldTooLarge, Reports};
 ghost use Rattle.gather.specs.Holders.{AreLater, GivesNoMore, IsGiven, IsHanded};
 
 use crate::form::{ByteRange, Form};
@@ -22,7 +21,7 @@ use bao_text::chunk_count;
 use std::alloc::Global;
 use store_core::{Settling, StoreFault, mask_below};
 
-/// A worker's number among so many, from 0 on.
+/// A worker's number among the workers, from 0.
 #[derive(Clone, Copy, Debug)]
 pub struct Place {
     pub number: u32,
@@ -48,8 +47,8 @@ fn ask_end<S: Shelf, H: Holder>(
     ensures claims { Among (S.claims seat.old) (S.claims seat.new) }
     ensures agreed { (blob : List ℕ) (start len : ℕ) → IsFor form.now (S.fixed_of seat.old) blob → IsServed (S.fixed_of seat.old) blob → IsEndIn form.now start len
         → GivesSlice (made_of form.now H.gives) (S.fixed_of seat.old).mode blob start len holder.old
-        → HasFailed report.new ⊎ ((l : ℕ) × S.records seat.new l) }
-    ensures large { IsTrue result → IsTooLarge (IsGiven (made_of form.now H.gives) holder.old) (S.fixed_of seat.old) }
+        → HasFailedSince report.old report.new ⊎ ((l : ℕ) × S.records seat.new l) }
+    ensures large { IsTrue result → IsToldTooLarge report.new (IsGiven (made_of form.now H.gives) holder.old) (S.fixed_of seat.old) }
 {
     let part = form.end();
     report.fits();
@@ -106,7 +105,7 @@ pub(crate) fn agree<S: Shelf, H: Holder>(
     ensures of { IfSome result (λ l. IsLengthOf form.now l) }
     ensures agreed { (blob : List ℕ) (start len : ℕ) → IsFor form.now (S.fixed_of seat.old) blob → IsServed (S.fixed_of seat.old) blob → IsEndIn form.now start len
         → HasSlice (made_of form.now H.gives) (S.fixed_of seat.old).mode blob start len holders.old
-        → HasFailed report.new ⊎ IsTooLarge (IsHanded (made_of form.now H.gives) holders.old) (S.fixed_of seat.old) ⊎ IsAgreed S.records form.now result seat.new }
+        → HasFailedSince report.old report.new ⊎ IsToldTooLarge report.new (IsHanded (made_of form.now H.gives) holders.old) (S.fixed_of seat.old) ⊎ IsAgreed S.records form.now result seat.new }
 {
     report.fits();
     let mut length = shelf.length(seat);
@@ -125,9 +124,9 @@ pub(crate) fn agree<S: Shelf, H: Holder>(
 }
 
 // Asks one holder for a part of a blob, whose text comes in the place of the last one. Commits what it holds of a group's
-// chunks that are left, stores its parents, and answers the chunks that are left then.
+// chunks that are left, stores its parents, and answers the chunks that are left then. With none left it stores parents alone.
 #[tactic(auto, using(crate::proofs::Forming::made_no_more))]
-fn ask<S: Shelf, H: Holder>(
+pub(crate) fn ask<S: Shelf, H: Holder>(
     alloc: Global,
     form: &Form<'_>,
     shelf: &S,
@@ -151,7 +150,10 @@ fn ask<S: Shelf, H: Holder>(
     ensures served { (blob : List ℕ) → IsFor form.now (S.fixed_of seat.old) blob → IsServed (S.fixed_of seat.old) blob
         → GivesSlice (made_of form.now H.gives) (S.fixed_of seat.old).mode blob part.now.start (checked_len form.now part.now) holder.old
         → ((c : ℕ) → in_mask group left c ≡ true → (S.claims seat.old c ≡ true) × (holds_chunk (slice_of (S.fixed_of seat.old) blob part.now.start (checked_len form.now part.now)) c ≡ true))
-        → HasFailed report.new ⊎ ((c : ℕ) → in_mask group result c ≡ false) }
+        → HasFailedSince report.old report.new ⊎ ((c : ℕ) → in_mask group result c ≡ false) }
+    ensures stored { (blob : List ℕ) → IsFor form.now (S.fixed_of seat.old) blob → IsServed (S.fixed_of seat.old) blob → S.records seat.old (length blob)
+        → GivesSlice (made_of form.now H.gives) (S.fixed_of seat.old).mode blob part.now.start (checked_len form.now part.now) holder.old
+        → HasFailedSince report.old report.new ⊎ ((m : ℕ) → m < 65536 → holds_parent (slice_of (S.fixed_of seat.old) blob part.now.start (checked_len form.now part.now)) m ≡ true → S.has_parent seat.new m) }
 {
     report.fits();
     report.count_asked();
@@ -210,7 +212,7 @@ pub(crate) fn work_part<S: Shelf, H: Holder>(
     ensures served { (blob : List ℕ) → IsFor form.now (S.fixed_of seat.old) blob → IsServed (S.fixed_of seat.old) blob
         → HasSlice (made_of form.now H.gives) (S.fixed_of seat.old).mode blob part.now.start (checked_len form.now part.now) holders.old
         → ((c : ℕ) → IsWanted group want c → (c < chunk_count (length blob)) × (holds_chunk (slice_of (S.fixed_of seat.old) blob part.now.start (checked_len form.now part.now)) c ≡ true))
-        → HasFailed report.new ⊎ ((c : ℕ) → IsWanted group want c → S.holds seat.new c ⊎ S.busy seat.old c) }
+        → HasFailedSince report.old report.new ⊎ ((c : ℕ) → IsWanted group want c → S.holds seat.new c ⊎ S.busy seat.old c) }
 {
     report.fits();
     let granted = match shelf.take(seat, group, want) {
@@ -237,17 +239,17 @@ pub(crate) fn work_part<S: Shelf, H: Holder>(
     shelf.give(seat, group, left);
 }
 
-/// A worker's work: it sees to it that a length is recorded, and goes round all groups that the length needs once,
-/// from its own part of them on. No claim is left that it took.
+/// A worker's round: it records a length, and goes once round all groups that the length needs, from its own
+/// part of them on. No claim remains that it made.
 ///
-/// If no length is recorded, it asks its holders in order for the last chunk and settles the length that an accepted
-/// text certifies, until one is recorded; it ends where none comes, or where one is above what the store has room for.
-/// With K groups it begins at group number * K / workers. It takes a group's chunks, and asks its holders in order, each
-/// once, for those bytes, checks each text and commits from it, until none of the chunks granted is left; those that
-/// are it gives back. Once it has settled or committed from an encoding, it stores the encoding's parents, group after group,
-/// as far as the encoding claims the recorded length.
+/// If no length is recorded, it asks its holders in order for the last chunk and settles the length that an
+/// accepted slice certifies, until one is recorded. It ends if none comes, or if one is above the store's
+/// capacity. Of K groups it begins with group number * K / workers. It takes a group's chunks, asks its holders
+/// in order, each once, for those bytes, checks and commits what each supplies until none of the granted chunks
+/// is left, and gives the rest back. From an encoding that it settled or committed from, it also stores the
+/// parents, if the encoding claims the recorded length.
 ///
-/// It refuses nothing. The report goes on from what it was: what the worker stored, asked and met is added to it.
+/// It refuses nothing, and adds what it stored, asked for and met to the report.
 pub fn work<S: Shelf, H: Holder>(
     alloc: Global,
     shelf: &S,
@@ -263,23 +265,22 @@ pub fn work<S: Shelf, H: Holder>(
     ensures later { AreLater H.gives holders.old holders.new }
     ensures claims { Among (S.claims seat.old) (S.claims seat.new) }
     ensures served { (blob : List ℕ) → IsServed (S.fixed_of seat.old) blob → HaveSlices ByGroup H.gives (S.fixed_of seat.old).mode blob holders.old
-        → HasFailed report.new ⊎ IsTooLarge (IsHanded H.gives holders.old) (S.fixed_of seat.old) ⊎ IsFilled S.records S.holds S.busy seat.old seat.new blob }
+        → HasFailedSince report.old report.new ⊎ IsToldTooLarge report.new (IsHanded H.gives holders.old) (S.fixed_of seat.old) ⊎ IsFilled S.records S.holds S.busy seat.old seat.new blob }
 {
     work_as(alloc, &Form::Slices, shelf, seat, holders, place, report);
 }
 
-/// A worker's work, as [`work`] does it, with holders of this form. Holders of slices are asked as there.
+/// A worker's round as [`work`] does it, with holders of this form. Holders of slices are asked as there.
 ///
-/// Bytes of plain copies are checked beside the form's outboard encoding. With the length L that it claims, of n chunks, a
-/// holder is asked for the last chunk as (1,024 * (n - 1), L - 1,024 * (n - 1)), and for a group g as (65,536 * g,
-/// min(65,536, L - 65,536 * g)), each a first byte and a number of bytes. The worker ends as soon as it finds a recorded
-/// length other than L, at first or after asking.
+/// Bytes of plain copies are checked beside the form's outboard encoding, and what is handed over are the
+/// slices that they make with its parents. Let L be the length that it claims, and n the number of its chunks.
+/// A holder is asked for the last chunk as (1,024 * (n - 1), L - 1,024 * (n - 1)), and for group g as (65,536 *
+/// g, min(65,536, L - 65,536 * g)), each an offset and a length. The worker ends as soon as it finds a recorded
+/// length other than L, first or after asking.
 ///
-/// What the holders hand over are the slices that the outboard encoding's parents and their bytes make together.
-///
-/// Of a blob of at least one byte, of which the outboard encoding claims the length, it is enough that what one of the holders
-/// gives of the last chunk makes its slice with the outboard encoding's parents, and so of one for each group of the blob's
-/// chunks, whatever they give as other parts, as with [`run_one`](crate::run_one).
+/// It suffices that the outboard encoding claims the length of a blob of at least one byte, that one holder's
+/// bytes of the last chunk make its slice with the outboard encoding's parents, and that for each group of the
+/// blob's chunks some holder's bytes do so, whatever they supply otherwise, as for [`run_one`](crate::run_one).
 pub fn work_as<S: Shelf, H: Holder>(
     alloc: Global,
     form: &Form<'_>,
@@ -296,9 +297,9 @@ pub fn work_as<S: Shelf, H: Holder>(
     ensures later { AreLater (made_of form.now H.gives) holders.old holders.new }
     ensures claims { Among (S.claims seat.old) (S.claims seat.new) }
     ensures served { AreSlices form.now → (blob : List ℕ) → IsServed (S.fixed_of seat.old) blob → HaveSlices ByGroup (made_of form.now H.gives) (S.fixed_of seat.old).mode blob holders.old
-        → HasFailed report.new ⊎ IsTooLarge (IsHanded (made_of form.now H.gives) holders.old) (S.fixed_of seat.old) ⊎ IsFilled S.records S.holds S.busy seat.old seat.new blob }
+        → HasFailedSince report.old report.new ⊎ IsToldTooLarge report.new (IsHanded (made_of form.now H.gives) holders.old) (S.fixed_of seat.old) ⊎ IsFilled S.records S.holds S.busy seat.old seat.new blob }
     ensures parts { (blob : List ℕ) → IsFor form.now (S.fixed_of seat.old) blob → IsServed (S.fixed_of seat.old) blob → HaveParts form.now ByGroup H.gives (S.fixed_of seat.old).mode blob holders.old
-        → HasFailed report.new ⊎ IsTooLarge (IsHanded (made_of form.now H.gives) holders.old) (S.fixed_of seat.old) ⊎ IsFilled S.records S.holds S.busy seat.old seat.new blob }
+        → HasFailedSince report.old report.new ⊎ IsToldTooLarge report.new (IsHanded (made_of form.now H.gives) holders.old) (S.fixed_of seat.old) ⊎ IsFilled S.records S.holds S.busy seat.old seat.new blob }
 {
     report.fits();
     let mut room = Vec::new(alloc);

@@ -235,6 +235,31 @@ module _ (first new : SeatView) (start len : ℕ) (legal : IsLegal first.fixed f
   pub has_length : (l : ℕ) → state_new.recorded ≡ Some l → Sees first new
   has_length l some = sees_then first first new (unserved_events first start len) (sees_none first legal) looked (unserved_are (Some l) some)
 
+-- A parent is looked for by itself: where it isn't held, that is a Serve of the slice.
+none_of : (o : Option (List ℕ)) (b : Bool) → is_some o ≡ b → is_none o ≡ not b
+none_of None b is = ap not is
+none_of (Some x) b is = ap not is
+
+module _ (first new : SeatView) (start len m : ℕ) (legal : IsLegal first.fixed first.seen) (looked : Looked (node_events first (Parent m) false start len) first new) where
+  node_state : state_after new.seen ≡ state_after (first.seen ++ looked.between)
+  node_state = looked_state (node_events first (Parent m) false start len) first new (λ s. quiet_if (is_none (node_held s (Parent m))) first start len s) looked
+
+  node_events_are : (b : Bool) → is_none ((state_after new.seen).parents m) ≡ b → node_events first (Parent m) false start len (state_after (first.seen ++ looked.between))
+      ≡ (if b then event_of first (Serve start len (serving (state_after new.seen) start len)) ∷ [] else [])
+  node_events_are b is =
+      ap (λ (s : State). node_events first (Parent m) false start len s) (sym node_state)
+      ∙ ap (λ (c : Bool). if c then event_of first (Serve start len (serving (state_after new.seen) start len)) ∷ [] else []) is
+
+  pub parent_seen : is_some ((state_after new.seen).parents m) ≡ true → Sees first new
+  parent_seen some = sees_then first first new (node_events first (Parent m) false start len) (sees_none first legal) looked (node_events_are false (none_of _ true some))
+
+  pub parent_lacked : is_some ((state_after new.seen).parents m) ≡ false → (answer : Serving) × Called (Serve start len answer) first new
+  parent_lacked none = (
+    serving (state_after new.seen) start len,
+    called_then first first new (node_events first (Parent m) false start len) (sees_none first legal) looked (Serve start len (serving (state_after new.seen) start len))
+        (serve_leaves start len (serving (state_after new.seen) start len)) (node_events_are true (none_of _ false none)),
+  )
+
 -- a slice has a node
 slice_wants : (l start len : ℕ) → wants (of_slice l start len) (1024 * 0) l ≡ true
 slice_wants l start len =

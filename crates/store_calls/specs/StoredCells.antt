@@ -1,4 +1,4 @@
--- Words on the way: which of them a seat stored since a view, where nothing else of what it knows changed.
+-- Storing words: which words a seat has stored since a view, while nothing else that it knows changed.
 use Rattle.std.specs.Prelude.{◌≡◌, ℕ, ◌+◌, ◌*◌, ◌%◌, ◌<◌, true, List, length, Some, is_some}
 use Rattle.store_core.specs.declared.history.Piece.{Piece}
 use Rattle.store_core.specs.declared.view.SeatView.{SeatView}
@@ -11,18 +11,18 @@ abbrev pub Fits : Kind → List ℕ → Type 0
 Fits chunk_kind bytes = Unit {0}
 Fits parent_kind bytes = length bytes ≡ 64
 
--- the seat may store each item of the mask, and the piece has it
+-- the seat may store each item in the mask, and the slice has it
 pub record AreOwnItems (kind : Kind) (view : SeatView) (group mask : ℕ) (piece : Piece) : Type 0 where
   pub own : (n : ℕ) → in_mask group mask n ≡ true → Owns kind view n
   pub has : (n : ℕ) → in_mask group mask n ≡ true → is_some (bytes_in kind piece n) ≡ true
 
--- the item's words below `end` are stored with these bytes, and the words of other items are as they were
+-- the item's words below `end` are stored with these bytes, and the words of other items are unchanged
 pub record HasWords (kind : Kind) (item : ℕ) (bytes : List ℕ) (end : ℕ) (old new : SeatView) : Type 0 where
   pub rest : new ≡ with_words kind old (words_of kind new)
   pub words : (w : ℕ) → w < end → stored (words_of kind new) (width kind * item + w) ≡ Some (word_of kind bytes w)
   pub others : (number : ℕ) → ((w : ℕ) → w < width kind → number ≡ width kind * item + w → ⊥) → stored (words_of kind new) number ≡ stored (words_of kind old) number
 
--- of each of the mask's items whose bit is below `end` all words are stored with the piece's bytes
+-- all words of each item in the mask whose bit is below `end` are stored with the slice's bytes
 pub record HaveWords (kind : Kind) (group mask : ℕ) (piece : Piece) (end : ℕ) (old new : SeatView) : Type 0 where
   pub rest : new ≡ with_words kind old (words_of kind new)
   pub words : (n w : ℕ) (bytes : List ℕ) → in_mask group mask n ≡ true → n % 64 < end → bytes_in kind piece n ≡ Some bytes → w < width kind

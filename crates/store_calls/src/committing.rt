@@ -22,14 +22,15 @@ fn held_in(words: &Words, group: u32, piece: &Checked<'_>) -> u64
     until & !before
 }
 
-/// Stores exactly the chunks of a group that the grip claims and the piece holds, ends these claims, and answers their
-/// mask: bit j stands for chunk 64 * group + j. `claimed` is the mask of the group's chunks that the grip claims.
+/// Stores exactly those chunks of a group that the grip claims and the accepted slice has, ends these claims,
+/// and returns their mask: bit j stands for chunk 64 * group + j. `claimed` is the mask of the group's chunks
+/// that the grip claims. It doesn't allocate.
 ///
-/// It is one event of the store, also where the mask is 0: of each chunk 129 words are stored, and then one `fetch_or`
-/// on the held word shows them all. So no reader sees a part of a chunk. It takes no memory.
+/// For each chunk 129 words are stored; then one `fetch_or` on the held word, where the call linearizes even if
+/// the mask is 0, publishes them all. So no reader sees part of a chunk.
 ///
-/// For each blob with the store's root, each chunk stored is the blob's chunk of that number, counted from the store's first;
-/// or a collision is exhibited, one input of the blob's and one of the piece's.
+/// For every blob with the store's root, each chunk stored is the blob's chunk of that index, counted from the
+/// base; or the contract exhibits a collision, one input from the blob and one from the slice.
 pub fn commit(words: &Words, grip: &mut Grip, group: u32, piece: &Checked<'_>, claimed: u64) -> u64
     requires of { IsGripOf words.now grip.old }
     requires group { CoversGroup words.now group }

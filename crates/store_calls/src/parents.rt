@@ -20,18 +20,21 @@ fn parents_in(piece: &Checked<'_>, group: u32, capacity: u32) -> u64
     mask_below(group, u64::from(capacity)) & piece.parents_of(u64::from(group))
 }
 
-/// Stores parents of a group of boundaries, those that the piece holds, and answers their mask: bit j stands for boundary
-/// 64 * group + j. Left out are those that are held already or that another grip is storing just then. Of a group that
-/// isn't there none is stored. A grip with all names that there are stores all that it has not seen held. `OtherLength` where the piece claims another length than the recorded one, or none is
-/// recorded.
+/// Stores parents of a group's boundaries that the accepted slice has, and returns `Stored` with their mask:
+/// bit j stands for boundary 64 * group + j. It doesn't allocate.
 ///
-/// It is one event of the store, also where the mask is 0: of each parent 8 words are stored, and then one `fetch_or` on
-/// the held word of boundaries shows them all. So no reader sees a part of a parent. Where the length is another or the
-/// group isn't there, the load of the length is the event. The grip is storing no parents before the call, and none after
-/// it. It takes no memory.
+/// Parents that are held, or that another grip is storing at that moment, are left out; a grip with all
+/// existing names stores all that it hasn't seen held. The mask is 0 if there is no such group. Returns
+/// `OtherLength` if the slice claims another length than the recorded one, or none is recorded. The grip is
+/// storing no parents before or after the call.
 ///
-/// For each blob with the store's root, each parent that the grip has seen held is the blob's at that boundary; or
-/// a collision is exhibited, one input of the blob's and one of the piece's that this parent or the recorded length is of.
+/// For each parent 8 words are stored; then one `fetch_or` on the held word of boundaries, where the call
+/// linearizes even if the mask is 0, publishes them all. So no reader sees part of a parent. If the length
+/// differs or there is no such group, the call linearizes at the load of the length.
+///
+/// For every blob with the store's root, each parent that the grip has seen held is the blob's at that
+/// boundary; or the contract exhibits a collision, one input from the blob and one from the slice that the
+/// parent or the recorded length came from.
 pub fn commit_parents(words: &Words, grip: &mut Grip, group: u32, piece: &Checked<'_>) -> Storing
     requires of { IsGripOf words.now grip.old }
     requires piece { IsOf (fixed_of words.now) piece.now }

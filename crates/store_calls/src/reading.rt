@@ -60,17 +60,18 @@ fn read_event(words: &Words, grip: &mut Grip, at: u64, out: &mut [u8]) -> Result
     read_groups(words, grip, at, out)
 }
 
-/// Fills `out` with the bytes from position `at` on, in bytes. It takes no memory and waits for nobody.
+/// Fills `out` with the bytes from offset `at` on. It doesn't allocate or wait.
 ///
-/// `Missing(p)`: p is the least position of the range that isn't held. The bytes before it are filled in, and the rest of
-/// `out` is unchanged. A position is held if its chunk is and has more bytes than come before it there; none at or above
-/// 1,024 times the capacity is. An empty buffer is Ok.
+/// Refuses with `Missing(p)` if the range isn't all held, where p is the least offset that isn't: the bytes
+/// before p are filled in, and the rest of `out` is unchanged. An offset is held if its chunk is held and long
+/// enough; none from 1,024 times the capacity on is. An empty `out` is never refused.
 ///
-/// The read is an event of the store at its last load of a held word, and right there: what was copied before is held
-/// there too, with the same bytes. The grip claims what it claimed before, and all that it had seen it still has.
+/// The call linearizes at its last load of a held word: what was copied earlier is still held there, with the
+/// same bytes. The grip's claims are unchanged, and it has seen all that it had seen before.
 ///
-/// For each blob with the store's root, each byte filled in is the blob's byte there, counted from the store's first; or a
-/// collision is exhibited, one input of the blob's and one of a piece's that was committed.
+/// For every blob with the store's root, each byte filled in is the blob's byte at that offset, counted from
+/// the base; or the contract exhibits a collision, one input from the blob and one from a slice that was
+/// committed.
 pub fn read(words: &Words, grip: &mut Grip, at: u64, out: &mut [u8]) -> Result<(), Missing>
     requires of { IsGripOf words.now grip.old }
     ensures of { IsGripOf words.now grip.new }

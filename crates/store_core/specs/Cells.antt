@@ -9,7 +9,7 @@ abbrev pub cell_word : List ℕ → ℕ → ℕ
 cell_word bytes zero = length bytes
 cell_word bytes (suc w) = from_le_bytes w64 (take 8 (drop (8 * w) bytes))
 
--- byte k that a cell's words have, and all its bytes
+-- byte k of the words of a cell, and all of its bytes
 abbrev pub cell_byte : (ℕ → ℕ) → ℕ → ℕ
 cell_byte word k = slice_index (to_le_bytes w64 (word (k / 8 + 1))) (k % 8)
 

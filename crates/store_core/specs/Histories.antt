@@ -1,4 +1,4 @@
--- Histories: lists of events, each legal in the state that those before it leave.
+-- Histories: lists of events, each legal in the state after those before it.
 use Rattle.std.specs.Prelude.{◌≡◌, Bool, List, [], ◌∷◌, filter}
 use Rattle.store_core.specs.declared.fixed.Fixed.{Fixed}
 use Rattle.store_core.specs.declared.history.Event.{Event}
@@ -11,12 +11,12 @@ abbrev pub run : State → List Event → State
 run s [] = s
 run s (e ∷ events) = run (after s e) events
 
--- each is legal where it stands
+-- each event is legal in the state after those before it
 abbrev pub AreLegalFrom : Fixed → State → List Event → Type 0
 AreLegalFrom fixed s [] = Unit {0}
 AreLegalFrom fixed s (e ∷ events) = IsLegalIn fixed s e × AreLegalFrom fixed (after s e) events
 
--- a store begins with nothing
+-- the state after events, from the empty state
 abbrev pub state_after : List Event → State
 state_after history = run empty history
 
@@ -31,6 +31,6 @@ is_by names e = share_name names e.who
 abbrev pub events_of : List Name → List Event → List Event
 events_of names history = filter (is_by names) history
 
--- all events are of other callers
+-- all events are other callers'
 abbrev pub AreOfOthers : List Name → List Event → Type 0
 AreOfOthers names events = events_of names events ≡ []

@@ -1,4 +1,4 @@
--- The laws of histories.
+-- Lemmas about histories.
 use Rattle.std.specs.Prelude.{◌≡◌, ◌≢◌, ◌⊎◌, ℕ, ◌+◌, ◌*◌, ◌/◌, ◌%◌, ◌<◌, ◌≤◌, Bool, true, false, if◌then◌else◌, List, [], ◌++◌, length, Contains, count_by, count_ones, None, Some, slice_get, slice_index, ◌||◌}
 use Rattle.std.specs.List.{sum_by}
 use Rattle.b3tree.specs.Hashing.{hash}
@@ -47,7 +47,7 @@ question (Length recorded) = Length None
 question (Parents group piece answer) = Parents group piece OtherLength
 question (Serve at len answer) = Serve at len NoLength
 
--- whether a reply may tell of a part: other right ones to the same question may tell of another part
+-- whether a reply may be partial: other right replies to the same call may name other items
 abbrev pub is_partial : Call → Bool
 is_partial (Take group want granted) = false
 is_partial (Give group mask given) = false
@@ -58,13 +58,13 @@ is_partial (Length recorded) = false
 is_partial (Parents group piece answer) = true
 is_partial (Serve at len answer) = false
 
--- The state after a history determines every reply but which parents are stored: two right replies to one question of
--- one caller are one.
+-- The state after a history determines every reply, except which parents are stored: two right replies to the
+-- same call of the same caller are equal.
 abbrev pub StateDetermines : Type 0
 StateDetermines = (fixed : Fixed) (s : State) (who : List Name) (one other : Call) → IsRightReply fixed s who one → IsRightReply fixed s who other
     → is_partial one ≡ false → question one ≡ question other → one ≡ other
 
--- What is held stays, and so does a recorded length.
+-- Held chunks stay, with the same bytes, and so does a recorded length.
 abbrev pub HeldLasts : Type 0
 HeldLasts = (fixed : Fixed) (history more : List Event) (c : ℕ) (bytes : List ℕ) → IsLegal fixed (history ++ more)
     → (state_after history).held c ≡ Some bytes → (state_after (history ++ more)).held c ≡ Some bytes
@@ -73,13 +73,13 @@ abbrev pub RecordLasts : Type 0
 RecordLasts = (fixed : Fixed) (history more : List Event) (l : ℕ) → IsLegal fixed (history ++ more)
     → (state_after history).recorded ≡ Some l → (state_after (history ++ more)).recorded ≡ Some l
 
--- And so does a parent that is held.
+-- Held parents stay, with the same bytes.
 abbrev pub ParentLasts : Type 0
 ParentLasts = (fixed : Fixed) (history more : List Event) (m : ℕ) (bytes : List ℕ) → IsLegal fixed (history ++ more)
     → (state_after history).parents m ≡ Some bytes → (state_after (history ++ more)).parents m ≡ Some bytes
 
--- Claims are apart: no chunk is claimed by two callers without a common name, none is both claimed and held, and
--- all that are lie below the capacity. A caller's claims stay as long as others alone call.
+-- No chunk is claimed by two callers without a common name, or is both claimed and held, and all claimed or
+-- held chunks are below the capacity. A caller's claims last while only others call.
 abbrev pub ClaimsApart : Type 0
 ClaimsApart = (s : State) (ours theirs : List Name) (c : ℕ) → share_name ours theirs ≡ false → claims theirs s c ≡ true → claims ours s c ≡ false
 
@@ -106,7 +106,7 @@ commits c (Length recorded) = false
 commits c (Parents group piece answer) = false
 commits c (Serve at len answer) = false
 
--- Each chunk that is held stands in exactly one Commit of the history, and no other does in any.
+-- Each held chunk is in exactly one Commit of the history, and no other chunk is in any.
 abbrev pub CommittedOnce : Type 0
 CommittedOnce = (fixed : Fixed) (history : List Event) (c : ℕ) → IsLegal fixed history
     → count_by (λ e. commits c e.call) history ≡ (if is_held (state_after history) c then 1 else 0)
@@ -122,12 +122,12 @@ chunks_of (Length recorded) = 0
 chunks_of (Parents group piece answer) = 0
 chunks_of (Serve at len answer) = 0
 
--- The chunks of a history's Commits add up to those that are held.
+-- The numbers of chunks in a history's Commits add up to the number of chunks held.
 abbrev pub CommittedAddUp : Type 0
 CommittedAddUp = (fixed : Fixed) (history : List Event) → IsLegal fixed history
     → sum_by (λ e. chunks_of e.call) history ≡ held_count (state_after history) fixed.capacity
 
--- The bytes are chunk c of an accepted piece that a history committed.
+-- The bytes are chunk c of an accepted slice that the history committed.
 pub record IsCommitted (fixed : Fixed) (history : List Event) (c : ℕ) (bytes : List ℕ) : Type 0 where
   pub who : List Name
   pub group : ℕ
@@ -138,7 +138,7 @@ pub record IsCommitted (fixed : Fixed) (history : List Event) (c : ℕ) (bytes :
   pub stored : in_mask group mask c ≡ true
   pub has : chunk_bytes piece c ≡ Some bytes
 
--- The length is that of an accepted piece by which a history settled it.
+-- The length is that of an accepted slice by which the history settled it.
 pub record IsSettled (fixed : Fixed) (history : List Event) (l : ℕ) : Type 0 where
   pub who : List Name
   pub piece : Piece
@@ -156,8 +156,8 @@ abbrev pub RecordIsSettled : Type 0
 RecordIsSettled = (fixed : Fixed) (history : List Event) (l : ℕ) → IsLegal fixed history → (state_after history).recorded ≡ Some l
     → IsSettled fixed history l
 
--- The bytes are the parent at boundary m of an accepted piece that a history stored, and the piece claims the length
--- that is recorded.
+-- The bytes are the parent at boundary m of an accepted slice from which the history stored it, and the slice
+-- claims the recorded length.
 pub record IsStored (fixed : Fixed) (history : List Event) (m : ℕ) (bytes : List ℕ) : Type 0 where
   pub who : List Name
   pub group : ℕ
@@ -173,60 +173,58 @@ abbrev pub ParentIsStored : Type 0
 ParentIsStored = (fixed : Fixed) (history : List Event) (m : ℕ) (bytes : List ℕ) → IsLegal fixed history
     → (state_after history).parents m ≡ Some bytes → IsStored fixed history m bytes
 
--- the bytes have the store's root as their hash
+-- the hash of the bytes is the store's root
 pub record IsBlob (fixed : Fixed) (blob : List ℕ) : Type 0 where
   pub bytes : AreBytes blob
   pub root : hash fixed.mode blob ≡ fixed.root.0
 
--- a collision is exhibited, one input of the blob's and one of the piece's
+-- the blob and the accepted slice have a collision: one input from each
 abbrev pub CollidesWith : Fixed → List ℕ → Piece → Type 0
 CollidesWith fixed blob piece = NamesCollision fixed.mode blob piece.text (places_in piece)
 
--- For each blob with the root: a chunk that is held is the blob's chunk of that number, counted from the store's first, a byte
--- that is held is the blob's byte there, and a recorded length is the blob's; or a collision is exhibited from that blob and from the committed
--- or settled piece that it comes from.
+-- For every blob with the root, each held chunk is the blob's chunk of that index, each held byte is the blob's
+-- byte at that offset (both counted from the store's first chunk), and a recorded length is the blob's; or a
+-- collision is exhibited between the blob and the slice from which the history committed the chunk, or by which
+-- it settled the length.
 abbrev pub HeldBinds : Type 0
 HeldBinds = (fixed : Fixed) (history : List Event) (blob : List ℕ) (c : ℕ) (bytes : List ℕ) → IsKeyed fixed.mode → IsBlob fixed blob
     → IsLegal fixed history → (state_after history).held c ≡ Some bytes
     → (chunk_of blob (fixed.base + c) ≡ Some bytes) ⊎ ((from : IsCommitted fixed history c bytes) × CollidesWith fixed blob from.piece)
 
--- The piece is one that a history used: a chunk of it was committed, or a parent of it stored, that is among these nodes;
--- or the recorded length was settled by it.
+-- The history used the slice: it committed a chunk or stored a parent from it that is among these nodes, or
+-- settled the recorded length by it.
 pub data IsUsed (fixed : Fixed) (history : List Event) (Among : Node → Type 0) (piece : Piece) : Type 0 where
   of_chunk : (c : ℕ) (bytes : List ℕ) (from : IsCommitted fixed history c bytes) → Among (Chunk c) → from.piece ≡ piece → IsUsed fixed history Among piece
   of_length : (l : ℕ) (from : IsSettled fixed history l) → (state_after history).recorded ≡ Some l → from.piece ≡ piece → IsUsed fixed history Among piece
   of_parent : (m : ℕ) (bytes : List ℕ) (from : IsStored fixed history m bytes) → Among (Parent m) → from.piece ≡ piece → IsUsed fixed history Among piece
 
--- A collision is exhibited from the blob and such a piece.
+-- The blob has a collision with a slice that the history used for these nodes.
 pub record CollisionOf (fixed : Fixed) (history : List Event) (blob : List ℕ) (Among : Node → Type 0) : Type 0 where
   pub piece : Piece
   pub used : IsUsed fixed history Among piece
   pub pair : CollidesWith fixed blob piece
 
--- whatever chunks and parents it was used for
-abbrev pub CollisionFrom : Fixed → List Event → List ℕ → Type 0
-CollisionFrom fixed history blob = CollisionOf fixed history blob (λ node. Unit {0})
-
--- For each blob with the root: a parent that is held is the blob's at that boundary, or a collision is exhibited from the
--- piece that this parent or the recorded length is of.
+-- For every blob with the root, each held parent is the blob's at that boundary; or a collision is exhibited
+-- between the blob and the slice from which the parent or the recorded length came.
 abbrev pub ParentHeldBinds : Type 0
 ParentHeldBinds = (fixed : Fixed) (history : List Event) (blob : List ℕ) (m : ℕ) (bytes : List ℕ) → IsKeyed fixed.mode → IsBlob fixed blob
     → IsLegal fixed history → (state_after history).parents m ≡ Some bytes
     → (parent_of fixed.mode blob m ≡ Some bytes) ⊎ CollisionOf fixed history blob (λ node. node ≡ Parent m)
 
--- the node is one of the slice (start, len) of a blob of the recorded length
+-- the node belongs to the slice (start, len) of a blob of the recorded length
 abbrev pub IsServed : State → ℕ → ℕ → Node → Type 0
 IsServed s start len node = (l : ℕ) × ((s.recorded ≡ Some l) × Contains (slice_names l start len) node)
 
--- For each blob with the root: an encoding that is served is the blob's slice, or a collision is exhibited from a piece
--- that one of its nodes or the recorded length is of.
+-- For every blob with the root, a served encoding is the blob's slice; or a collision is exhibited between the
+-- blob and a slice from which one of its nodes or the recorded length came.
 abbrev pub ServedBinds : Type 0
 ServedBinds = (fixed : Fixed) (history : List Event) (blob : List ℕ) (start len : ℕ) (text : List ℕ) → IsKeyed fixed.mode → IsBlob fixed blob
     → IsLegal fixed history → serving (state_after history) start len ≡ Text text
     → (text ≡ slice_text fixed.mode blob start len) ⊎ CollisionOf fixed history blob (IsServed (state_after history) start len)
 
--- A history stored a parent at boundary m, and another piece has a different one there with the same chaining value: a
--- collision is exhibited, one input of the piece that the parent was stored of and one of the other's.
+-- The history stored a parent at boundary m, and another slice has a different one there with the same chaining
+-- value. This is a collision: one input is from the slice that the parent came from, the other from the other
+-- slice.
 pub record CollidesAt (fixed : Fixed) (history : List Event) (m : ℕ) (other : Piece) : Type 0 where
   pub bytes : List ℕ
   pub from : IsStored fixed history m bytes
@@ -236,21 +234,21 @@ pub record CollidesAt (fixed : Fixed) (history : List Event) (m : ℕ) (other : 
   pub pair : Names (text_inputs fixed.mode from.piece.text (places_in from.piece)) (text_inputs fixed.mode other.text (places_in other))
       (marked top (parent_input fixed.mode (part_value left bytes) (part_value right bytes))) (marked top (parent_input fixed.mode (part_value left its) (part_value right its)))
 
--- Two pieces that a history used for these nodes clash: a chunk among them was committed of a piece that claims another
--- length than the one by which the length was settled; or the piece that a parent among them was stored of, and another
--- that the history used for them, collide at this parent.
+-- Two slices that the history used for these nodes contradict each other: a chunk among them was committed from
+-- a slice that claims another length than the one that settled the length; or the slice from which a parent
+-- among them was stored, and another that the history used for them, have a collision at this parent.
 pub data PiecesClash (fixed : Fixed) (history : List Event) (Among : Node → Type 0) : Type 0 where
   of_lengths : (c l : ℕ) (bytes : List ℕ) (from : IsCommitted fixed history c bytes) (settled : IsSettled fixed history l) → Among (Chunk c)
       → (state_after history).recorded ≡ Some l → (length_of from.piece ≢ length_of settled.piece) → PiecesClash fixed history Among
   of_parents : (m : ℕ) (other : Piece) → Among (Parent m) → IsUsed fixed history Among other → CollidesAt fixed history m other → PiecesClash fixed history Among
 
--- An encoding that is served is accepted as that slice under the root, be it a blob's hash or not; or two pieces that its
--- nodes or the recorded length are of clash.
+-- A served encoding is accepted as that slice under the root, a blob's hash or not; or two slices from which
+-- its nodes or the recorded length came contradict each other.
 abbrev pub ServedAccepted : Type 0
 ServedAccepted = (fixed : Fixed) (history : List Event) (start len : ℕ) (text : List ℕ) → IsLegal fixed history → serving (state_after history) start len ≡ Text text
     → IsAccepted fixed.mode fixed.root.0 text (slice_nodes text start len) ⊎ PiecesClash fixed history (IsServed (state_after history) start len)
 
--- x is the byte at position q of a chunk that a history committed
+-- x is the byte at offset q of a chunk that the history committed
 pub record ByteFrom (fixed : Fixed) (history : List Event) (q x : ℕ) : Type 0 where
   pub bytes : List ℕ
   pub chunk : IsCommitted fixed history (q / 1024) bytes
@@ -266,8 +264,8 @@ RecordBinds = (fixed : Fixed) (history : List Event) (blob : List ℕ) (l : ℕ)
     → IsLegal fixed history → (state_after history).recorded ≡ Some l
     → (l ≡ length blob) ⊎ ((from : IsSettled fixed history l) × CollidesWith fixed blob from.piece)
 
--- The bytes are those from position `at` on, as far as they are held: all `len` of them, or those before the least
--- position of the range that isn't held.
+-- The bytes are those from offset `at` on, as far as they are held: all `len` of them, or those before the
+-- least offset of the range that isn't held.
 pub record IsRead (s : State) (at len : ℕ) (bytes : List ℕ) : Type 0 where
   pub within : length bytes ≤ len
   pub held : (i : ℕ) → i < length bytes → byte_at s (at + i) ≡ Some (slice_index bytes i)
@@ -277,8 +275,8 @@ abbrev pub ReadMeans : Type 0
 ReadMeans = (s : State) (at len : ℕ) (bytes : List ℕ) → (bytes ≡ read_bytes s at len → IsRead s at len bytes)
     × (IsRead s at len bytes → bytes ≡ read_bytes s at len)
 
--- A split leaves the first seat's names, so its calls and claims. A joined seat has the names of both, each seat's own
--- calls are the same in what it has seen, and it claims what either claimed.
+-- A split leaves the first seat's names, and so its calls and claims. A joined seat has the names of both, each
+-- seat's own calls are unchanged in the history that it has seen, and it claims what either claimed.
 abbrev pub SplitKeeps : Type 0
 SplitKeeps = (view : SeatView) → names_of (split_first view) ≡ names_of view
 
@@ -288,8 +286,8 @@ JoinKeeps = (first second joined : SeatView) → IsJoined first second joined
     × (events_of (names_of first) joined.seen ≡ mine first) × (events_of (names_of second) joined.seen ≡ mine second)
     × (IsLegal joined.fixed joined.seen → (c : ℕ) → seat_claims joined c ≡ (seat_claims first c || seat_claims second c))
 
--- A run of the machine of schedules, with pieces whose encodings are of bytes, is a legal history of the store, and the
--- words stand for the state after it.
+-- A run of the schedules' machine over slices whose encodings consist of bytes is a legal history of the store,
+-- and the words represent the state after it.
 abbrev pub RunsAreLegal : Type 0
 RunsAreLegal = (fixed : Fixed) (pieces : List Checked) (steps : List MicroStep) (replies : List Reply) (history : List Event) (last : Machine)
     → AreTexts pieces → Runs fixed pieces start steps replies history last → IsLegal fixed history × (state_after history ≡ store_of last)

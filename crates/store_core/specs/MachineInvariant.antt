@@ -1,4 +1,4 @@
--- What the machine of schedules keeps.
+-- The invariant of the schedules' machine.
 use Rattle.std.specs.Prelude.{◌≡◌, ℕ, ◌+◌, ◌<◌, ◌≤◌, true, false, length, slice_index, Some}
 use Rattle.store_core.specs.declared.fixed.Fixed.{Fixed}
 use Rattle.store_core.specs.declared.history.Piece.{Piece}
@@ -8,13 +8,13 @@ use Rattle.store_core.specs.Machine.{Machine, ReadUnderWay, current_bytes, is_sh
 use Rattle.store_core.specs.Pieces.{IsAcceptedPiece}
 use Rattle.store_core.specs.States.{State, byte_at}
 
--- the bytes that are copied of a read are those of its positions
+-- the bytes copied for a read are those at its offsets
 pub record IsReadSoFar (s : State) (r : ReadUnderWay) : Type 0 where
   pub within : length r.bytes ≤ r.len
   pub held : (i : ℕ) → i < length r.bytes → byte_at s (r.at + i) ≡ Some (slice_index r.bytes i)
 
--- A word that counts as written is that of the seat's current piece, as long as the seat claims the chunk; it claims
--- it until the chunk is shown. Current pieces are accepted.
+-- A word that counts as written has the value of the seat's current slice while the seat claims the chunk,
+-- which it does until the chunk is held. Current slices are accepted.
 pub record IsKept (fixed : Fixed) (m : Machine) : Type 0 where
   pub known : (n c w : ℕ) → (m.seat n).written c w ≡ true → is_shown m c ≡ false → seat_has m n c ≡ true
   pub cells : (n c w : ℕ) → (m.seat n).written c w ≡ true → seat_has m n c ≡ true → m.cell c w ≡ cell_word (current_bytes (m.seat n).piece c) w

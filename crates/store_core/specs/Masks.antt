@@ -11,7 +11,7 @@ has_bit mask j = bit_at mask j == 1
 abbrev pub in_mask : ℕ → ℕ → ℕ → Bool
 in_mask group mask c = (c / 64 == group) && has_bit mask (c % 64)
 
--- the mask is of exactly those chunks of the group that pass the test
+-- the mask has exactly those chunks of the group that pass the test
 pub record IsMaskOf (group mask : ℕ) (test : ℕ → Bool) : Type 0 where
   pub small : mask < 2 ^ 64
   pub bits : (c : ℕ) → c / 64 ≡ group → has_bit mask (c % 64) ≡ test c

@@ -1,4 +1,4 @@
--- The names of a seat stand in dictionary order, each once, and so its least name stands first.
+-- A seat's names are in dictionary order without duplicates, so its least name comes first.
 use Rattle.std.specs.Prelude.{◌≡◌, ◌↔◌, true, false, List, [], ◌∷◌, Some}
 use Rattle.store_core.specs.declared.view.SeatView.{SeatView}
 use Rattle.store_core.specs.Names.{Name, has_name, least_name, name_le, same_name, share_name}
@@ -13,7 +13,7 @@ abbrev pub AreInOrder : List Name → Type 0
 AreInOrder [] = Unit {0}
 AreInOrder (name ∷ names) = ComesBefore name names × AreInOrder names
 
--- They do so after a split, and after a join of two seats that have no name in common.
+-- The names stay in order after a split, and after a join of two seats without a common name.
 abbrev pub SplitKeepsOrder : Type 0
 SplitKeepsOrder = (view : SeatView) → AreInOrder (names_of view) → AreInOrder (names_of (split_first view)) × AreInOrder (names_of (split_second view))
 
@@ -21,12 +21,12 @@ abbrev pub JoinKeepsOrder : Type 0
 JoinKeepsOrder = (first second joined : SeatView) → IsJoined first second joined → share_name (names_of first) (names_of second) ≡ false
     → AreInOrder (names_of first) → AreInOrder (names_of second) → AreInOrder (names_of joined)
 
--- a name is the least of a set: it is one of it, and comes before each of it or is it
+-- a name is the least of a set: it is in it, and comes before or equals each name of it
 pub record IsLeast (names : List Name) (name : Name) : Type 0 where
   pub among : has_name names name ≡ true
   pub least : (other : Name) → has_name names other ≡ true → name_le name other ≡ true
 
--- Of names in order that which stands first is the least, and no other is.
+-- Among names in order the first is the least, and no other is.
 abbrev pub LeastIsOne : Type 0
 LeastIsOne = (names : List Name) (name : Name) → AreInOrder names → (least_name names ≡ Some name) ↔ IsLeast names name
 

@@ -5,7 +5,7 @@ use Rattle.store_core.specs.declared.history.Event.{Event}
 use Rattle.store_core.specs.Histories.{IsLegal, state_after}
 use Rattle.store_core.specs.States.{State}
 
--- a legal history leaves the state
+-- some legal history leads to the state
 pub record IsReached (fixed : Fixed) (s : State) : Type 0 where
   pub history : List Event
   pub legal : IsLegal fixed history

@@ -1,4 +1,4 @@
--- What the replay of a schedule answers.
+-- The result of replaying a schedule.
 use Rattle.std.specs.Prelude.{◌≡◌, ◌⊎◌, ℕ, ◌+◌, List, Some, length, slice_get, take}
 use Rattle.bao_check.specs.declared.checked.Checked.{Checked}
 use Rattle.bao_check.specs.Pieces.{chunk_of}
@@ -17,8 +17,8 @@ use Rattle.store_core.specs.Schedules.{IsLegalStep, Runs}
 use Rattle.store_core.specs.ScheduleRuns.{HasRun}
 use Rattle.store_core.specs.Stores.{fixed_of, state_of}
 
--- Each step was legal where it stood, and these are their replies. The store stands for what the words do at the end,
--- and that is the state after the legal history of the steps' events.
+-- Each step was legal in its turn, and these are their replies. The store represents what the words do at the
+-- end, which is the state after the legal history of the steps' events.
 pub record IsReplayed (fixed : Fixed) (pieces : List Checked) (steps : List MicroStep) (replies : List Reply) (store : Store) : Type 0 where
   pub history : List Event
   pub last : Machine
@@ -28,7 +28,7 @@ pub record IsReplayed (fixed : Fixed) (pieces : List Checked) (steps : List Micr
   pub legal : IsLegal fixed history
   pub events : state_of store ≡ state_after history
 
--- from this machine the steps before it ran, and the one with this index isn't legal where it stands
+-- from this machine the steps before this index ran, and the step with this index isn't legal in its turn
 pub record IsIllegalFrom (fixed : Fixed) (pieces : List Checked) (m : Machine) (steps : List MicroStep) (index : ℕ) : Type 0 where
   pub replies : List Reply
   pub history : List Event
@@ -47,34 +47,34 @@ pub record BeginsLegally (fixed : Fixed) (pieces : List Checked) (steps : List M
   pub is : slice_get steps 0 ≡ Some step
   pub legal : IsLegalStep fixed pieces start step
 
--- the piece is one of the list
+-- the slice is in the list
 pub record IsListed (fixed : Fixed) (pieces : List Checked) (piece : Piece) : Type 0 where
   pub index : ℕ
   pub checked : Checked
   pub there : slice_get pieces index ≡ Some checked
   pub is : piece ≡ piece_of fixed.base checked
 
--- A collision is exhibited from a blob and the piece of which a run committed chunk c with these bytes, one of the list.
+-- A blob has a collision with the slice of the list from which a run committed chunk c with these bytes.
 pub record CollisionOfChunk (fixed : Fixed) (pieces : List Checked) (history : List Event) (blob : List ℕ) (c : ℕ) (bytes : List ℕ) : Type 0 where
   pub committed : IsCommitted fixed history c bytes
   pub listed : IsListed fixed pieces committed.piece
   pub pair : CollidesWith fixed blob committed.piece
 
--- or from the one by which it settled the length
+-- a blob has a collision with the slice of the list by which a run settled the length
 pub record CollisionOfLength (fixed : Fixed) (pieces : List Checked) (history : List Event) (blob : List ℕ) (l : ℕ) : Type 0 where
   pub settled : IsSettled fixed history l
   pub listed : IsListed fixed pieces settled.piece
   pub pair : CollidesWith fixed blob settled.piece
 
--- For each blob with the store's root and each run of the steps: a chunk that the store holds is the blob's chunk of that
--- number, and a recorded length is the blob's; or a collision is exhibited from the blob and a piece of the list, the one of which
--- this run committed the chunk, or by which it settled the length.
+-- For every blob with the store's root, and every run of the steps: each held chunk is the blob's chunk of that
+-- index, and a recorded length is the blob's; or a collision is exhibited between the blob and the slice of the
+-- list from which this run committed the chunk, or by which it settled the length.
 abbrev pub ReplayBinds : Fixed → List Checked → List MicroStep → List Reply → Store → Type 0
 ReplayBinds fixed pieces steps replies store = (blob : List ℕ) → IsBlob fixed blob → (by : IsReplayed fixed pieces steps replies store)
     → ((c : ℕ) (bytes : List ℕ) → (state_of store).held c ≡ Some bytes → (chunk_of blob (fixed.base + c) ≡ Some bytes) ⊎ CollisionOfChunk fixed pieces by.history blob c bytes)
     × ((l : ℕ) → (state_of store).recorded ≡ Some l → (l ≡ length blob) ⊎ CollisionOfLength fixed pieces by.history blob l)
 
--- the store is that of a replay of the steps that the run took, which ends at the machine that the run stands for
+-- the store is the result of replaying the run's steps, and the run represents the machine at their end
 abbrev pub LeavesStore : ScheduleRun → Store → Type 0
 LeavesStore run store = (fixed : Fixed) (pieces : List Checked) (steps : List MicroStep) (replies : List Reply) (history : List Event) (m : Machine)
     → HasRun fixed pieces steps replies history m run → (by : IsReplayed fixed pieces steps replies store) × (by.last ≡ m)

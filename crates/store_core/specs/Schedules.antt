@@ -1,4 +1,4 @@
--- The steps of schedules: where each is legal, what it answers, what it changes, and which event of the store it is.
+-- The steps of schedules: when each is legal, its reply, its effect, and its event in the store's history.
 use Rattle.std.specs.Prelude.{◌≡◌, ℕ, ◌/◌, ◌%◌, ◌<◌, ◌≤◌, nat_lt, ◌==◌, Bool, true, false, not, ◌&&◌, ◌||◌, if◌then◌else◌, List, [], ◌∷◌, ◌++◌, Option, None, Some, is_some, option_map, option_to_list, bit_or, slice_get, IfSome}
 use Rattle.b3tree.specs.Valid.{AreBytes}
 use Rattle.bao_check.specs.declared.checked.Checked.{Checked}
@@ -20,24 +20,24 @@ use Rattle.store_core.specs.Machine.{Machine, ReadUnderWay, current_bytes, curre
 use Rattle.store_core.specs.Masks.{IsMaskOf, has_bit, in_mask}
 use Rattle.store_core.specs.Pieces.{EndsBlob, length_of, piece_of}
 
--- the list has a piece with this number, of the store's root and mode
+-- the list has a slice with this index, of the store's root and mode
 pub record HasPiece (fixed : Fixed) (pieces : List Checked) (i : ℕ) : Type 0 where
   pub piece : Checked
   pub is : slice_get pieces i ≡ Some piece
   pub root : piece.root.0 ≡ fixed.root.0
   pub mode : piece.mode ≡ fixed.mode
 
--- of each chunk of the group that the seat claims and its current piece holds, all words were written
+-- all words were written of each chunk of the group that the seat claims and its current slice has
 abbrev pub IsWritten : Machine → ℕ → ℕ → Type 0
 IsWritten m n group = (c w : ℕ) → c / 64 ≡ group → seat_has m n c ≡ true → current_holds (m.seat n).piece c ≡ true
     → w < 129 → (m.seat n).written c w ≡ true
 
--- the current piece has a tail
+-- the current slice has the last chunk of its length
 abbrev pub HasTail : Option Piece → Type 0
 HasTail None = ⊥
 HasTail (Some piece) = EndsBlob piece
 
--- where a step is legal
+-- the step is legal
 abbrev pub IsLegalStep : Fixed → List Checked → Machine → MicroStep → Type 0
 IsLegalStep fixed pieces m (Claim n group want) = group < groups fixed
 IsLegalStep fixed pieces m (Hash n i) = HasPiece fixed pieces i
@@ -59,11 +59,11 @@ read_after fixed m n at len = loaded fixed m (read_before m n at len)
 abbrev pub is_last_load : Fixed → Machine → ℕ → ℕ → ℕ → Bool
 is_last_load fixed m n at len = is_over fixed m (loaded_group fixed (read_before m n at len)) (read_after fixed m n at len)
 
--- what a read answers at its end: all bytes, or the position that isn't held
+-- the reply of a read at its end: all bytes, or the offset that isn't held
 abbrev pub end_reply : ReadUnderWay → Reply
 end_reply r = if is_whole r then Bytes r.bytes else NotHeld (position r)
 
--- what a length meets that the current piece settles
+-- the result of settling the current slice's length
 abbrev pub length_answer : Fixed → Option ℕ → ℕ → Answer
 length_answer fixed recorded l = if has_room fixed l then settling recorded l else TooLarge
 
@@ -74,7 +74,7 @@ current_length (Some piece) = length_of piece
 abbrev pub settle_answer : Fixed → Machine → ℕ → Answer
 settle_answer fixed m n = length_answer fixed m.recorded (current_length (m.seat n).piece)
 
--- what a step answers, if it does
+-- the reply of a step, if it has one
 abbrev pub IsReply : Fixed → Machine → MicroStep → Option Reply → Type 0
 IsReply fixed m (Claim n group want) reply = (mask : ℕ) × (reply ≡ Some (Granted mask))
     × IsMaskOf group mask (λ c. has_bit want (c % 64) && (nat_lt c fixed.capacity && not (is_shown m c || is_some (m.claim c))))
@@ -121,8 +121,8 @@ after_step fixed pieces m (Settle n) reply =
     record m { recorded = recorded_after (settle_answer fixed m n) (current_length (m.seat n).piece) m.recorded }
 after_step fixed pieces m (Length n) reply = m
 
--- The event that a step is: none while a read goes on, where a settled length is too large, and of the steps that
--- answer nothing. What isn't read isn't in it.
+-- The event of a step. There is none while a read continues, if a settled length is too large, or for steps
+-- without a reply. The event has only what was read.
 abbrev pub event_by : ℕ → Call → List Event
 event_by n call = record { who = (n ∷ []) ∷ []; call = call } ∷ []
 
@@ -146,7 +146,7 @@ step_events fixed m (Load n at len) reply =
 step_events fixed m (Settle n) reply = settle_by n (m.seat n).piece (settle_answer fixed m n)
 step_events fixed m (Length n) reply = event_by n (LengthCall m.recorded)
 
--- The steps are legal one after another, answer these replies, are these events, and leave this machine.
+-- The steps are legal one after another, have these replies and events, and lead to this machine.
 abbrev pub Runs : Fixed → List Checked → Machine → List MicroStep → List Reply → List Event → Machine → Type 0
 Runs fixed pieces m [] replies history last = (replies ≡ []) × (history ≡ []) × (last ≡ m)
 Runs fixed pieces m (step ∷ steps) replies history last =
@@ -155,11 +155,11 @@ Runs fixed pieces m (step ∷ steps) replies history last =
     × (replies ≡ option_to_list reply ++ later) × (history ≡ step_events fixed m step reply ++ rest)
     × Runs fixed pieces (after_step fixed pieces m step reply) steps later rest last
 
--- the texts are of bytes
+-- the slices' encodings consist of bytes
 abbrev pub AreTexts : List Checked → Type 0
 AreTexts pieces = (i : ℕ) (piece : Checked) → slice_get pieces i ≡ Some piece → AreBytes (piece_text piece)
 
--- the piece that a step takes has a text of bytes
+-- the slice that a step uses has an encoding that consists of bytes
 abbrev pub TakesBytes : List Checked → MicroStep → Type 0
 TakesBytes pieces (Hash n i) = (piece : Checked) → slice_get pieces i ≡ Some piece → AreBytes (piece_text piece)
 TakesBytes pieces step = Unit {0}

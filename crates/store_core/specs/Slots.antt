@@ -1,4 +1,4 @@
--- Places of chunks, and the state that a list of them stands for. A chunk past the list's end is free.
+-- The slots of chunks, and the state that a list of slots represents. A chunk past the end of the list is free.
 use Rattle.std.specs.Prelude.{◌≡◌, ◌+◌, ◌*◌, ◌<◌, length, ℕ, ◌==◌, Bool, true, false, ◌&&◌, List, [], ◌∷◌, Option, None, Some, slice_index_or, ◌/◌, ◌%◌, option_and_then, slice_get}
 use Rattle.bao_check.specs.declared.checked.Checked.{Checked}
 use Rattle.store_core.specs.declared.slot.Pick.{Pick}
@@ -38,7 +38,7 @@ parent_among parents m = slice_index_or parents m None
 abbrev pub with_parents : State → List (Option (List ℕ)) → State
 with_parents s parents = record s { parents = parent_among parents }
 
--- the byte at position q
+-- the byte at offset q
 abbrev pub slot_byte : List Slot → ℕ → Option ℕ
 slot_byte slots q = option_and_then (λ bytes. slice_get bytes (q % 1024)) (held_in (slot_at slots (q / 1024)))
 
@@ -59,18 +59,18 @@ picks kinds.Free c slot = is_free_slot slot
 picks (kinds.Claimed seat) c slot = is_of seat slot
 picks (kinds.InPiece seat base piece) c slot = is_of seat slot && holds_chunk (piece_of base piece) c
 
--- the place of a chunk that this seat claims, or none
+-- the slot of a chunk that the seat claims, or a free one
 abbrev pub claimed_slot : Option ℕ → Slot
 claimed_slot None = Free
 claimed_slot (Some seat) = Claimed seat
 
--- the slot is that of chunk c of a store whose first chunk is chunk `base` of the blob: with its bytes where the piece holds
--- it, and free otherwise
+-- The slot is that of chunk c of a store with this base: held with the slice's bytes if the slice has the
+-- chunk, and free otherwise.
 pub record IsSlotCopy (base : ℕ) (piece : Checked) (c : ℕ) (slot : Slot) : Type 0 where
   pub bytes : held_in slot ≡ chunk_bytes (piece_of base piece) c
   pub unclaimed : claim_in slot ≡ None
 
--- there are n slots, and those of the mask's bits are of the group's chunks
+-- there are n slots, and those in the mask have the slice's chunks of the group
 pub record AreCopies (base : ℕ) (piece : Checked) (group mask n : ℕ) (ready : List Slot) : Type 0 where
   pub count : length ready ≡ n
   pub each : (j : ℕ) → j < n → has_bit mask j ≡ true → IsSlotCopy base piece (64 * group + j) (slot_at ready j)

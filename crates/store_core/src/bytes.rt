@@ -23,7 +23,7 @@ pub(crate) fn bytes_from(slots: &[Slot], p: u64) -> &[u8]
     }
 }
 
-/// Writes the bytes into the buffer from index `from` on.
+/// Copies `bytes` into `out` from index `from` on.
 #[inline(always)]
 pub fn put_bytes(out: &mut [u8], from: usize, bytes: &[u8])
     requires { from + length bytes.now ≤ length out.old }

@@ -4,14 +4,13 @@ use bao_text::Node;
 use std::alloc::AllocError;
 use thiserror::Error;
 
-/// A store has room for 1 to 65,536 chunks, from one of the blob's on whose number is at most 2^54, and another was asked for.
-/// Number 802.
+/// The capacity isn't 1 to 65,536 chunks, or the base is above chunk 2^54. Number 802.
 #[derive(Clone, Copy, Debug, PartialEq, Eq, Error)]
 #[error("802 capacity")]
 pub struct BadCapacity;
 
 impl BadCapacity {
-    /// The fault's number: 802.
+    /// Returns the number of the fault: 802.
     pub fn code(&self) -> u16
         ensures { result ≡ 802 }
     {
@@ -19,7 +18,7 @@ impl BadCapacity {
     }
 }
 
-/// Why a store did not take or commit chunks, or parents. It is unchanged.
+/// Why a store did not claim or commit chunks, or store parents. It is unchanged.
 #[derive(Clone, Copy, Debug, PartialEq, Eq, Error)]
 pub enum StoreFault {
     /// Out of memory. Number 701.
@@ -28,10 +27,10 @@ pub enum StoreFault {
     /// The store has no such group. Number 803.
     #[error("803 no group")]
     NoGroup,
-    /// The piece is of another root or mode. Number 804.
+    /// The accepted slice has another root or mode. Number 804.
     #[error("804 other root")]
     OtherRoot,
-    /// The recorded length isn't the one that the piece claims, or there is none. Number 807.
+    /// The accepted slice claims another length than the recorded one, or none is recorded. Number 807.
     #[error("807 other length")]
     OtherLength,
 }
@@ -49,7 +48,7 @@ impl From<AllocError> for StoreFault {
 impl StoreFault {
     ghost use Rattle.store_core.specs.Faults.{number_of};
 
-    /// The fault's number: 701, 803, 804 or 807.
+    /// Returns the number of the fault: 701, 803, 804 or 807.
     pub fn code(&self) -> u16
         ensures { result ≡ number_of self.now }
     {
@@ -68,7 +67,7 @@ pub enum ServeFault {
     /// No length is recorded. Number 808.
     #[error("808 no length")]
     NoLength,
-    /// This node is the first of the slice's that isn't held. Number 809.
+    /// This node, the first of the slice that is missing, isn't held. Number 809.
     #[error("809 lacking")]
     Lacking(Node),
     /// Out of memory. Number 810.
@@ -89,7 +88,7 @@ impl From<AllocError> for ServeFault {
 impl ServeFault {
     ghost use Rattle.store_core.specs.Faults.{serve_number_of};
 
-    /// The fault's number: 808, 809 or 810.
+    /// Returns the number of the fault: 808, 809 or 810.
     pub fn code(&self) -> u16
         ensures { result ≡ serve_number_of self.now }
     {
@@ -101,14 +100,14 @@ impl ServeFault {
     }
 }
 
-/// The least position of a range that is not held, in bytes.
+/// The least offset in bytes of a range that isn't held.
 #[derive(Clone, Copy, Debug, PartialEq, Eq)]
 pub struct Missing(pub u64);
 
 /// Why a step of a schedule did not run.
 #[derive(Clone, Copy, Debug, PartialEq, Eq, Error)]
 pub enum StepFault {
-    /// There was no memory. Number 701.
+    /// Out of memory. Number 701.
     #[error("701 memory")]
     Memory,
     /// The step isn't legal. Number 702.
@@ -129,7 +128,7 @@ impl From<AllocError> for StepFault {
 impl StepFault {
     ghost use Rattle.store_core.specs.Faults.{step_number_of};
 
-    /// The fault's number: 701 or 702.
+    /// Returns the number of the fault: 701 or 702.
     pub fn code(&self) -> u16
         ensures { result ≡ step_number_of self.now }
     {
@@ -140,13 +139,13 @@ impl StepFault {
     }
 }
 
-/// Why a schedule was refused. No store is handed out.
+/// Why a schedule was refused. No store is returned.
 #[derive(Clone, Copy, Debug, PartialEq, Eq, Error)]
 pub enum ReplayFault {
     /// Out of memory. Number 701.
     #[error("701 memory")]
     Memory,
-    /// The step with this index, from 0, is the least that isn't legal. Number 702.
+    /// The step with this index, from 0, is the first that isn't legal. Number 702.
     #[error("702 illegal step {step}")]
     Illegal { step: usize },
     /// The capacity isn't 1 to 65,536 chunks. Number 802.
@@ -167,7 +166,7 @@ impl From<AllocError> for ReplayFault {
 impl ReplayFault {
     ghost use Rattle.store_core.specs.Faults.{replay_number_of};
 
-    /// The fault's number: 701, 702 or 802.
+    /// Returns the number of the fault: 701, 702 or 802.
     pub fn code(&self) -> u16
         ensures { result ≡ replay_number_of self.now }
     {

@@ -5,21 +5,23 @@ ghost use Rattle.store_core.specs.Machine.{groups};
 use crate::masks::GROUP_LEN;
 use b3tree::{CHUNK_LEN, Hash, Mode};
 
-/// What of a store never changes: the root and the mode of its blob, how many chunks it has room for, and from which chunk of
-/// the blob on.
+/// What never changes in a store: its blob's root and mode, its capacity in chunks, and the chunk of the blob
+/// that it begins with.
 #[derive(Clone, Copy, Debug, PartialEq, Eq)]
 pub struct Fixed {
     pub root: Hash,
     pub mode: Mode,
-    /// A number of chunks, 1 to 65,536 in a store that was made.
+    /// The capacity in chunks: 1 to 65,536 in any store.
     pub capacity: u32,
-    /// The chunk of the blob that is the store's chunk 0: 0 in a store of a whole blob. What a store's call takes and gives, chunks,
-    /// groups, masks and positions, is counted from there; what a slice is asked by is counted from the blob's first chunk.
+    /// The index in the blob of the store's chunk 0; 0 if the store is of a whole blob.
+    ///
+    /// Chunks, groups, masks and offsets in the store's calls are counted from there. The range of a slice is
+    /// counted from the blob's first chunk.
     pub base: u64,
 }
 
 impl Fixed {
-    /// How many groups of 64 chunks there are; the last may have less.
+    /// Returns how many groups of 64 chunks there are; the last may have fewer.
     pub fn groups(&self) -> u32
         ensures count { result ≡ groups self.now }
         ensures few { result ≤ 2 ^ 26 }
@@ -27,14 +29,14 @@ impl Fixed {
         self.capacity.div_ceil(GROUP_LEN)
     }
 
-    /// Whether a blob of this length in bytes has room, from its first chunk on.
+    /// Returns whether a blob of `length` bytes fits, from its first chunk on.
     pub fn has_room(&self, length: u64) -> bool
         ensures { result ≡ has_room self.now length }
     {
         self.base == 0 && length <= CHUNK_LEN as u64 * u64::from(self.capacity)
     }
 
-    /// Whether this is the store's root and mode.
+    /// Returns whether these are the store's root and mode.
     pub fn is_of(&self, root: &Hash, mode: &Mode) -> bool
         ensures { IsTrue result ↔ ((root.now ≡ self.now.root) × (mode.now ≡ self.now.mode)) }
     {

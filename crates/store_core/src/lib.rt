@@ -1,4 +1,4 @@
-//! The one-thread store of a blob's chunks: its state, its events, their histories, and a seat's view.
+//! The single-threaded store of a blob's chunks: its state, its events, their histories, and what a seat knows.
 #![tactic(auto)]
 
 pub use bao_check::GROUP_BYTES;

@@ -1,16 +1,16 @@
 ghost use Rattle.std.specs.Prelude.{◌≡◌, ◌≢◌, ℕ, ◌<◌, nat_lt, true};
 ghost use Rattle.store_core.specs.Masks.{IsMaskOf, has_bit};
 
-/// How many chunks a group has, and how many boundaries.
+/// How many chunks, and how many boundaries, a group has.
 pub const GROUP_LEN: u32 = bao_check::GROUP_LEN as u32;
 
-/// How many words a chunk's cell has: the size, then 128 words of eight bytes.
+/// How many words the cell of a chunk has: the size, then 128 words of eight bytes.
 pub const CELL_WORDS: u8 = 129;
 
-/// How many words a parent has, of eight bytes each.
+/// How many words of eight bytes a parent has.
 pub const PARENT_WORDS: u8 = 8;
 
-/// Whether bit `j` of the mask is set: it stands for chunk, or boundary, 64 * group + j.
+/// Returns whether bit `j` of the mask is set; it stands for chunk, or boundary, 64 * group + j.
 #[inline(always)]
 pub fn has_bit(mask: u64, j: u32) -> bool
     requires { j < 64 }
@@ -19,7 +19,7 @@ pub fn has_bit(mask: u64, j: u32) -> bool
     (mask >> j) & 1 == 1
 }
 
-/// The mask with bit `j` set, and all others as they were.
+/// Returns the mask with bit `j` set as well.
 #[inline(always)]
 pub fn with_bit(mask: u64, j: u32) -> u64
     requires { j < 64 }
@@ -29,7 +29,7 @@ pub fn with_bit(mask: u64, j: u32) -> u64
     mask | (1 << j)
 }
 
-/// The mask of the group's chunks, or boundaries, whose numbers are below `end`.
+/// Returns the mask of the group's chunks, or boundaries, below `end`.
 pub fn mask_below(group: u32, end: u64) -> u64
     ensures { IsMaskOf group result (λ c. nat_lt c end) }
 {

@@ -3,29 +3,31 @@ ghost use Rattle.std.specs.Prelude.{◌≡◌, ℕ, List};
 use crate::history::Settling;
 use std::marker::Model;
 
-/// A step of a schedule: a seat's whole call, or one of the steps that make up a commit or a read. A mask is of
-/// the chunks of a group: bit j stands for chunk 64 * group + j.
+/// A step of a schedule: a whole call of a seat, or one of the steps that make up a commit or a read. In a mask
+/// of a group's chunks, bit j stands for chunk 64 * group + j.
 #[derive(Clone, Copy, Debug)]
 pub enum MicroStep {
-    /// Takes the wanted chunks of a group.
+    /// Claims the wanted chunks of a group.
     Claim { seat: u32, group: u32, want: u64 },
-    /// Makes the piece with this number of the list the seat's current one.
+    /// Makes the accepted slice with this index in the list the seat's current one.
     Hash { seat: u32, piece: usize },
-    /// Writes a word of a chunk's cell from the seat's current piece: word 0 is the size, words 1 to 128 the data.
+    /// Writes a word of a chunk's cell from the seat's current slice: word 0 is the size, words 1 to 128 the
+    /// data.
     Write { seat: u32, chunk: u32, word: u8 },
-    /// Commits the chunks of a group that the seat claims and its current piece holds.
+    /// Commits the chunks of a group that the seat claims and its current slice has.
     Publish { seat: u32, group: u32 },
-    /// Gives claims of a group up.
+    /// Gives up claims of a group.
     GiveBack { seat: u32, group: u32, mask: u64 },
-    /// Loads the held word of one group for a read of `len` bytes from position `at` on, and copies bytes of it.
+    /// Loads the held word of one group for a read of `len` bytes from offset `at` on, and copies bytes of that
+    /// group.
     Load { seat: u32, at: u64, len: u32 },
-    /// Settles the length by the seat's current piece.
+    /// Settles the length by the seat's current slice.
     Settle { seat: u32 },
     /// Asks for the recorded length.
     Length { seat: u32 },
 }
 
-/// Bytes that a read gave. Contracts see the list of them.
+/// Bytes returned by a read. Contracts refer to them as a list.
 #[derive(Drop)]
 pub struct ReadBytes {
     bytes: Vec<u8>,
@@ -45,7 +47,7 @@ impl ReadBytes {
         ReadBytes { bytes }
     }
 
-    /// The bytes.
+    /// Returns the bytes.
     pub fn as_slice(&self) -> &[u8]
         ensures { result.now ≡ self.now }
     {
@@ -53,10 +55,10 @@ impl ReadBytes {
     }
 }
 
-/// What a step of a schedule answers; not every step does.
+/// The result of a step of a schedule; some steps have none.
 #[derive(Drop)]
 pub enum Reply {
-    /// The mask of the chunks that a `Claim` was granted.
+    /// The mask of the chunks granted to a `Claim`.
     Granted(u64),
     /// The mask of the chunks that a `Publish` stored.
     Committed(u64),
@@ -64,9 +66,9 @@ pub enum Reply {
     Given(u64),
     /// All bytes of a read.
     Bytes(ReadBytes),
-    /// The least position of a read that isn't held.
+    /// The least offset of a read that isn't held.
     NotHeld(u64),
-    /// What a `Settle` met.
+    /// The result of a `Settle`.
     Settling(Settling),
     /// The recorded length, if there is one.
     LengthIs(Option<u64>),

@@ -29,8 +29,10 @@ struct Player<'a> {
     reading: Option<Reading>,
 }
 
-/// A schedule on its way, step by step: a one-thread store in place of the words, as far as held bits and claims go. The
-/// words' values need not be kept, since a chunk is shown only once all of them come from the current piece of the one
+/// A schedule that runs step by step.
+///
+/// A single-threaded store stands in for the shared words: it has their held bits and claims. The values of the
+/// words needn't be kept, since a chunk is held only once all of them come from the current slice of the one
 /// seat that claims it.
 #[derive(Drop)]
 pub struct ScheduleRun<'a> {
@@ -94,9 +96,9 @@ impl<'a> ScheduleRun<'a> {
     ghost use Rattle.store_core.specs.Replays.{LeavesStore};
     ghost use Rattle.store_core.specs.ScheduleRuns.{DoesRefuse, DoesStep, IsFresh, IsLegalFor};
 
-    /// A run of no step yet, over an empty store. It takes no memory.
+    /// Returns a run without steps over an empty store. It doesn't allocate.
     ///
-    /// 802 unless `capacity`, a number of chunks, is 1 to 65,536.
+    /// Refuses with 802 `BadCapacity` unless `capacity`, in chunks, is 1 to 65,536.
     pub fn new(
         alloc: Global,
         root: Hash,
@@ -114,11 +116,12 @@ impl<'a> ScheduleRun<'a> {
         })
     }
 
-    /// The store that the steps leave.
+    /// Returns the store after the steps so far.
     ///
-    /// For each blob with its root, each chunk that it holds is the blob's chunk of that number, and a recorded length is
-    /// the blob's; or a collision is exhibited, two different inputs with one chaining value, one of the blob's and one of the piece's
-    /// from which the run committed the chunk, or by which it settled the length.
+    /// For every blob with its root, each held chunk is the blob's chunk of that index, and a recorded length
+    /// is the blob's; or the contract exhibits a collision, two different inputs with the same chaining value,
+    /// one from the blob and one from the slice from which the run committed the chunk, or by which it settled
+    /// the length.
     pub fn into_store(self) -> Store
         ensures left { LeavesStore self.entry result }
         ensures binds { (fixed : Fixed) (pieces : List Checked) (steps : List MicroStep) (replies : List Reply) → ReplayBinds fixed pieces steps replies result }
@@ -288,10 +291,10 @@ impl<'a> ScheduleRun<'a> {
         Reply::LengthIs(self.store.length())
     }
 
-    /// Runs a step, and answers what it answers, if it does.
+    /// Runs a step, and returns its reply, if it has one.
     ///
-    /// 702 `Illegal` exactly where it isn't legal, and 701 `Memory` of a legal one alone. After either nothing is known of
-    /// what the run stands for: it is to be let go.
+    /// Refuses with 702 `Illegal` exactly if the step isn't legal, and with 701 `Memory` only if it is. After a
+    /// refusal the state of the run is unspecified: drop it.
     pub fn step(
         &mut self,
         pieces: &[Checked<'a>],
@@ -314,16 +317,20 @@ impl<'a> ScheduleRun<'a> {
     }
 }
 
-/// Runs a schedule from the empty store, step by step, and answers what the steps answer, in order, and the store that
-/// they leave. A seat is a number; it may have a current piece, words written from it, claims, and a read under way.
+/// Runs a schedule from the empty store, and returns the replies of its steps in order, and the store after the
+/// last.
 ///
-/// 802 `Capacity` where the capacity isn't 1 to 65,536 chunks. Else, whichever it meets first: 702 `Illegal` with the
-/// least index, from 0, of a step that isn't legal, and 701 `Memory` at a legal step, so never where the first one isn't
-/// legal. No store is handed out then.
+/// A seat is a number. It may have a current slice, words written from that slice, claims, and a read in
+/// progress.
 ///
-/// For each blob with the hash `root`, each chunk that the store holds is the blob's chunk of that number, and a recorded
-/// length is the blob's; or a collision is exhibited, two different inputs with one chaining value, one of the blob's and one of a piece of
-/// `pieces`: the one from which the schedule committed the chunk, or by which it settled the length.
+/// Refuses with 802 `Capacity` unless `capacity` is 1 to 65,536 chunks. Otherwise refuses with whichever comes
+/// first: 702 `Illegal` with the index (from 0) of the first step that isn't legal, or 701 `Memory` at a legal
+/// step. No store is then returned.
+///
+/// For every blob with the hash `root`, each held chunk is the blob's chunk of that index, and a recorded
+/// length is the blob's; or the contract exhibits a collision, two different inputs with the same chaining
+/// value, one from the blob and one from the element of `pieces` from which the schedule committed the chunk,
+/// or by which it settled the length.
 pub fn replay(
     alloc: Global,
     root: Hash,

@@ -9,23 +9,23 @@ use bao_check::Checked;
 use std::alloc::{AllocError, Global};
 use std::mem::replace;
 
-/// A chunk's place in a store.
+/// The state of a chunk in a store.
 #[derive(Drop)]
 pub(crate) enum Slot {
     Free,
     /// Claimed by the seat with this number.
     Claimed(u32),
-    /// Held with these bytes: those of the blob's chunk base + c, in the place of chunk c of a store with that base.
+    /// Held with these bytes: for chunk c of the store, those of the blob's chunk base + c.
     Held(Vec<u8>),
 }
 
-/// Which chunks a call is about.
+/// The chunks that a call is about.
 #[derive(Clone, Copy)]
 pub(crate) enum Pick<'a> {
     Free,
     /// Those that the seat claims.
     Claimed(u32),
-    /// Those that the seat claims and the piece holds, in a store whose first chunk is this one of the blob.
+    /// Those that the seat claims and the accepted slice has; the number is the store's base.
     InPiece(u32, u64, Checked<'a>),
 }
 

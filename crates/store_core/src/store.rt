@@ -16,17 +16,17 @@ use bao_check::{Checked, Tail};
 use bao_text::{Node, nodes};
 use std::alloc::{AllocError, Global};
 
-/// The most chunks that a store has room for.
+/// The greatest capacity of a store, in chunks.
 pub const MAX_CAPACITY: u32 = 65_536;
 
-/// The greatest base of a store. A tree has at most 2^54 chunks, so that a store with this base stays empty.
+/// The greatest base of a store. A tree has at most 2^54 chunks, so a store with this base stays empty.
 pub const MAX_BASE: u64 = 1 << 54;
 
-/// A store of one blob's chunks, for one thread: which are held, which seat claims which, and the blob's length
-/// once it is known. Nothing is taken on anybody's word: what it holds comes from encodings accepted under its root.
+/// A store of one blob's chunks for one thread: which chunks are held, which seat claims which, and the blob's
+/// length once it is recorded. All of it comes from encodings accepted under the store's root.
 ///
-/// Chunk c of the store is chunk base + c of the blob, and position q is the blob's byte 1,024 * base + q. In a store that
-/// [`new`](Store::new) makes the base is 0, and in one of [`from_chunk`](Store::from_chunk) it is that chunk.
+/// Chunk c of the store is chunk base + c of the blob, and offset q of the store is byte 1,024 * base + q of
+/// the blob. The base is 0 for [`new`](Store::new), and an argument of [`from_chunk`](Store::from_chunk).
 #[derive(Drop)]
 pub struct Store {
     fixed: Fixed,
@@ -57,9 +57,9 @@ impl Store {
     ghost use Rattle.store_core.specs.States.{claims, empty, held_count};
     ghost use Rattle.store_core.specs.Stores.{ChunksBind, ClaimBinds, DidRead, DidServe, DidStore, GainsNode, IsEvent, IsNew, IsOf, IsSame, IsUnserved, IsUnstored, LengthBinds, ParentsBind, ReadBinds, Settles, SliceBinds, SliceIsAccepted, StoresParent, filled_count, fixed_of, missing_in, state_of};
 
-    /// A store of a whole blob that holds, claims and records nothing. It takes no memory.
+    /// Returns an empty store of a whole blob. It doesn't allocate.
     ///
-    /// 802 unless `capacity`, a number of chunks, is 1 to 65,536.
+    /// Refuses with 802 unless `capacity`, in chunks, is 1 to 65,536.
     pub fn new(alloc: Global, root: Hash, mode: Mode, capacity: u32) -> Result<Store, BadCapacity>
         ensures fits { IsOk result ↔ ((0 < capacity) × (capacity ≤ 65536)) }
         ensures made { IfOk result (λ store. IsNew store (record { root = root; mode = mode; capacity = capacity; base = 0 })) }
@@ -67,11 +67,11 @@ impl Store {
         Store::from_chunk(alloc, root, mode, 0, capacity)
     }
 
-    /// A store of a part of a blob, of the `capacity` chunks from chunk `base` of the blob on: it counts chunks, groups and
-    /// positions from there. It holds, claims and records nothing, and takes no memory. A blob's length is recorded by a store
-    /// of its first chunks alone, so where `base` isn't 0 no parents are stored and no slices served.
+    /// Returns an empty store of the `capacity` chunks of a blob from chunk `base` on. It doesn't allocate.
     ///
-    /// 802 unless `capacity`, a number of chunks, is 1 to 65,536, and `base` at most 2^54: no blob has a chunk with that number.
+    /// Chunks, groups and offsets are counted from `base`. Only a store with the base 0 records a length, so no
+    /// other stores parents or serves slices. Refuses with 802 unless `capacity` is 1 to 65,536 and `base` at
+    /// most 2^54, which no chunk's index reaches.
     pub fn from_chunk(
         alloc: Global,
         root: Hash,
@@ -99,7 +99,7 @@ impl Store {
         })
     }
 
-    /// The root, the mode, the capacity in chunks and the first chunk, which never change.
+    /// Returns the root, the mode, the capacity in chunks and the base, which never change.
     pub fn fixed(&self) -> Fixed
         ensures { result ≡ fixed_of self.now }
     {
@@ -135,11 +135,12 @@ impl Store {
         is_picked(self.slots.as_slice(), chunk as usize, &Pick::Claimed(seat))
     }
 
-    /// Claims for the seat the wanted chunks of a group that are below the capacity and neither held nor claimed, and
-    /// answers their mask: bit j stands for chunk 64 * group + j. A chunk that the seat claims already isn't granted
-    /// again.
+    /// Claims for the seat those wanted chunks of a group that are below the capacity and neither held nor
+    /// claimed, and returns their mask: bit j stands for chunk 64 * group + j. A chunk that the seat already
+    /// claims isn't granted again.
     ///
-    /// 803 `NoGroup` where there is no such group, and 701 `Memory`. The store then stands for the same.
+    /// Refuses with 803 `NoGroup` if there is no such group, and with 701 `Memory`. The store's state is then
+    /// unchanged.
     pub fn take(&mut self, seat: u32, group: u32, want: u64) -> Result<u64, StoreFault>
         ensures ok { IfOk result (λ granted. IsEvent self.old self.new (caller seat) (Take group want granted)) }
         ensures err { OnErr result (IsSame self.old self.new) }
@@ -157,8 +158,8 @@ impl Store {
         Ok(granted)
     }
 
-    /// Ends the seat's claims among the mask of a group, and answers the mask of those that it had: 0 for a group
-    /// that isn't there. It takes no memory.
+    /// Ends the seat's claims to chunks of `mask`, and returns the mask of those that it had: 0 if there is no
+    /// such group. It doesn't allocate.
     pub fn give(&mut self, seat: u32, group: u32, mask: u64) -> u64
         ensures { IsEvent self.old self.new (caller seat) (Give group mask result) }
     {
@@ -170,14 +171,15 @@ impl Store {
         given
     }
 
-    /// Records the length in bytes that a piece with the last chunk certifies, if none is recorded: `Settled`. Else it
-    /// changes nothing and says whether the same was recorded, `Known`, or another, `Differs`. It takes no memory.
+    /// Records the blob's length in bytes that the tail certifies. It doesn't allocate.
     ///
-    /// 804 `OtherRoot`, asked before all else, where the piece is of another root or mode, and 805 `TooLarge` where the
-    /// length is above 1,024 times the capacity, or the store's first chunk isn't the blob's. The store is then unchanged.
+    /// Returns `Settled` if none was recorded, `Known` if the same was, and `Differs` if another was, which
+    /// stays. Returns `OtherRoot` (804), tested first, if the tail has another root or mode, and `TooLarge`
+    /// (805) if the length is above 1,024 times the capacity, or if the base isn't 0. The store is then
+    /// unchanged.
     ///
-    /// For each blob with the store's root, the length of a piece that isn't `OtherRoot` is the blob's; or a
-    /// collision is exhibited, one input of the blob's and one of this piece's.
+    /// For every blob with the store's root, the length of a tail that isn't `OtherRoot` is the blob's; or the
+    /// contract exhibits a collision, one input from the blob and one from the tail.
     pub fn settle(&mut self, tail: &Tail<'_>) -> Settling
         ensures event { Settles self.old self.new (tail_piece tail.now) result }
         ensures other_root { (result ≡ RootIsOther) ↔ (¬ IsOf (fixed_of self.old) (tail_piece tail.now)) }
@@ -208,11 +210,12 @@ impl Store {
         }
     }
 
-    /// The recorded length in bytes, if there is one: there is none where the store's base isn't 0. It takes no memory.
+    /// Returns the recorded length in bytes, if there is one; there is none if the base isn't 0. It doesn't
+    /// allocate.
     ///
-    /// For each blob with the store's root it is the blob's length; or, whatever legal history led to the store, a
-    /// collision is exhibited, one input of the blob's and one of the piece's by which that history
-    /// settled it.
+    /// For every blob with the store's root it is the blob's length; or, whatever legal history led to the
+    /// store, the contract exhibits a collision, one input from the blob and one from the slice by which that
+    /// history settled it.
     pub fn length(&self) -> Option<u64>
         ensures event { (who : List Name) → IsEvent self.now self.now who (Length result) }
         ensures binds { IfSome result (λ l. LengthBinds self.now l) }
@@ -224,12 +227,12 @@ impl Store {
         self.recorded
     }
 
-    /// Some legal history leads to the store: a law, for proofs over stores. Nothing runs.
+    /// Lemma: some legal history leads to the store. No effect at run time.
     pub fn is_reached(&self)
         ensures { ∥ IsReached (fixed_of self.now) (state_of self.now) ∥₁ }
     {}
 
-    /// How many chunks are held.
+    /// Returns how many chunks are held.
     pub fn held_count(&self) -> u64
         ensures { result ≡ held_count (state_of self.now) (fixed_of self.now).capacity }
     {
@@ -242,14 +245,14 @@ impl Store {
         count
     }
 
-    /// Stores exactly the chunks of a group that the seat claims and the piece holds, ends these claims, and answers
-    /// their mask: 0 for a group that isn't there.
+    /// Stores exactly those chunks of a group that the seat claims and the accepted slice has, ends these
+    /// claims, and returns their mask: 0 if there is no such group.
     ///
-    /// 804 `OtherRoot`, asked before all else, where the piece is of another root or mode, and 701 `Memory`. The store
-    /// is then unchanged.
+    /// Refuses with 804 `OtherRoot`, tested first, if the slice has another root or mode, and with 701
+    /// `Memory`. The store is then unchanged.
     ///
-    /// For each blob with the store's root, each chunk stored is the blob's chunk of that number, counted from the store's
-    /// first; or a collision is exhibited, one input of the blob's and one of the piece's.
+    /// For every blob with the store's root, each chunk stored is the blob's chunk of that index, counted from
+    /// the base; or the contract exhibits a collision, one input from the blob and one from the slice.
     pub fn commit(&mut self, seat: u32, group: u32, piece: &Checked<'_>) -> Result<u64, StoreFault>
         ensures ok { IfOk result (λ committed. IsEvent self.old self.new (caller seat) (Commit group (piece_of (fixed_of self.old).base piece.now) committed)) }
         ensures err { OnErr result (IsSame self.old self.new) }
@@ -281,15 +284,15 @@ impl Store {
         Ok(committed)
     }
 
-    /// Fills `out` with the bytes from position `at` on, in bytes. It takes no memory.
+    /// Fills `out` with the bytes from offset `at` on. It doesn't allocate.
     ///
-    /// `Missing(p)`: p is the least position of the range that isn't held. The bytes before it are filled in, and the
-    /// rest of `out` is unchanged. A position is held if its chunk is and has more bytes than come before it there;
-    /// none at or above 1,024 times the capacity is. An empty buffer is Ok.
+    /// Refuses with `Missing(p)` if the range isn't all held, where p is the least offset that isn't: the bytes
+    /// before p are filled in, and the rest of `out` is unchanged. An offset is held if its chunk is held and
+    /// long enough; none from 1,024 times the capacity on is. An empty `out` is never refused.
     ///
-    /// For each blob with the store's root, each byte filled in is the blob's byte there, counted from the store's first; or,
-    /// whatever legal history led to the store, a collision is exhibited, one input of the blob's and one of the piece's of
-    /// which that history committed the byte's chunk.
+    /// For every blob with the store's root, each byte filled in is the blob's byte at that offset, counted
+    /// from the base; or, whatever legal history led to the store, the contract exhibits a collision, one input
+    /// from the blob and one from the slice from which that history committed the byte's chunk.
     pub fn read(&self, at: u64, out: &mut [u8]) -> Result<(), Missing>
         ensures event { DidRead self.now at out.old out.new (missing_in result) }
         ensures binds { ReadBinds self.now at out.new (filled_count at (length out.old) (missing_in result)) }
@@ -310,16 +313,17 @@ impl Store {
         Ok(())
     }
 
-    /// Stores the piece's parents at all boundaries of a group where none is held, and answers their mask: bit j stands
-    /// for the parent whose right part begins at chunk 64 * group + j. 0 for a group that isn't there.
+    /// Stores the slice's parents at those boundaries of a group where none is held, and returns their mask:
+    /// bit j stands for the parent whose right child begins at chunk 64 * group + j. The mask is 0 if there is
+    /// no such group.
     ///
-    /// 804 `OtherRoot`, asked before all else, where the piece is of another root or mode, 807 `OtherLength` where the length
-    /// that it claims isn't the recorded one, or there is none, and 701 `Memory`, where there is a parent to store. The store
-    /// then stands for the same.
+    /// Refuses with 804 `OtherRoot`, tested first, if the slice has another root or mode, with 807
+    /// `OtherLength` if it claims another length than the recorded one, or none is recorded, and with 701
+    /// `Memory` only if there is a parent to store. The store's state is then unchanged.
     ///
-    /// For each blob with the store's root, each parent that is then held is the blob's parent there; or, whatever legal
-    /// history led to the store, a collision is exhibited, one input of the blob's and one of the piece's of which this
-    /// history stored that parent, or by which it settled the length.
+    /// For every blob with the store's root, each parent held afterwards is the blob's parent there; or,
+    /// whatever legal history led to the store, the contract exhibits a collision, one input from the blob and
+    /// one from the slice from which that history stored the parent, or by which it settled the length.
     pub fn commit_parents(&mut self, group: u32, piece: &Checked<'_>) -> Result<u64, StoreFault>
         ensures ok { IfOk result (λ mask. DidStore self.old self.new group piece.now (Stored mask)) }
         ensures all { IfOk result (λ mask. IsMaskOf group mask (λ m. holds_parent (piece_of (fixed_of self.old).base piece.now) m && not (is_some ((state_of self.old).parents m)))) }
@@ -349,6 +353,13 @@ impl Store {
         Ok(mask)
     }
 
+    /// Returns whether the parent whose right child begins with chunk `boundary` is held. It doesn't allocate.
+    pub fn has_parent(&self, boundary: u32) -> bool
+        ensures { result ≡ is_some ((state_of self.now).parents boundary) }
+    {
+        held_parent(self.parents.as_slice(), boundary as usize).is_some()
+    }
+
     // Appends the bytes that are held of a node, and answers whether they are held.
     fn append_node(&self, node: &Node, out: &mut Vec<u8>) -> Result<bool, AllocError>
         ensures { IfOk result (λ there. GainsNode (node_held (state_of self.now) node.now) out.old.items out.new.items there) }
@@ -366,16 +377,17 @@ impl Store {
         }
     }
 
-    /// The encoding of the slice (`start`, `len`) of the blob: the recorded length, and the bytes of the slice's nodes.
+    /// Returns the encoding of the slice (`start`, `len`) of the blob: the recorded length, and the bytes of
+    /// the slice's nodes.
     ///
-    /// 808 `NoLength` where no length is recorded, 809 `Lacking` with the first node in the encoding's order that isn't held,
-    /// and 810 `Memory`.
+    /// Refuses with 808 `NoLength` if no length is recorded, with 809 `Lacking` and the first node, in the
+    /// order of the encoding, that isn't held, and with 810 `Memory`.
     ///
-    /// For each blob with the store's root it is the blob's slice; or, whatever legal history led to the store, a
-    /// collision is exhibited, one input of the blob's and one of the piece's that a node of the slice, or the length, is of.
-    /// It is accepted as that slice under the store's root, be that a blob's hash or not; or two pieces of this history
-    /// clash. A chunk of the slice was committed of one that claims another length than that by which the length was
-    /// settled; or at a parent of the slice a collision is exhibited, one input of each.
+    /// For every blob with the store's root it is the blob's slice; or, whatever legal history led to the
+    /// store, the contract exhibits a collision, one input from the blob and one from the slice that a node or
+    /// the length came from. Under any root, a blob's hash or not, it is accepted as that slice; or one of its
+    /// chunks was committed from a slice that claims another length than the one that settled the length; or at
+    /// one of its parents a collision is exhibited between two slices of the history.
     pub fn serve_slice(&self, start: u64, len: u64) -> Result<Vec<u8>, ServeFault>
         ensures served { IfOk result (λ text. DidServe self.now start len (Text text.items)) }
         ensures refused { IfErr result (λ fault. IsUnserved self.now start len fault) }

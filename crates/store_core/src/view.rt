@@ -9,23 +9,25 @@ pub struct Named {
     pub splits: u64,
 }
 
-/// A word of a chunk's cell that was stored: word w of chunk c has the number 129 * c + w.
+/// A stored word of a chunk's cell: word w of chunk c has the number 129 * c + w.
 #[derive(Clone, Copy, Debug)]
 pub struct StoredWord {
     pub number: u64,
     pub value: u64,
 }
 
-/// Boundaries of a group, by a mask: bit j stands for boundary 64 * group + j.
+/// Boundaries of a group as a mask: bit j stands for boundary 64 * group + j.
 #[derive(Clone, Copy, Debug)]
 pub struct Boundaries {
     pub group: u64,
     pub mask: u64,
 }
 
-/// What a seat of a store knows: its names in dictionary order, the history that it has seen, the
-/// cell words that it stored for chunks that it claims, the newest first, the boundaries whose parents it is storing, and
-/// the words that it stored for these: word w of boundary m's parent has the number 8 * m + w. Contracts alone speak of it.
+/// What a seat of a store knows. Only contracts refer to it.
+///
+/// It has the seat's names in dictionary order, the history that the seat has seen, the cell words that it
+/// stored for chunks that it claims (the newest first), the boundaries whose parents it is storing, and the
+/// words that it stored for these: word w of the parent at boundary m has the number 8 * m + w.
 #[derive(Drop)]
 pub struct SeatView {
     pub fixed: Fixed,

@@ -63,13 +63,16 @@ served_all s (node ∷ nodes) all =
     (first.0 ++ rest.0, ap (λ (o : Option (List ℕ)). node_and node o (served s nodes)) first.1 ∙ ap (λ (r : Serving). after_bytes first.0 r) rest.1)
 
 -- so the slice is
-pub slice_served : (view : SeatView) (start len : ℕ) → HasSliceHeld view start len → (text : List ℕ) × (serving (state_after view.seen) start len ≡ Text text)
-slice_served view start len has =
-    let s : State = state_after view.seen in
-    let w = served_all s (slice_names has.length start len) has.held in (
-      length_text has.length ++ w.0,
-      ap (λ (o : Option ℕ). serving_of o s start len) has.recorded ∙ ap (λ (r : Serving). after_bytes (length_text has.length) r) w.1,
+pub all_served : (s : State) (l start len : ℕ) → s.recorded ≡ Some l → ((node : Node) → Contains (slice_names l start len) node → is_some (node_held s node) ≡ true)
+    → (text : List ℕ) × (serving s start len ≡ Text text)
+all_served s l start len recorded held =
+    let w = served_all s (slice_names l start len) held in (
+      length_text l ++ w.0,
+      ap (λ (o : Option ℕ). serving_of o s start len) recorded ∙ ap (λ (r : Serving). after_bytes (length_text l) r) w.1,
     )
+
+pub slice_served : (view : SeatView) (start len : ℕ) → HasSliceHeld view start len → (text : List ℕ) × (serving (state_after view.seen) start len ≡ Text text)
+slice_served view start len has = all_served (state_after view.seen) has.length start len has.recorded has.held
 
 -- and nothing but memory refuses it
 refused_held : (start len : ℕ) (old new : SeatView) (fault : ServeFault) → SeatIsRefused start len fault old new → HasSliceHeld old start len → fault ≡ refused.Memory

@@ -1,4 +1,4 @@
--- Seats of a shared store: what they keep of their claims, and which store they are of.
+-- Seats of a shared store: their masks of claims, and the store that they belong to.
 use Rattle.std.specs.Prelude.{◌≡◌, ℕ, ◌/◌, ◌%◌, ◌<◌, List, [], length, slice_index}
 use Rattle.store_core.specs.declared.fixed.Fixed.{Fixed}
 use Rattle.store_core.specs.declared.view.SeatView.{SeatView}
@@ -9,21 +9,22 @@ use Rattle.store_shared.specs.declared.assembly.Assembly.{Assembly}
 pub use Rattle.store_calls.specs.Grips.{Gripped}
 use Rattle.store_calls.specs.Grips.{CoversGroup, IsGripOf, fixed_of as fixed_of_words}
 
--- one word a group, with the bits of exactly the chunks that the seat claims; and the seat is storing no parents
+-- one word for each group, with the bits of exactly the chunks that the seat claims; and the seat is storing no
+-- parents
 pub record AreClaims (view : SeatView) (claims : List ℕ) : Type 0 where
   pub count : length claims ≡ groups view.fixed
   pub bits : (c : ℕ) → c / 64 < groups view.fixed → has_bit (slice_index claims (c / 64)) (c % 64) ≡ seat_claims view c
   pub idle : view.storing ≡ []
 
--- the root, mode and capacity
+-- the root, mode, capacity and base
 abbrev pub fixed_of : Assembly → Fixed
 fixed_of assembly = fixed_of_words assembly.words
 
--- The seat is one of this store's, and what it has seen is a legal history of it. Its names stand in dictionary order, each
--- once.
+-- The seat belongs to this store, and what it has seen is a legal history of the store. Its names are in
+-- dictionary order, without duplicates.
 abbrev pub IsSeatOf : Assembly → Gripped → Type 0
 IsSeatOf assembly seat = IsGripOf assembly.words seat
 
--- there is such a group
+-- the group exists
 abbrev pub IsGroupOf : Assembly → ℕ → Type 0
 IsGroupOf assembly group = CoversGroup assembly.words group

@@ -1,4 +1,4 @@
-ghost use Rattle.std.specs.Prelude.{◌≡◌, ◌≢◌, ◌↔◌, ◌^◌, ◌<◌, ◌≤◌, ◌*◌, IfErr, IfOk, IfSome, IsOk, IsErrOf, OnErr, length};
+ghost use Rattle.std.specs.Prelude.{◌≡◌, ◌≢◌, ◌↔◌, ◌^◌, ◌<◌, ◌≤◌, ◌*◌, IfErr, IfOk, IfSome, IsOk, IsErrOf, OnErr, false, is_some, length, true};
 
 use crate::fault::{NoGroup, OtherRoot, ParentsFault, SplitFault};
 use crate::masks::put_masks;
@@ -6,18 +6,20 @@ use crate::seat::Seat;
 use b3tree::{Hash, Mode};
 use bao_check::{Checked, Tail};
 use std::alloc::Global;
-use store_calls::{NewFault, Words, commit, commit_parents, read, serve_slice};
+use store_calls::{NewFault, Words, commit, commit_parents, has_parent, read, serve_slice};
 use store_core::{GROUP_LEN, MAX_BASE, MAX_CAPACITY, Missing, ServeFault, Settling, Storing};
 
-/// A store of one blob's chunks, shared by reference: which are held, which seat claims which, and the blob's length once
-/// it is known. Nothing is taken on anybody's word: what it holds comes from encodings accepted under its root.
+/// A store of one blob's chunks that threads share by reference: which chunks are held, which seat claims
+/// which, and the blob's length once it is recorded. All of it comes from encodings accepted under the store's
+/// root.
 ///
-/// A seat that is handed to a call is one of this store's. A mask is of the chunks of a group: bit j stands for chunk
-/// 64 * group + j. Chunk c of the store is chunk base + c of the blob, and position q is the blob's byte 1,024 * base + q. In a
-/// store that [`new`](Assembly::new) makes the base is 0, and in one of [`from_chunk`](Assembly::from_chunk) it is that chunk.
+/// Chunk c of the store is chunk base + c of the blob, and offset q of the store is byte 1,024 * base + q of
+/// the blob. The base is 0 for [`new`](Assembly::new), and an argument of [`from_chunk`](Assembly::from_chunk).
+/// In a mask of a group's chunks, bit j stands for chunk 64 * group + j.
 ///
-/// Each call that is not refused is an event of one history of the store, legal at its place. A seat has seen a history
-/// that begins with all that it had seen before, and in which each of its own calls stands once.
+/// Each call takes a seat of this store. Each call that isn't refused linearizes: it is an event of one legal
+/// history of the store. The history that a seat has seen only grows, and has each of the seat's own calls
+/// once.
 #[derive(Drop)]
 pub struct Assembly {
     words: Words,
@@ -27,7 +29,9 @@ pub struct Assembly {
 impl Assembly {
     ghost use Rattle.bao_check.specs.Tail.{tail_piece};
     ghost use Rattle.store_core.specs.declared.history.Call.TheVariants.{Commit, Give, Length, Parents, Serve, Take};
+    ghost use Rattle.store_core.specs.declared.history.Serving.{Serving};
     ghost use Rattle.store_core.specs.declared.history.Serving.TheVariants.{Text};
+    ghost use Rattle.store_core.specs.Histories.{state_after};
     ghost use Rattle.store_core.specs.declared.history.Storing.TheVariants.{Stored};
     ghost use Rattle.store_calls.specs.Parents.{AreAllParents, SeatParentsBind};
     ghost use Rattle.store_calls.specs.Serving.{SeatIsRefused, SeatSliceBinds, SeatSliceIsAccepted};
@@ -38,12 +42,12 @@ impl Assembly {
     ghost use Rattle.store_calls.specs.Reading.{SeatDidRead, SeatReadBinds};
     ghost use Rattle.store_shared.specs.Calls.{AreParentsHeld, HasSliceHeld, SeatIsUnstored, SeatLengthBinds, SeatSettles};
     ghost use Rattle.store_shared.specs.Seats.{IsGroupOf, IsSeatOf, fixed_of};
-    ghost use Rattle.store_core.specs.Knowledge.{AreAllNames, AreMet, ArePartsOf, Called, IsMerged, KeepsClaims, LooksRound, NoneIsClaimedByBoth, opening_view};
+    ghost use Rattle.store_core.specs.Knowledge.{AreAllNames, AreMet, ArePartsOf, Called, IsMerged, KeepsClaims, LooksRound, NoneIsClaimedByBoth, Sees, opening_view};
 
-    /// A store of a whole blob that holds, claims and records nothing, and its first seat, which has seen nothing. `capacity`
-    /// is a number of chunks.
+    /// Returns an empty store of a whole blob, and its first seat, which has seen nothing.
     ///
-    /// 802 `Capacity` unless it is 1 to 65,536, asked before all else, and 801 `Memory`. Nothing is left behind.
+    /// Refuses with 802 `Capacity`, tested first, unless `capacity`, in chunks, is 1 to 65,536, and with 801
+    /// `Memory`. It keeps no memory then.
     pub fn new(
         alloc: Global,
         root: Hash,
@@ -58,12 +62,11 @@ impl Assembly {
         Assembly::from_chunk(alloc, root, mode, 0, capacity)
     }
 
-    /// A store of a part of a blob, of the `capacity` chunks from chunk `base` of the blob on, and its first seat: it counts
-    /// chunks, groups and positions from there. A blob's length is recorded by a store of its first chunks alone, so where `base`
-    /// isn't 0 no parents are stored and no slices served.
+    /// Returns an empty store of the `capacity` chunks of a blob from chunk `base` on, and its first seat.
     ///
-    /// 802 `Capacity` unless `capacity` is 1 to 65,536 and `base` at most 2^54, asked before all else, and 801 `Memory`.
-    /// Nothing is left behind.
+    /// Chunks, groups and offsets are counted from `base`. Only a store with the base 0 records a length, so no
+    /// other stores parents or serves slices. Refuses with 802 `Capacity`, tested first, unless `capacity` is 1
+    /// to 65,536 and `base` at most 2^54, and with 801 `Memory`. It keeps no memory then.
     pub fn from_chunk(
         alloc: Global,
         root: Hash,
@@ -84,44 +87,45 @@ impl Assembly {
         Ok((Assembly { words, alloc }, Seat { grip, claims }))
     }
 
-    /// The root of the blob.
+    /// Returns the root of the blob.
     pub fn root(&self) -> Hash
         ensures { result ≡ (fixed_of self.now).root }
     {
         self.words.fixed().root
     }
 
-    /// The mode of the blob.
+    /// Returns the mode of the blob.
     pub fn mode(&self) -> Mode
         ensures { result ≡ (fixed_of self.now).mode }
     {
         self.words.fixed().mode
     }
 
-    /// How many chunks the store has room for.
+    /// Returns the capacity in chunks.
     pub fn capacity(&self) -> u32
         ensures { result ≡ (fixed_of self.now).capacity }
     {
         self.words.fixed().capacity
     }
 
-    /// The chunk of the blob that is the store's chunk 0.
+    /// Returns the index in the blob of the store's chunk 0.
     pub fn base(&self) -> u64
         ensures { result ≡ (fixed_of self.now).base }
     {
         self.words.fixed().base
     }
 
-    /// How many groups of 64 chunks there are; the last may have less.
+    /// Returns how many groups of 64 chunks there are; the last may have fewer.
     pub fn groups(&self) -> u32
         ensures { result ≡ groups (fixed_of self.now) }
     {
         self.capacity().div_ceil(GROUP_LEN)
     }
 
-    /// Splits a seat in two. The first keeps its claims and its calls. The second has seen the same and has neither.
+    /// Splits a seat in two. The first keeps the claims and the calls. The second has seen the same history and
+    /// has neither.
     ///
-    /// 806 when out of memory: the seat comes back as it was.
+    /// Refuses with 806 if out of memory, and returns the seat unchanged.
     pub fn split(&self, seat: Seat) -> Result<(Seat, Seat), SplitFault>
         requires of { IsSeatOf self.now seat }
         ensures of { IfOk result (λ parts. IsSeatOf self.now parts.0 × IsSeatOf self.now parts.1) }
@@ -149,8 +153,8 @@ impl Assembly {
         }
     }
 
-    /// Joins two seats to one, with the claims and the calls of both. What it has seen begins with what each had seen. It
-    /// takes no memory.
+    /// Joins two seats into one, with the claims and the calls of both. The history that it has seen begins
+    /// with what each had seen. It doesn't allocate.
     pub fn join(&self, first: Seat, second: Seat) -> Seat
         requires first { IsSeatOf self.now first }
         requires second { IsSeatOf self.now second }
@@ -167,8 +171,8 @@ impl Assembly {
         Seat { grip, claims }
     }
 
-    /// Sees all that was called so far, and makes no call. Where the seat has all names that there are, as one with which
-    /// all others were joined, no other call was made than its own. It takes no memory.
+    /// Sees all calls made so far, and makes none. For a seat with all existing names, as one that all others
+    /// were joined with, these are its own. It doesn't allocate.
     pub fn look_round(&self, seat: &mut Seat)
         requires of { IsSeatOf self.now seat.old }
         ensures of { IsSeatOf self.now seat.new }
@@ -177,8 +181,8 @@ impl Assembly {
         self.words.look_round(&mut seat.grip);
     }
 
-    /// Lets two seats meet: afterwards both have seen one history, which begins with what each had seen. Their calls and
-    /// claims stay as they are, and no chunk is claimed by both. It takes no memory.
+    /// Lets two seats meet: afterwards both have seen one history, which begins with what each had seen. Their
+    /// calls and claims are unchanged, and no chunk is claimed by both. It doesn't allocate.
     pub fn meet(&self, first: &mut Seat, second: &mut Seat)
         requires first { IsSeatOf self.now first.old }
         requires second { IsSeatOf self.now second.old }
@@ -192,10 +196,10 @@ impl Assembly {
         self.words.meet(&mut first.grip, &mut second.grip);
     }
 
-    /// Claims the wanted chunks of a group that are below the capacity and neither held nor claimed, and answers their
-    /// mask. A chunk that the seat claims already isn't granted again. It takes no memory.
+    /// Claims those wanted chunks of a group that are below the capacity and neither held nor claimed, and
+    /// returns their mask. A chunk that the seat already claims isn't granted again. It doesn't allocate.
     ///
-    /// 803 `NoGroup` where there is no such group. Nothing is then asked.
+    /// Refuses with 803 `NoGroup` if there is no such group; there is then no event.
     pub fn take(&self, seat: &mut Seat, group: u32, want: u64) -> Result<u64, NoGroup>
         requires of { IsSeatOf self.now seat.old }
         ensures of { IsSeatOf self.now seat.new }
@@ -211,8 +215,8 @@ impl Assembly {
         Ok(granted)
     }
 
-    /// Ends the seat's claims among the mask of a group, and answers the mask of those that it had: 0 for a group that
-    /// isn't there. It takes no memory.
+    /// Ends the seat's claims to chunks of `mask`, and returns the mask of those that it had: 0 if there is no
+    /// such group. It doesn't allocate.
     pub fn give(&self, seat: &mut Seat, group: u32, mask: u64) -> u64
         requires of { IsSeatOf self.now seat.old }
         ensures of { IsSeatOf self.now seat.new }
@@ -228,13 +232,14 @@ impl Assembly {
         given
     }
 
-    /// Stores exactly the chunks of a group that the seat claims and the piece holds, ends these claims, and answers
-    /// their mask: 0 for a group that isn't there. It takes no memory.
+    /// Stores exactly those chunks of a group that the seat claims and the accepted slice has, ends these
+    /// claims, and returns their mask: 0 if there is no such group. It doesn't allocate.
     ///
-    /// 804 `OtherRoot`, asked before all else, where the piece is of another root or mode. Nothing is then asked.
+    /// Refuses with 804 `OtherRoot` if the slice has another root or mode, tested first; there is then no
+    /// event.
     ///
-    /// For each blob with the store's root, each chunk stored is the blob's chunk of that number, counted from the store's
-    /// first; or a collision is exhibited, one input of the blob's and one of the piece's.
+    /// For every blob with the store's root, each chunk stored is the blob's chunk of that index, counted from
+    /// the base; or the contract exhibits a collision, one input from the blob and one from the slice.
     pub fn commit(&self, seat: &mut Seat, group: u32, piece: &Checked<'_>) -> Result<u64, OtherRoot>
         requires of { IsSeatOf self.now seat.old }
         ensures of { IsSeatOf self.now seat.new }
@@ -256,14 +261,14 @@ impl Assembly {
         Ok(committed)
     }
 
-    /// Records the length in bytes that a piece with the last chunk certifies, if none is recorded: `Settled`. Else it
-    /// says whether the same was recorded, `Known`, or another, `Differs`. It takes no memory.
+    /// Records the blob's length in bytes that the tail certifies. It doesn't allocate.
     ///
-    /// 804 `OtherRoot`, asked before all else, where the piece is of another root or mode, and 805 `TooLarge` where the
-    /// length is above 1,024 times the capacity, or the store's first chunk isn't the blob's. Nothing is then asked.
+    /// Returns `Settled` if none was recorded, `Known` if the same was, and `Differs` if another was, which
+    /// stays. Returns `OtherRoot` (804), tested first, if the tail has another root or mode, and `TooLarge`
+    /// (805) if the length is above 1,024 times the capacity, or if the base isn't 0; there is then no event.
     ///
-    /// For each blob with the store's root, the length of a piece that isn't `OtherRoot` is the blob's; or a collision is
-    /// exhibited, one input of the blob's and one of this piece's.
+    /// For every blob with the store's root, the length of a tail that isn't `OtherRoot` is the blob's; or the
+    /// contract exhibits a collision, one input from the blob and one from the tail.
     pub fn settle(&self, seat: &mut Seat, tail: &Tail<'_>) -> Settling
         requires of { IsSeatOf self.now seat.old }
         ensures of { IsSeatOf self.now seat.new }
@@ -283,16 +288,20 @@ impl Assembly {
         self.words.settle(&mut seat.grip, tail)
     }
 
-    /// Stores parents of the piece at boundaries of a group, and answers their mask: bit j stands for the parent whose right
-    /// part begins at chunk 64 * group + j. They are parents that the piece holds, and that nobody holds or is storing
-    /// yet: 0 for a group that isn't there. A seat with all names that there are stores all that it has not seen held, so
-    /// that then the piece's parents at boundaries of the group are all held. It takes no memory.
+    /// Stores parents of the accepted slice at boundaries of a group, and returns their mask: bit j stands for
+    /// the parent whose right child begins at chunk 64 * group + j. It doesn't allocate.
     ///
-    /// 804 `OtherRoot`, asked before all else, where the piece is of another root or mode: nothing is then asked. 807
-    /// `OtherLength` where the length that it claims isn't the recorded one, or there is none.
+    /// Parents that are held, or that another seat is storing at that moment, are left out. A seat with all
+    /// existing names stores all that it hasn't seen held, so that afterwards all the slice's parents at the
+    /// group's boundaries are held. The mask is 0 if there is no such group.
     ///
-    /// For each blob with the store's root, each parent that is then seen held is the blob's parent there; or
-    /// a collision is exhibited, one input of the blob's and one of the piece's that this parent or the recorded length is of.
+    /// Refuses with 804 `OtherRoot`, tested first, if the slice has another root or mode; there is then no
+    /// event. Refuses with 807 `OtherLength` if the slice claims another length than the recorded one, or none
+    /// is recorded.
+    ///
+    /// For every blob with the store's root, each parent that is then seen held is the blob's parent there; or
+    /// the contract exhibits a collision, one input from the blob and one from the slice that the parent or the
+    /// recorded length came from.
     pub fn commit_parents(
         &self,
         seat: &mut Seat,
@@ -319,17 +328,20 @@ impl Assembly {
         }
     }
 
-    /// The encoding of the slice (`start`, `len`) of the blob: the recorded length, and the bytes of the slice's nodes.
+    /// Returns the encoding of the slice (`start`, `len`) of the blob: the recorded length, and the bytes of
+    /// the slice's nodes.
     ///
-    /// 808 `NoLength` where no length is recorded, 809 `Lacking` with the first node in the encoding's order that isn't held,
-    /// and 810 `Memory`, where the seat has seen more and made no call. Where the seat has seen a length recorded and all nodes
-    /// of the slice held, memory alone may refuse it.
+    /// Refuses with 808 `NoLength` if no length is recorded, with 809 `Lacking` and the first node, in the
+    /// order of the encoding, that isn't held, and with 810 `Memory`, which is no event: the seat has only seen
+    /// more. If the seat has seen a length recorded and all nodes of the slice held, it can only be refused for
+    /// memory.
     ///
-    /// For each blob with the store's root it is the blob's slice; or a collision is exhibited, one input of the blob's and one
-    /// of the piece's that a node of this slice or the recorded length is of. Under any root, a blob's hash or not, it is accepted
-    /// as this slice; or a chunk of it was committed of a piece that claims another length than that by which the length was
-    /// settled, or at a parent of it a collision is exhibited, one input of the piece that the parent was stored of and one of
-    /// another that a node of the slice or the length is of.
+    /// For every blob with the store's root it is the blob's slice; or the contract exhibits a collision, one
+    /// input from the blob and one from the slice that a node or the recorded length came from. Under any root,
+    /// a blob's hash or not, it is accepted as this slice; or one of its chunks was committed from a slice that
+    /// claims another length than the one that settled the length; or at one of its parents a collision is
+    /// exhibited, one input from the slice that the parent came from and one from another that a node or the
+    /// length came from.
     pub fn serve_slice(&self, seat: &mut Seat, start: u64, len: u64) -> Result<Vec<u8>, ServeFault>
         requires of { IsSeatOf self.now seat.old }
         ensures of { IsSeatOf self.now seat.new }
@@ -342,10 +354,26 @@ impl Assembly {
         serve_slice(self.alloc, &self.words, &mut seat.grip, start, len)
     }
 
-    /// The recorded length in bytes, if there is one: there is none where the store's base isn't 0. It takes no memory.
+    /// Returns whether the parent whose right child begins with chunk `boundary` is held. It doesn't allocate.
     ///
-    /// For each blob with the store's root it is the blob's length; or a collision is exhibited, one input of the blob's
-    /// and one of the piece's by which it was settled.
+    /// If it is held, the seat has seen it. If not, the call linearizes as a Serve of the slice of that chunk's
+    /// first byte, which lacks it.
+    pub fn has_parent(&self, seat: &mut Seat, boundary: u32) -> bool
+        requires of { IsSeatOf self.now seat.old }
+        requires boundary { boundary < (fixed_of self.now).capacity }
+        ensures of { IsSeatOf self.now seat.new }
+        ensures held { result ≡ is_some ((state_after seat.new.view.seen).parents boundary) }
+        ensures seen { result ≡ true → Sees seat.old.view seat.new.view }
+        ensures lacked { result ≡ false → (answer : Serving) × Called (Serve (1024 * boundary) 1 answer) seat.old.view seat.new.view }
+    {
+        has_parent(&self.words, &mut seat.grip, boundary)
+    }
+
+    /// Returns the recorded length in bytes, if there is one; there is none if the base isn't 0. It doesn't
+    /// allocate.
+    ///
+    /// For every blob with the store's root it is the blob's length; or the contract exhibits a collision, one
+    /// input from the blob and one from the slice by which it was settled.
     pub fn length(&self, seat: &mut Seat) -> Option<u64>
         requires of { IsSeatOf self.now seat.old }
         ensures of { IsSeatOf self.now seat.new }
@@ -359,14 +387,15 @@ impl Assembly {
         self.words.length(&mut seat.grip)
     }
 
-    /// Fills `out` with the bytes from position `at` on, in bytes. It takes no memory.
+    /// Fills `out` with the bytes from offset `at` on. It doesn't allocate.
     ///
-    /// `Missing(p)`: p is the least position of the range that isn't held. The bytes before it are filled in, and the
-    /// rest of `out` is unchanged. A position is held if its chunk is and has more bytes than come before it there;
-    /// none at or above 1,024 times the capacity is. An empty buffer is Ok.
+    /// Refuses with `Missing(p)` if the range isn't all held, where p is the least offset that isn't: the bytes
+    /// before p are filled in, and the rest of `out` is unchanged. An offset is held if its chunk is held and
+    /// long enough; none from 1,024 times the capacity on is. An empty `out` is never refused.
     ///
-    /// For each blob with the store's root, each byte filled in is the blob's byte there, counted from the store's first; or a
-    /// collision is exhibited, one input of the blob's and one of a piece's that was committed.
+    /// For every blob with the store's root, each byte filled in is the blob's byte at that offset, counted
+    /// from the base; or the contract exhibits a collision, one input from the blob and one from a slice that
+    /// was committed.
     pub fn read(&self, seat: &mut Seat, at: u64, out: &mut [u8]) -> Result<(), Missing>
         requires of { IsSeatOf self.now seat.old }
         ensures of { IsSeatOf self.now seat.new }

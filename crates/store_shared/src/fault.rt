@@ -9,7 +9,7 @@ use thiserror::Error;
 pub struct NoGroup;
 
 impl NoGroup {
-    /// The fault's number: 803.
+    /// Returns the number of the fault: 803.
     pub fn code(&self) -> u16
         ensures { result ≡ 803 }
     {
@@ -17,13 +17,13 @@ impl NoGroup {
     }
 }
 
-/// The piece is of another root or mode. Number 804.
+/// The accepted slice has another root or mode. Number 804.
 #[derive(Clone, Copy, Debug, PartialEq, Eq, Error)]
 #[error("804 other root")]
 pub struct OtherRoot;
 
 impl OtherRoot {
-    /// The fault's number: 804.
+    /// Returns the number of the fault: 804.
     pub fn code(&self) -> u16
         ensures { result ≡ 804 }
     {
@@ -34,10 +34,10 @@ impl OtherRoot {
 /// Why parents were not stored.
 #[derive(Clone, Copy, Debug, PartialEq, Eq, Error)]
 pub enum ParentsFault {
-    /// The piece is of another root or mode. Number 804.
+    /// The accepted slice has another root or mode. Number 804.
     #[error("804 other root")]
     OtherRoot,
-    /// The recorded length isn't the one that the piece claims, or there is none. Number 807.
+    /// The accepted slice claims another length than the recorded one, or none is recorded. Number 807.
     #[error("807 other length")]
     OtherLength,
 }
@@ -45,7 +45,7 @@ pub enum ParentsFault {
 impl ParentsFault {
     ghost use Rattle.store_shared.specs.Calls.{number_of};
 
-    /// The fault's number: 804 or 807.
+    /// Returns the number of the fault: 804 or 807.
     pub fn code(&self) -> u16
         ensures { result ≡ number_of self.now }
     {
@@ -56,14 +56,14 @@ impl ParentsFault {
     }
 }
 
-/// Out of memory: the seat is given back as it was. Number 806.
+/// Out of memory: the seat is returned unchanged. Number 806.
 #[derive(Drop)]
 pub struct SplitFault {
     pub seat: Seat,
 }
 
 impl SplitFault {
-    /// The fault's number: 806.
+    /// Returns the number of the fault: 806.
     pub fn code(&self) -> u16
         ensures { result ≡ 806 }
     {

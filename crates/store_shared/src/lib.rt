@@ -1,5 +1,5 @@
-//! A store of one blob's chunks that many threads share, each with a seat of its own: what a caller has of the store, with
-//! its claims and all that it has seen.
+//! A store of one blob's chunks that many threads share, each with a seat of its own: its claims, and all that
+//! it has seen.
 #![tactic(auto)]
 
 pub use assembly::Assembly;

@@ -1,8 +1,10 @@
 use std::marker::Model;
 use store_calls::Grip;
 
-/// A seat of a shared store: one thread's token, with which it makes its calls. Contracts see which store it is of and
-/// its view, what it knows. It keeps which chunks it claims, one word a group.
+/// A seat of a shared store: one thread's token for its calls, with the mask of the chunks that it claims in
+/// each group.
+///
+/// Contracts refer to its store and to its view, what it knows.
 #[derive(Drop)]
 pub struct Seat {
     pub(crate) grip: Grip,

@@ -1,4 +1,4 @@
--- What steps ask of their caller.
+-- What steps require of their caller.
 use Rattle.std.specs.Prelude.{◌≡◌, ℕ, ◌+◌, ◌*◌, ◌%◌, ◌<◌, true, ◌&&◌, List, [], ◌∷◌, Some}
 use Rattle.store_core.specs.declared.history.Piece.{Piece}
 use Rattle.store_core.specs.declared.view.SeatView.{SeatView}
@@ -11,16 +11,17 @@ use Rattle.store_steps.specs.Kinds.{Kind, bytes_in, parent_kind, width, word_of,
 abbrev pub AreClaimed : SeatView → ℕ → ℕ → ℕ → Type 0
 AreClaimed view group mask given = IsMaskOf group given (λ c. has_bit mask (c % 64) && seat_claims view c)
 
--- the chunks of the group that the seat claims and the piece holds
+-- the chunks of the group that the seat claims and the slice has
 abbrev pub AreHeldClaims : SeatView → ℕ → Piece → ℕ → Type 0
 AreHeldClaims view group piece mask = IsMaskOf group mask (λ c. seat_claims view c && holds_chunk piece c)
 
--- of each item of the mask all words were stored, with the piece's bytes
+-- all words of each item in the mask were stored, with the slice's bytes
 abbrev pub AreWordsStored : Kind → SeatView → ℕ → ℕ → Piece → Type 0
 AreWordsStored kind view group mask piece = (n w : ℕ) (bytes : List ℕ) → in_mask group mask n ≡ true → bytes_in kind piece n ≡ Some bytes → w < width kind
     → stored (words_of kind view) (width kind * n + w) ≡ Some (word_of kind bytes w)
 
--- what the seat is storing are these boundaries of the group, the piece holds their parents, and of each all 8 words were stored
+-- the seat is storing the parents at these boundaries of the group, the slice has them, and all 8 words of each
+-- were stored
 pub record AreParentsWritten (view : SeatView) (group mask : ℕ) (piece : Piece) : Type 0 where
   pub only : view.storing ≡ record { group = group; mask = mask } ∷ []
   pub held : (m : ℕ) → in_mask group mask m ≡ true → holds_parent piece m ≡ true

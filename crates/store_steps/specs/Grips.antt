@@ -4,7 +4,7 @@ use Rattle.atomic_table.specs.Seated.{TableId}
 use Rattle.b3tree.specs.Modes.{plain}
 use Rattle.store_core.specs.declared.view.SeatView.{SeatView}
 
--- what a grip is: of which table it is a seat, and what it knows
+-- the table that a grip is a seat of, and what it knows
 pub record Gripped : Type 0 where
   pub table_id : TableId
   pub view : SeatView

@@ -1,4 +1,4 @@
--- The kinds of items that stand in a store word by word, and that a view counts as stored word by word.
+-- The kinds of items that are stored word by word, and whose stored words a view counts.
 use Rattle.std.specs.Prelude.{◌≡◌, ℕ, ◌<◌, true, List, Option}
 use Rattle.store_core.specs.declared.fixed.Fixed.{Fixed}
 use Rattle.store_core.specs.declared.history.Piece.{Piece}
@@ -20,7 +20,7 @@ abbrev pub width : Kind → ℕ
 width chunk_kind = 129
 width parent_kind = 8
 
--- where the word with a number stands
+-- where the word with a number is
 abbrev pub word_place : Kind → Fixed → ℕ → ℕ
 word_place chunk_kind fixed number = cell_place fixed number
 word_place parent_kind fixed number = parent_word_place fixed number
@@ -30,7 +30,7 @@ abbrev pub word_of : Kind → List ℕ → ℕ → ℕ
 word_of chunk_kind bytes w = cell_word bytes w
 word_of parent_kind bytes w = parent_word bytes w
 
--- which bytes a piece has for an item, and which are held
+-- the bytes of an item in a slice, and those held
 abbrev pub bytes_in : Kind → Piece → ℕ → Option (List ℕ)
 bytes_in chunk_kind piece n = chunk_bytes piece n
 bytes_in parent_kind piece n = parent_bytes piece n
@@ -39,7 +39,7 @@ abbrev pub held_in : Kind → State → ℕ → Option (List ℕ)
 held_in chunk_kind s n = s.held n
 held_in parent_kind s n = s.parents n
 
--- which words a view counts as stored, and the view with others in their place
+-- the words that a view counts as stored, and the view with others in their place
 abbrev pub words_of : Kind → SeatView → List StoredWord
 words_of chunk_kind view = view.written
 words_of parent_kind view = view.parent_words
@@ -48,7 +48,8 @@ abbrev pub with_words : Kind → SeatView → List StoredWord → SeatView
 with_words chunk_kind view words = record view { written = words }
 with_words parent_kind view words = record view { parent_words = words }
 
--- the item whose words the seat may store: a chunk that it claims, or a boundary that there is, whose parent it is storing
+-- the seat may store the item's words: it is a chunk that the seat claims, or an existing boundary whose parent
+-- it is storing
 abbrev pub Owns : Kind → SeatView → ℕ → Type 0
 Owns chunk_kind view c = seat_claims view c ≡ true
 Owns parent_kind view m = (is_storing view m ≡ true) × (m < view.fixed.capacity)

@@ -1,5 +1,6 @@
--- Where the words of a store stand: the held words of all groups, their claim words, the chunks' cells, the length word;
--- and after these, of parents: the held words of all groups of boundaries, their claim words, the parents' cells.
+-- The order of a store's words: the held words of all groups, their claim words, the chunks' cells and the
+-- length word; then for parents: the held words of all groups of boundaries, their claim words and the parents'
+-- cells.
 use Rattle.std.specs.Prelude.{ℕ, ◌+◌, ◌*◌, List, Option, None, Some, slice_index, take, drop}
 use Rattle.std.specs.Int.{w64, from_le_bytes}
 use Rattle.store_core.specs.declared.fixed.Fixed.{Fixed}
@@ -15,7 +16,7 @@ cell_place fixed number = 2 * groups fixed + number
 abbrev pub length_place : Fixed → ℕ
 length_place fixed = cell_place fixed (129 * fixed.capacity)
 
--- the first place of parents
+-- the index of the first word for parents
 abbrev pub parents_place : Fixed → ℕ
 parents_place fixed = length_place fixed + 1
 

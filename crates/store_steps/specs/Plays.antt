@@ -1,4 +1,5 @@
--- What each kind of step tells, as the table asks it: of the step, the seat before, the number found and the seat after.
+-- What each kind of step establishes, in the form that the table requires: from the step, the seat before, the
+-- number found and the seat after.
 use Rattle.std.specs.Prelude.{◌≡◌, ℕ, ◌-◌, ◌/◌, ◌%◌, ◌==◌, Bool, not, ◌&&◌, if◌then◌else◌, List, [], ◌∷◌, Option, None, Some, is_some, bit_and}
 use Rattle.std.specs.Int.{w64, bit_not}
 use Rattle.atomic_table.specs.Table.{Me}
@@ -19,7 +20,7 @@ use Rattle.store_steps.specs.Reads.{read_events}
 use Rattle.store_steps.specs.Slices.{node_events, node_number, unserved_events, unstored_events}
 use Rattle.store_steps.specs.Tells.{FindsHeld, FindsWord, IsStoringNow}
 
--- a seat with one view has one afterwards, of which this is told
+-- a seat with one view has one afterwards, and `Told` holds of the two
 abbrev pub OfOne : (SeatView → SeatView → Type 0) → Me Unit (List SeatView) → Me Unit (List SeatView) → Type 0
 OfOne Told me later = (view : SeatView) → me.0 ≡ view ∷ []
     → (new : SeatView) × (later.0 ≡ new ∷ []) × (later.1 ≡ me.1) × Told view new
@@ -28,7 +29,7 @@ OfOne Told me later = (view : SeatView) → me.0 ≡ view ∷ []
 abbrev pub no_piece : Piece
 no_piece = record { base = 0; start = 0; len = 0; text = [] }
 
--- `asked` are the wanted chunks below the capacity, of which those are granted whose bit wasn't set
+-- `asked` are the wanted chunks below the capacity; those whose bit wasn't set are granted
 abbrev pub TakesChunks : ℕ → ℕ → ℕ → ℕ → SeatView → SeatView → Type 0
 TakesChunks group want asked found old new = Did (Take group want (bit_and asked (bit_not w64 found))) old new
 
@@ -50,21 +51,21 @@ pub record LoadsNode (node : Node) (last : Bool) (start len found : ℕ) (old ne
   pub looked : Looked (node_events old node last start len) old new
   pub finds : has_bit found (node_number node % 64) ≡ is_some (node_held (state_after new.seen) node)
 
--- The seat, which was storing no parents, is storing those of the boundaries asked for whose bit wasn't set. Nothing else
--- changes. Where it has all names that there are, each call that it has seen is its own, and the bits that were set are those
--- of the boundaries whose parents it has seen held.
+-- The seat, which was storing no parents, is now storing those at the boundaries asked for whose bit wasn't
+-- set. Nothing else changes. If it has all existing names, each call that it has seen is its own, and the bits
+-- that were set are those of the boundaries whose parents it has seen held.
 pub record ClaimsParents (group asked found : ℕ) (old new : SeatView) : Type 0 where
   pub stores : IsStoringNow group (bit_and asked (bit_not w64 found)) old new
   pub own : AreAllNames old.names → mine old ≡ old.seen
   pub free : AreAllNames old.names → (m : ℕ) → m / 64 ≡ group
       → has_bit (bit_and asked (bit_not w64 found)) (m % 64) ≡ (has_bit asked (m % 64) && not (is_some ((state_after old.seen).parents m)))
 
--- Parents of the piece are stored: the seat is storing none afterwards.
+-- Parents of the slice are stored, and the seat is storing none afterwards.
 pub record PublishesParents (group : ℕ) (piece : Piece) (mask : ℕ) (old new : SeatView) : Type 0 where
   pub called : EndsStoring (Parents group piece (Stored mask)) old new
   pub written_are : new.written ≡ old.written
 
--- the length that a word stands for
+-- the length that a word encodes
 abbrev pub length_in : ℕ → Option ℕ
 length_in word = if word == 0 then None else Some (word - 1)
 
@@ -87,7 +88,7 @@ pub record PartsInTwo (old new : SeatView) : Type 0 where
   pub same : new ≡ old
   pub parts : ArePartsOf old (split_first old) (split_second old)
 
--- a seat with two views tells this of what it has afterwards
+-- `Told` holds of a seat's two views and of the views that it has afterwards
 abbrev pub OfTwo : (SeatView → SeatView → List SeatView → Type 0) → Me Unit (List SeatView) → Me Unit (List SeatView) → Type 0
 OfTwo Told me later = (first second : SeatView) → me.0 ≡ first ∷ second ∷ [] → Told first second later.0 × (later.1 ≡ me.1)
 
@@ -102,7 +103,7 @@ pub record MeetsSeat (first second : SeatView) (later : List SeatView) : Type 0 
   pub is : later ≡ new_first ∷ new_second ∷ []
   pub met : AreMet first second new_first new_second
 
--- the second of a seat's views, and those after the first
+-- a seat's second view, and the views after the first
 abbrev pub later_views : List SeatView → List SeatView
 later_views [] = []
 later_views (view ∷ views) = views

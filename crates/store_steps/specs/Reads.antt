@@ -7,16 +7,16 @@ use Rattle.store_core.specs.declared.view.SeatView.{SeatView}
 use Rattle.store_core.specs.States.{State, read_bytes}
 use Rattle.store_core.specs.Knowledge.{event_of}
 
--- where a read ends at the latest: at the end of its range, or of the positions that the store has room for
+-- where a read ends at the latest: at the end of its range, or of the store's capacity
 abbrev pub read_end : Fixed → ℕ → ℕ → ℕ
 read_end fixed at len = min (at + len) (1024 * fixed.capacity)
 
--- where the positions of a group end
+-- the offset at which a group ends
 abbrev pub group_end : ℕ → ℕ
 group_end group = 65536 * (group + 1)
 
--- The load of this group is the read's last where it asks for no position that could be held, where it ends in this
--- group or before it, and where a byte before the group's end isn't held.
+-- The load of this group is the read's last if no offset is asked for that could be held, if the read ends in
+-- this group or before it, or if a byte before the group's end isn't held.
 abbrev pub is_last : Fixed → ℕ → ℕ → ℕ → State → Bool
 is_last fixed group at len s =
     nat_le (read_end fixed at len) at

@@ -1,4 +1,5 @@
--- Each step on the words is the machine's step of its name, and what is no step of the machine leaves it.
+-- Each step on the words is the machine's step of the same name; what is no step of the machine doesn't change
+-- it.
 use Rattle.std.specs.Prelude.{◌≡◌, ◌⊎◌, ℕ, ◌+◌, ◌*◌, ◌%◌, ◌^◌, ◌<◌, nat_lt, ◌==◌, true, false, ◌&&◌, List, [], ◌∷◌, Option, None, Some, bit_and, bit_or, ◌++◌, replicate, slice_index, slice_set, if◌then◌else◌}
 use Rattle.std.specs.Int.{bit_not, w64}
 use prog.Atomic.{either}
@@ -32,7 +33,7 @@ use Rattle.store_steps.specs.Reads.{read_events}
 use Rattle.store_steps.specs.Rule.{RuleHolds}
 use Rattle.store_steps.specs.Tells.{Stores}
 
--- Take is Claim: an or on the claim word with the wanted chunks below the capacity.
+-- Take is Claim: an `or` on the claim word with the wanted chunks below the capacity.
 abbrev pub TakeIsClaim : Type 0
 TakeIsClaim = (fixed : Fixed) (pieces : List Checked) (table : Table Unit (List SeatView)) (m : Machine) (seat group want asked : ℕ) (view new : SeatView)
     → IsAtMachine fixed pieces table m seat view → group < groups fixed → IsMaskOf group asked (λ c. has_bit want (c % 64) && nat_lt c fixed.capacity)
@@ -40,7 +41,7 @@ TakeIsClaim = (fixed : Fixed) (pieces : List Checked) (table : Table Unit (List 
     → IsMachineStep fixed pieces table (claim_place fixed group) (bit_or (claim_word fixed table.words group) asked) seat new m
     (Claim seat group want) (Some (Granted (bit_and asked (bit_not w64 (claim_word fixed table.words group)))))
 
--- Give is GiveBack: an and on the claim word.
+-- Give is GiveBack: an `and` on the claim word.
 abbrev pub GiveIsGiveBack : Type 0
 GiveIsGiveBack = (fixed : Fixed) (pieces : List Checked) (table : Table Unit (List SeatView)) (m : Machine) (seat group mask given : ℕ) (view new : SeatView)
     → IsAtMachine fixed pieces table m seat view → group < groups fixed → AreClaimed view group mask given
@@ -48,14 +49,15 @@ GiveIsGiveBack = (fixed : Fixed) (pieces : List Checked) (table : Table Unit (Li
     → IsMachineStep fixed pieces table (claim_place fixed group) (bit_and (claim_word fixed table.words group) (bit_not w64 given)) seat new m
     (GiveBack seat group mask) (Some (Given given))
 
--- A store of the word that the seat's current piece has there is Write.
+-- Storing the word that the seat's current slice has there is Write.
 abbrev pub StoreIsWrite : Type 0
 StoreIsWrite = (fixed : Fixed) (pieces : List Checked) (table : Table Unit (List SeatView)) (m : Machine) (seat c w value : ℕ) (view new : SeatView)
     → IsAtMachine fixed pieces table m seat view → w < 129 → seat_claims view c ≡ true → current_holds (m.seat seat).piece c ≡ true
     → value ≡ cell_word (current_bytes (m.seat seat).piece c) w → Stores chunk_kind c w value view new
     → IsMachineStep fixed pieces table (cell_place fixed (129 * c + w)) value seat new m (Write seat c w) None
 
--- Publish, of the seat's current piece, all of whose words were written: an or on the held word. So all were stored.
+-- Publish of the seat's current slice, all of whose words were written, and so stored, is Publish: an `or` on
+-- the held word.
 abbrev pub PublishIsPublish : Type 0
 PublishIsPublish = (fixed : Fixed) (pieces : List Checked) (table : Table Unit (List SeatView)) (m : Machine) (seat group mask : ℕ) (piece : Piece) (view new : SeatView)
     → IsAtMachine fixed pieces table m seat view → group < groups fixed → (m.seat seat).piece ≡ Some piece → IsWritten m seat group
@@ -63,7 +65,8 @@ PublishIsPublish = (fixed : Fixed) (pieces : List Checked) (table : Table Unit (
     → AreWordsStored chunk_kind view group mask piece
     × IsMachineStep fixed pieces table group (bit_or (held_word table.words group) mask) seat new m (Publish seat group) (Some (Committed mask))
 
--- Settle, by the seat's current piece, whose length the store has room for: an exchange of the length word where it is 0.
+-- Settle by the seat's current slice, whose length fits the store, is Settle: an exchange of the length word if
+-- that is 0.
 abbrev pub SettleIsSettle : Type 0
 SettleIsSettle = (fixed : Fixed) (pieces : List Checked) (table : Table Unit (List SeatView)) (m : Machine) (seat : ℕ) (piece : Piece) (view new : SeatView)
     → IsAtMachine fixed pieces table m seat view → (m.seat seat).piece ≡ Some piece → EndsBlob piece → has_room fixed (length_of piece) ≡ true
@@ -79,8 +82,8 @@ LengthIsLength = (fixed : Fixed) (pieces : List Checked) (table : Table Unit (Li
     → IsMachineStep fixed pieces table (length_place fixed) (length_word fixed table.words) seat new m
     (Length seat) (Some (LengthIs (length_in (length_word fixed table.words))))
 
--- A load of the held word of the group where a read goes on is Load, whatever the read's length. It is the read's last where
--- the machine's is, and then its event has the machine's bytes.
+-- A load of the held word of the group where a read continues is Load, whatever the read's length. It is the
+-- read's last exactly if the machine's is, and then its event has the machine's bytes.
 abbrev pub load_reply : Fixed → Machine → ℕ → ℕ → ℕ → Option Reply
 load_reply fixed m seat at len = if is_last_load fixed m seat at len then Some (end_reply (read_after fixed m seat at len)) else None
 
@@ -95,7 +98,7 @@ LoadIsLoad = (fixed : Fixed) (pieces : List Checked) (table : Table Unit (List S
     → IsMachineLoad fixed pieces table group (held_word table.words group) seat new m at len (load_reply fixed m seat at len)
     × (read_events view group at len (state_after (view.seen ++ loads.looked.between)) ≡ load_events fixed m seat at len view)
 
--- Words of zeros and the first seat's view stand for the machine's start.
+-- Words of zeros and the first seat's view represent the machine's start.
 abbrev pub OpeningIsStart : Type 0
 OpeningIsStart = (fixed : Fixed) → StandsForMachine fixed (opening (replicate (word_count fixed) 0) [] (opening_view fixed ∷ [])) start
 
@@ -104,53 +107,53 @@ abbrev pub HashIsNoStep : Type 0
 HashIsNoStep = (fixed : Fixed) (pieces : List Checked) (table : Table Unit (List SeatView)) (m : Machine) (seat i : ℕ) → AreTexts pieces
     → StandsForMachine fixed table m → IsLegalStep fixed pieces m (Hash seat i) → StandsForMachine fixed table (after_step fixed pieces m (Hash seat i) None)
 
--- The table after a load of a seat with one view: its words are left.
+-- The table after a load by a seat with one view: the words are unchanged.
 abbrev pub after_load : Table Unit (List SeatView) → ℕ → ℕ → SeatView → Table Unit (List SeatView)
 after_load table place seat new = stepped table place (slice_index table.words place) seat [] (new ∷ []) keeps
 
--- A load at which a seat sees the history leaves the machine, whatever events it has.
+-- A load at which a seat sees the history doesn't change the machine, whatever events it has.
 abbrev pub LookStays : Type 0
 LookStays = (fixed : Fixed) (pieces : List Checked) (table : Table Unit (List SeatView)) (m : Machine) (seat place : ℕ) (view new : SeatView) (events : State → List Event)
     → IsAtMachine fixed pieces table m seat view → Looked events view new → StandsForMachine fixed (after_load table place seat new) m
 
--- It is Settle where the length is one that the store has no room for.
+-- If the length doesn't fit the store, such a load is Settle.
 abbrev pub LookIsTooLarge : Type 0
 LookIsTooLarge = (fixed : Fixed) (pieces : List Checked) (table : Table Unit (List SeatView)) (m : Machine) (seat place : ℕ) (piece : Piece) (view new : SeatView)
     (events : State → List Event) → IsAtMachine fixed pieces table m seat view → (m.seat seat).piece ≡ Some piece → EndsBlob piece
     → has_room fixed (length_of piece) ≡ false → Looked events view new
     → IsMachineStep fixed pieces table place (slice_index table.words place) seat new m (Settle seat) (Some (Settling TooLarge))
 
--- A copy leaves the machine, and finds its word.
+-- A copy doesn't change the machine, and returns the machine's word.
 abbrev pub CopyStays : Type 0
 CopyStays = (fixed : Fixed) (pieces : List Checked) (table : Table Unit (List SeatView)) (m : Machine) (seat c w : ℕ) (view new : SeatView)
     → IsAtMachine fixed pieces table m seat view → c < fixed.capacity → w < 129 → CopiesWord chunk_kind c w (cell_at fixed table.words (129 * c + w)) view new
     → (cell_at fixed table.words (129 * c + w) ≡ m.cell c w) × StandsForMachine fixed (after_load table (cell_place fixed (129 * c + w)) seat new) m
 
--- So does a load that stands for a give or a commit of a group that isn't there.
+-- A load that stands for a give or a commit of a group that doesn't exist doesn't change the machine.
 abbrev pub AbsentStays : Type 0
 AbsentStays = (fixed : Fixed) (pieces : List Checked) (table : Table Unit (List SeatView)) (m : Machine) (seat place group mask : ℕ) (piece : Piece) (view new : SeatView)
     → IsAtMachine fixed pieces table m seat view → Gives group mask 0 view new ⊎ Publishes group piece 0 view new
     → StandsForMachine fixed (after_load table place seat new) m
 
--- The machine has no parents. So steps on their words leave it: a claim of parents,
+-- The machine has no parents, so claiming parents doesn't change it.
 abbrev pub ClaimParentsStays : Type 0
 ClaimParentsStays = (fixed : Fixed) (pieces : List Checked) (table : Table Unit (List SeatView)) (m : Machine) (seat group asked : ℕ) (view new : SeatView)
     → IsAtMachine fixed pieces table m seat view → ClaimsParents group asked (parent_claim_word fixed table.words group) view new
     → StandsForMachine fixed (stepped table (parent_claim_place fixed group) (bit_or (parent_claim_word fixed table.words group) asked) seat [] (new ∷ []) keeps) m
 
--- a store of a word of a parent,
+-- Storing a word of a parent doesn't change the machine.
 abbrev pub StoreParentStays : Type 0
 StoreParentStays = (fixed : Fixed) (pieces : List Checked) (table : Table Unit (List SeatView)) (m : Machine) (seat boundary w value : ℕ) (view new : SeatView)
     → IsAtMachine fixed pieces table m seat view → Stores parent_kind boundary w value view new
     → StandsForMachine fixed (stepped table (parent_word_place fixed (8 * boundary + w)) value seat [] (new ∷ []) keeps) m
 
--- a publish of parents,
+-- Publishing parents doesn't change the machine.
 abbrev pub PublishParentsStays : Type 0
 PublishParentsStays = (fixed : Fixed) (pieces : List Checked) (table : Table Unit (List SeatView)) (m : Machine) (seat group mask : ℕ) (piece : Piece) (view new : SeatView)
     → IsAtMachine fixed pieces table m seat view → PublishesParents group piece mask view new
     → StandsForMachine fixed (stepped table (parent_held_place fixed group) (bit_or (parent_held_word fixed table.words group) mask) seat [] (new ∷ []) keeps) m
 
--- and a copy of a word of one.
+-- Copying a word of a parent doesn't change the machine.
 abbrev pub CopyParentStays : Type 0
 CopyParentStays = (fixed : Fixed) (pieces : List Checked) (table : Table Unit (List SeatView)) (m : Machine) (seat boundary w : ℕ) (view new : SeatView)
     → IsAtMachine fixed pieces table m seat view → CopiesWord parent_kind boundary w (parent_at fixed table.words (8 * boundary + w)) view new
@@ -164,7 +167,7 @@ parted_table table seat view = record {
   views = slice_set table.views seat (split_first view ∷ []) ++ (split_second view ∷ []) ∷ [];
 }
 
--- A part leaves the machine, at its load and where the new seat comes: it claims nothing.
+-- Parting doesn't change the machine, neither by its load nor when the new seat appears, which claims nothing.
 abbrev pub PartStays : Type 0
 PartStays = (fixed : Fixed) (pieces : List Checked) (table : Table Unit (List SeatView)) (m : Machine) (seat place : ℕ) (view new : SeatView)
     → IsAtMachine fixed pieces table m seat view → PartsInTwo view new

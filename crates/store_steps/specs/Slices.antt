@@ -1,4 +1,4 @@
--- Loads for slices that are served, and for parents that are to be stored: which events stand at them.
+-- Loads for slices to serve and for parents to store: which events occur at them.
 use Rattle.std.specs.Prelude.{ℕ, ◌/◌, nat_lt, ◌==◌, Bool, false, ◌||◌, if◌then◌else◌, List, [], ◌∷◌, Option, None, Some, is_none}
 use Rattle.bao_text.specs.declared.walk.Node.{Node}
 use Rattle.bao_text.specs.declared.walk.Node.TheVariants.{Chunk, Parent}
@@ -15,22 +15,22 @@ use Rattle.store_core.specs.States.{State}
 use Rattle.store_steps.specs.Layout.{parent_held_place}
 use Rattle.store_core.specs.Knowledge.{event_of}
 
--- a chunk's number, or a parent's boundary
+-- a chunk's index, or a parent's boundary
 abbrev pub node_number : Node → ℕ
 node_number (Chunk c) = c
 node_number (Parent m) = m
 
--- where the held word with a node's bit stands
+-- where the held word with a node's bit is
 abbrev pub node_place : Fixed → Node → ℕ
 node_place fixed (Chunk c) = c / 64
 node_place fixed (Parent m) = parent_held_place fixed (m / 64)
 
--- A Serve at the load for a slice's last node, or for one that isn't held, and no event before.
+-- A Serve at the load for a slice's last node, or for a node that isn't held, and no event before.
 abbrev pub node_events : SeatView → Node → Bool → ℕ → ℕ → State → List Event
 node_events view node last start len s =
     if last || is_none (node_held s node) then event_of view (Serve start len (serving s start len)) ∷ [] else []
 
--- a Serve where no length is recorded
+-- a Serve if no length is recorded
 abbrev pub unserved_events : SeatView → ℕ → ℕ → State → List Event
 unserved_events view start len s = if is_none s.recorded then event_of view (Serve start len (serving s start len)) ∷ [] else []
 
@@ -39,8 +39,8 @@ abbrev pub is_recorded : Option ℕ → ℕ → Bool
 is_recorded None l = false
 is_recorded (Some known) l = known == l
 
--- Parents of a piece that claims another length than the recorded one aren't stored; and of a group that isn't there there
--- are none. Else no event stands here.
+-- A Parents event if the slice claims another length than the recorded one, so that its parents aren't stored,
+-- or if there is no such group; else no event.
 abbrev pub unstored_events : SeatView → ℕ → Piece → State → List Event
 unstored_events view group piece s =
     if is_recorded s.recorded (length_of piece)

@@ -1,4 +1,4 @@
--- What a step tells of its seat beside the call that it is: which words it stored, and what it found.
+-- What a step establishes about its seat besides the call: which words it stored, and what it found.
 use Rattle.std.specs.Prelude.{◌≡◌, ℕ, ◌+◌, ◌*◌, ◌/◌, ◌%◌, List, [], ◌∷◌, Some}
 use Rattle.store_core.specs.declared.view.SeatView.{SeatView}
 use Rattle.store_core.specs.Histories.{state_after}
@@ -10,7 +10,7 @@ use Rattle.store_steps.specs.Kinds.{Kind, held_in, width, with_words, word_of, w
 abbrev pub Stores : Kind → ℕ → ℕ → ℕ → SeatView → SeatView → Type 0
 Stores kind item w value old new = new ≡ with_words kind old (record { number = width kind * item + w; value = value } ∷ words_of kind old)
 
--- The seat is storing the parents of this mask of boundaries of the group, and nothing else changes.
+-- The seat is storing the parents at this mask of the group's boundaries, and nothing else changes.
 abbrev pub IsStoringNow : ℕ → ℕ → SeatView → SeatView → Type 0
 IsStoringNow group mask old new = new ≡ record old { storing = record { group = group; mask = mask } ∷ [] }
 

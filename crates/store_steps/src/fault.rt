@@ -9,8 +9,7 @@ pub enum NewFault {
     /// Out of memory. Number 801.
     #[error("801 memory")]
     Memory,
-    /// A store has room for 1 to 65,536 chunks, from one of the blob's on whose number is at most 2^54, and another was asked for.
-    /// Number 802.
+    /// The capacity isn't 1 to 65,536 chunks, or the base is above chunk 2^54. Number 802.
     #[error("802 capacity")]
     Capacity,
 }
@@ -28,7 +27,7 @@ impl From<AllocError> for NewFault {
 impl NewFault {
     ghost use Rattle.store_steps.specs.Faults.{number_of};
 
-    /// The fault's number: 801 or 802.
+    /// Returns the number of the fault: 801 or 802.
     pub fn code(&self) -> u16
         ensures { result ≡ number_of self.now }
     {

@@ -6,8 +6,8 @@ use std::collections::LinkedList;
 use std::marker::Model;
 use store_core::SeatView;
 
-/// A seat of a shared store's words: a token of one thread, with which it makes its steps. It has no bytes. Contracts
-/// see which table it is of and its view, what it knows.
+/// A seat's hold on the words of a shared store: one thread's token for its steps. It has no bytes at run time;
+/// contracts refer to its table and to its view, what it knows.
 #[derive(Drop)]
 pub struct Grip {
     pub(crate) seat: Seat<(), LinkedList<SeatView>>,

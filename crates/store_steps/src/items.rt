@@ -6,17 +6,17 @@ ghost use Rattle.store_steps.specs.Layout.{word_count};
 use crate::places::{groups, length_place};
 use store_core::{CELL_WORDS, Fixed, PARENT_WORDS};
 
-/// A kind of items that stand in a store word by word.
+/// A kind of item that is stored word by word.
 pub trait Item {
     ghost use Rattle.store_steps.specs.Kinds.{Kind};
 
     ghost kind: { Kind };
 
-    /// How many words an item has.
+    /// Returns how many words an item has.
     fn width() -> u8
         ensures { result ≡ width kind };
 
-    /// Where a word of an item stands in a store whose chunks' cells begin at the place `cells`.
+    /// Returns the index of a word of an item in a store whose chunks' cells begin at index `cells`.
     fn place(fixed: &Fixed, cells: usize, item: u32, word: u8) -> usize
         requires cells { cells ≡ 2 * groups fixed.now }
         requires small { cells ≤ 2 ^ 27 }
@@ -26,7 +26,7 @@ pub trait Item {
         ensures within { result < word_count fixed.now };
 }
 
-/// Chunks, each with a cell of 129 words: its size in bytes and its data.
+/// Chunks: each has a cell of 129 words, its size in bytes and its data.
 pub struct ChunkKind;
 
 impl Item for ChunkKind {
@@ -47,7 +47,7 @@ impl Item for ChunkKind {
     }
 }
 
-/// Boundaries, each with the 8 words of its parent.
+/// Boundaries: each has the 8 words of its parent.
 pub struct ParentKind;
 
 impl Item for ParentKind {

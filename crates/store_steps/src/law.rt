@@ -1,10 +1,10 @@
 ghost use Rattle.store_steps.specs.Renames.{EnterStays, JoinRenames, LeaveRenames, MeetStays, MergeStays};
 ghost use Rattle.store_steps.specs.Simulates.{AbsentStays, ClaimParentsStays, CopyParentStays, CopyStays, GiveIsGiveBack, HashIsNoStep, LengthIsLength, LoadIsLoad, LookIsTooLarge, LookStays, OpeningIsStart, PartStays, PublishIsPublish, PublishParentsStays, SettleIsSettle, StoreIsWrite, StoreParentStays, TakeIsClaim};
 
-/// Each step on the words is the step of its name of the machine of schedules: where words and views stand for a machine,
-/// and the rule holds, the step is legal there, its reply is the machine's, and afterwards words and views stand for the
-/// machine after it. So is a load for a read of any length, but that it is legal of at most 65,536 bytes, as a schedule's
-/// is. A law: nothing runs.
+/// Lemma: if words and views represent a state of the schedules' machine and the rule holds, each step on the
+/// words is legal for the machine's step of the same name, has the same reply, and leaves words and views that
+/// represent the machine's next state. For a load this holds at any length, except that a schedule's read is
+/// legal only up to 65,536 bytes. No effect at run time.
 pub fn steps_are_the_machines()
     ensures take { TakeIsClaim }
     ensures give { GiveIsGiveBack }
@@ -16,8 +16,9 @@ pub fn steps_are_the_machines()
     ensures length { LengthIsLength }
 {}
 
-/// New words stand for the machine's start. Its Hash is no step on the words, and loads that stand in for a step, copies,
-/// calls for a group that isn't there, and parts leave the machine. A law: nothing runs.
+/// Lemma: new words represent the machine's start. The machine's Hash is no step on the words; loads that stand
+/// in for a step, copies, calls for a group that doesn't exist and partings don't change the machine. No effect
+/// at run time.
 pub fn side_steps_stay()
     ensures opening { OpeningIsStart }
     ensures hash { HashIsNoStep }
@@ -27,9 +28,9 @@ pub fn side_steps_stay()
     ensures part { PartStays }
 {}
 
-/// The machine has no parents, and each step on the words of parents leaves it: where they are claimed, stored word by word,
-/// published and copied. With the loads that stand in for a step, this is all that a call that stores or serves parents
-/// does. A law: nothing runs.
+/// Lemma: the machine has no parents, so no step on the words of parents changes it: claiming, storing,
+/// publishing and copying them. With the loads that stand in for a step, these are all the steps of calls that
+/// store or serve parents. No effect at run time.
 pub fn parents_leave_the_machine()
     ensures claim { ClaimParentsStays }
     ensures store { StoreParentStays }
@@ -37,9 +38,9 @@ pub fn parents_leave_the_machine()
     ensures copy { CopyParentStays }
 {}
 
-/// Seats that join, merge, meet and leave each other, a joined seat counting as one: words and views then stand for the
-/// machine in which the claims that went over are the other seat's. So each step after that is the machine's too. A law:
-/// nothing runs.
+/// Lemma: if seats join, merge, meet or leave each other, and a joined seat counts as one, words and views
+/// represent the machine in which the claims that moved are the other seat's, so the later steps are the
+/// machine's too. No effect at run time.
 pub fn joined_seats_are_renamed()
     ensures enter { EnterStays }
     ensures join { JoinRenames }

@@ -1,5 +1,5 @@
-//! The words of a store that many threads share, the rule over them and over what each seat knows, and one call for each
-//! atomic step. A step is made with a grip, which is a seat's hold of these words.
+//! The words of a store that many threads share, the rule that they and the seats' knowledge obey, and one call
+//! for each atomic step. A step is made with a grip, which is a seat's hold on these words.
 #![tactic(auto)]
 
 pub use fault::NewFault;

@@ -28,12 +28,12 @@ use std::marker::Brand;
 use std::mem::replace;
 use store_core::{Fixed, SeatView, Settling, mask_below};
 
-/// The words of a store that many threads share: of each group of 64 chunks a held word and a claim word, of each chunk
-/// a cell of 129 words, and the length word. Each call makes steps on one word at a time, so that no thread waits for
-/// another. All but `new` take no memory and return.
+/// The words of a store that many threads share: a held word and a claim word for each group of 64 chunks, a
+/// cell of 129 words for each chunk, and the length word.
 ///
-/// A grip that is handed to a call is one of these words. A mask is of the chunks of a group: bit j stands for chunk
-/// 64 * group + j.
+/// Each call works on one word at a time, so that no thread waits for another. No call but `new` allocates. A
+/// grip passed to a call belongs to these words. In a mask of a group's chunks, bit j stands for chunk 64 *
+/// group + j.
 #[derive(Drop)]
 pub struct Words {
     table: Table<(), LinkedList<SeatView>, Fixed, Law, Global>,
@@ -69,10 +69,10 @@ impl Words {
     ghost use Rattle.store_steps.specs.Tells.{FindsHeld, FindsWord, IsStoringNow, Stores};
     ghost use Rattle.store_steps.specs.Words.{CoversGroup, IsGripOf, fixed_of};
 
-    /// Words of which none is held, claimed or recorded, and their first grip, which has seen nothing. They are of `capacity`
-    /// chunks, from chunk `base` of the blob on.
+    /// Returns empty words for the `capacity` chunks of a blob from chunk `base` on, and their first grip,
+    /// which has seen nothing.
     ///
-    /// 801 `Memory` where there was none. Nothing is left behind.
+    /// Refuses with 801 `Memory`, and keeps no memory then.
     pub fn new(
         alloc: Global,
         root: Hash,
@@ -111,7 +111,7 @@ impl Words {
         ))
     }
 
-    /// The root, the mode, the capacity in chunks and the first chunk, which never change.
+    /// Returns the root, the mode, the capacity in chunks and the base, which never change.
     pub fn fixed(&self) -> Fixed
         ensures { result ≡ fixed_of self.now }
     {
@@ -119,7 +119,7 @@ impl Words {
         *fixed
     }
 
-    /// The chunk of the blob that is chunk 0 here.
+    /// Returns the index in the blob of chunk 0 here.
     pub fn base(&self) -> u64
         ensures value { result ≡ (fixed_of self.now).base }
         ensures low { result ≤ 2 ^ 54 }
@@ -132,8 +132,9 @@ impl Words {
     // a type alone (`Arguments`), that each call picks anew: so `take` picks one, and `take_asked` makes the step for any.
     // docs/DECISIONS.md says why.
 
-    /// Claims the wanted chunks of a group that are below the capacity and neither held nor claimed, and answers their
-    /// mask. A chunk that the grip claims already isn't granted again. One `fetch_or` on the claim word.
+    /// Claims those wanted chunks of a group that are below the capacity and neither held nor claimed, and
+    /// returns their mask. A chunk that the grip already claims isn't granted again. One `fetch_or` on the
+    /// claim word.
     pub fn take(&self, grip: &mut Grip, group: u32, want: u64) -> u64
         requires of { IsGripOf self.now grip.old }
         requires group { CoversGroup self.now group }
@@ -159,8 +160,7 @@ impl Words {
         mask & !found
     }
 
-    /// Ends claims: of the mask's chunks those that the grip claims, which are `given`. One `fetch_and` on the claim
-    /// word.
+    /// Ends the grip's claims to chunks of `mask`, which are `given`. One `fetch_and` on the claim word.
     pub fn give(&self, grip: &mut Grip, group: u32, mask: u64, given: u64)
         requires of { IsGripOf self.now grip.old }
         requires group { CoversGroup self.now group }
@@ -185,7 +185,7 @@ impl Words {
             .fetch_and::<Giving<A>>(&mut grip.seat, place, !given);
     }
 
-    /// A give of a group that isn't there: no claim ends. One load, which changes nothing.
+    /// The give of a group that doesn't exist: no claim ends. One load, which changes nothing.
     pub fn give_none(&self, grip: &mut Grip, group: u32, mask: u64)
         requires of { IsGripOf self.now grip.old }
         requires group { ¬ CoversGroup self.now group }
@@ -206,9 +206,12 @@ impl Words {
         self.table.shared.load::<Giving<A>>(&mut grip.seat, 0);
     }
 
-    /// Stores a word of an item that the grip may store: of the cell of a chunk that it claims, where word 0 is the chunk's
-    /// size in bytes and words 1 to 128 are its data; or of the parent at a boundary that it is storing, where words 0 to 7
-    /// are its 64 bytes. One store, of which no reader learns before the item is published.
+    /// Stores a word of an item that the grip may store. One store, which no reader sees before the item is
+    /// published.
+    ///
+    /// The item is the cell of a chunk that the grip claims, with the chunk's size in bytes in word 0 and its
+    /// data in words 1 to 128; or the parent at a boundary that it is storing, with its 64 bytes in words 0 to
+    /// 7.
     pub fn store<K: Item>(&self, grip: &mut Grip, item: u32, word: u8, value: u64)
         requires of { IsGripOf self.now grip.old }
         requires own { Owns K.kind grip.old.view item }
@@ -233,9 +236,9 @@ impl Words {
             .store::<StoringWord<K, A>>(&mut grip.seat, place, value);
     }
 
-    /// Publishes chunks of a piece of this store's root and mode, all of whose words the grip stored: they are held, and
-    /// their claims end. `mask` is of the chunks that the grip claims and the piece holds. One `fetch_or` on the held
-    /// word, also where the mask is 0.
+    /// Publishes chunks of an accepted slice of this store's root and mode, all of whose words the grip stored:
+    /// they are held from now on, and their claims end. `mask` has those chunks that the grip claims and the
+    /// slice has. One `fetch_or` on the held word, even if the mask is 0.
     pub fn publish(&self, grip: &mut Grip, group: u32, piece: &Checked<'_>, mask: u64)
         requires of { IsGripOf self.now grip.old }
         requires group { CoversGroup self.now group }
@@ -272,7 +275,8 @@ impl Words {
             .fetch_or::<Publishing<A>>(&mut grip.seat, place, mask);
     }
 
-    /// A commit to a group that isn't there: nothing is published, and no claim ends. One load, which changes nothing.
+    /// The commit to a group that doesn't exist: nothing is published, and no claim ends. One load, which
+    /// changes nothing.
     pub fn publish_none(&self, grip: &mut Grip, group: u32, piece: &Checked<'_>)
         requires of { IsGripOf self.now grip.old }
         requires group { ¬ CoversGroup self.now group }
@@ -297,8 +301,8 @@ impl Words {
         self.table.shared.load::<Publishing<A>>(&mut grip.seat, 0);
     }
 
-    /// The held word of a group: bit j is set exactly where chunk 64 * group + j is held. It is a load of a read of
-    /// `len` bytes from position `at` on, and the read's event where it is its last.
+    /// Returns the held word of a group: bit j is set exactly if chunk 64 * group + j is held. One load for a
+    /// read of `len` bytes from offset `at` on; the read linearizes at its last.
     pub fn load(&self, grip: &mut Grip, group: u32, at: u64, len: u64) -> u64
         requires of { IsGripOf self.now grip.old }
         requires group { CoversGroup self.now group }
@@ -321,8 +325,8 @@ impl Words {
         self.table.shared.load::<Loading<A>>(&mut grip.seat, place)
     }
 
-    /// A word of an item. Where the grip has seen the item held it is the word of its bytes, as at `store`. One load, which
-    /// changes nothing.
+    /// Returns a word of an item. If the grip has seen the item held, it is the word of its bytes, as in
+    /// `store`. One load, which changes nothing.
     pub fn copy<K: Item>(&self, grip: &mut Grip, item: u32, word: u8) -> u64
         requires of { IsGripOf self.now grip.old }
         requires item { item < (fixed_of self.now).capacity }
@@ -347,9 +351,9 @@ impl Words {
             .load::<Copying<K, A>>(&mut grip.seat, place)
     }
 
-    /// Records the length in bytes that a piece of this store's root and mode certifies, if none is recorded:
-    /// `Settled`. Else it says whether the same is, `Known`, or another, `Differs`. The length is one that the store has
-    /// room for. One `compare_exchange` on the length word.
+    /// Records the blob's length in bytes that the tail, of this store's root and mode, certifies; the store
+    /// has capacity for it. Returns `Settled` if none was recorded, `Known` if the same was, and `Differs` if
+    /// another was. One `compare_exchange` on the length word.
     pub fn settle(&self, grip: &mut Grip, tail: &Tail<'_>) -> Settling
         requires of { IsGripOf self.now grip.old }
         requires piece { IsOf (fixed_of self.now) (tail_piece tail.now) }
@@ -379,7 +383,7 @@ impl Words {
         settling(length_in(found), length)
     }
 
-    /// The recorded length in bytes, if there is one. One load of the length word.
+    /// Returns the recorded length in bytes, if there is one. One load of the length word.
     pub fn length(&self, grip: &mut Grip) -> Option<u64>
         requires of { IsGripOf self.now grip.old }
         ensures of { IsGripOf self.now grip.new }
@@ -390,8 +394,8 @@ impl Words {
         length_in(found)
     }
 
-    /// Whether a node of the slice (`start`, `len`) is held. It is a load for that slice: its Serve where the node isn't held,
-    /// or where it is the slice's last, which `last` says. One load of a held word.
+    /// Returns whether a node of the slice (`start`, `len`) is held. One load of a held word. Serving the slice
+    /// linearizes here if the node isn't held, or if it is the slice's last, as `last` says.
     pub fn load_node(&self, grip: &mut Grip, node: &Node, last: bool, start: u64, len: u64) -> bool
         requires of { IsGripOf self.now grip.old }
         requires node { node_number node.now < (fixed_of self.now).capacity }
@@ -425,8 +429,8 @@ impl Words {
         has_node(found, node)
     }
 
-    /// The recorded length in bytes, if there is one, for the slice (`start`, `len`): where there is none this is its Serve.
-    /// One load of the length word.
+    /// Returns the recorded length in bytes, if there is one, to serve the slice (`start`, `len`). One load of
+    /// the length word. Serving linearizes here if there is none.
     pub fn length_to_serve(&self, grip: &mut Grip, start: u64, len: u64) -> Option<u64>
         requires of { IsGripOf self.now grip.old }
         ensures of { IsGripOf self.now grip.new }
@@ -456,8 +460,9 @@ impl Words {
         length_in(found)
     }
 
-    /// The recorded length in bytes, if there is one, for parents of a piece of this store's root and mode: where it isn't the
-    /// length that the piece claims, or there is no such group, this is their Parents. One load of the length word.
+    /// Returns the recorded length in bytes, if there is one, to store parents of an accepted slice of this
+    /// store's root and mode. One load of the length word. Storing them linearizes here if it isn't the length
+    /// that the slice claims, or if there is no such group.
     pub fn length_to_store(&self, grip: &mut Grip, group: u32, piece: &Checked<'_>) -> Option<u64>
         requires of { IsGripOf self.now grip.old }
         requires piece { IsOf (fixed_of self.now) piece.now }
@@ -491,9 +496,11 @@ impl Words {
         length_in(found)
     }
 
-    /// Claims the wanted boundaries of a group that are below the capacity and whose parents are neither held nor being
-    /// stored, and answers their mask: the grip, which stores no parents, is storing these. One `fetch_or` on the claim
-    /// word of boundaries. A grip with all names that there are gets all whose parents it has not seen held.
+    /// Claims those wanted boundaries of a group that are below the capacity and whose parents are neither held
+    /// nor being stored, and returns their mask. One `fetch_or` on the claim word of boundaries.
+    ///
+    /// Before the call the grip is storing no parents, and afterwards these. A grip with all existing names
+    /// gets all whose parents it hasn't seen held.
     pub fn claim_parents(&self, grip: &mut Grip, group: u32, want: u64) -> u64
         requires of { IsGripOf self.now grip.old }
         requires group { CoversGroup self.now group }
@@ -527,9 +534,10 @@ impl Words {
         wanted & !before
     }
 
-    /// Publishes parents of a piece of this store's root and mode, which claims the length that the grip has seen
-    /// recorded: they are held, and the grip is storing none. `mask` is of the boundaries that it is storing, all of
-    /// whose words it stored. One `fetch_or` on the held word of boundaries, also where the mask is 0.
+    /// Publishes parents of an accepted slice of this store's root and mode that claims the length that the
+    /// grip has seen recorded: they are held from now on, and the grip is storing none. `mask` has the
+    /// boundaries that it is storing, all of whose words it stored. One `fetch_or` on the held word of
+    /// boundaries, even if the mask is 0.
     pub fn publish_parents(&self, grip: &mut Grip, group: u32, piece: &Checked<'_>, mask: u64)
         requires of { IsGripOf self.now grip.old }
         requires group { CoversGroup self.now group }
@@ -568,10 +576,10 @@ impl Words {
             .fetch_or::<PublishingParents<A>>(&mut grip.seat, place, mask);
     }
 
-    /// Parts a grip in two. The first keeps its calls and its claims. The second has seen the same and has neither: its
-    /// name is one that no grip had before, a dropped one neither.
+    /// Parts a grip in two. The first keeps the calls and the claims. The second has seen the same history and
+    /// has neither; its name is new, unused even by a dropped grip.
     ///
-    /// It needs no memory today, so that it always answers `Ok`. An `Err` would give the grip back as it was.
+    /// It needs no memory today, so it always returns `Ok`. `Err` would return the grip unchanged.
     pub fn part(&self, grip: Grip) -> Result<(Grip, Grip), Grip>
         requires of { IsGripOf self.now grip }
         ensures ok { IsOk result }
@@ -586,8 +594,8 @@ impl Words {
         Ok((Grip { seat }, Grip { seat: other }))
     }
 
-    /// Sees all that was called so far. Where the grip has all names that there are, no other call was made than its own.
-    /// One load, which changes nothing.
+    /// Sees all calls made so far. For a grip with all existing names these are its own. One load, which
+    /// changes nothing.
     pub fn look_round(&self, grip: &mut Grip)
         requires of { IsGripOf self.now grip.old }
         ensures of { IsGripOf self.now grip.new }
@@ -597,8 +605,8 @@ impl Words {
         self.table.shared.load::<LookingRound>(&mut grip.seat, 0);
     }
 
-    /// Merges two grips to one, with the calls, the claims and the stored words of both. What it has seen begins with
-    /// what each had seen.
+    /// Merges two grips into one, with the calls, the claims and the stored words of both. The history that it
+    /// has seen begins with what each had seen.
     pub fn merge(&self, first: Grip, second: Grip) -> Grip
         requires first { IsGripOf self.now first }
         requires second { IsGripOf self.now second }
@@ -613,8 +621,8 @@ impl Words {
         Grip { seat }
     }
 
-    /// Lets two grips meet: afterwards both have seen one history, which begins with what each had seen. Their calls,
-    /// claims and stored words stay as they are.
+    /// Lets two grips meet: afterwards both have seen one history, which begins with what each had seen. Their
+    /// calls, claims and stored words are unchanged.
     pub fn meet(&self, first: &mut Grip, second: &mut Grip)
         requires first { IsGripOf self.now first.old }
         requires second { IsGripOf self.now second.old }

@@ -160,7 +160,7 @@ fn outputs_fail<R: Files<File = File> + AllocGlobal + Threads + Sync + Abort>(
         output_fails(rt, &["hash", file], kind, none, 3, OUTPUT)?;
         output_fails(rt, &["hash", file], kind, some, 3, OUTPUT)?;
     }
-    let (help, begins) = (["help", "hash"], b"Prints the".as_slice());
+    let (help, begins) = (["help", "hash"], b"Print the ".as_slice());
     output_fails(rt, &help, ErrorKind::BrokenPipe, begins, 0, "")?;
     output_fails(rt, &help, ErrorKind::Interrupted, begins, 3, OUTPUT)?;
     output_is_stuck(rt, &["hash", file])?;

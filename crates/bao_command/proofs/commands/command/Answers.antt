@@ -5,7 +5,7 @@ use Rattle.clap.specs.declared.error.kind.ErrorKind.TheVariants.{OutOfMemory}
 use Rattle.bao_request.specs.declared.tasks.Request.{Request}
 use Rattle.bao_request.specs.CommandLine.{AsksFor, IsUnasked, program_app}
 use Rattle.bao_command.specs.declared.fault.Fault.{Fault}
-use Rattle.bao_command.specs.declared.fault.Fault.TheVariants.{Word, Root, Key, KeyAndContext, KeyFile, KeyFileAndOthers, OutputRange, TooManyFiles, OutIsOutput, OutLeadsToOutput, LongAndOthers, ListIsOut, ListIsRead, ListLeadsToOther, File, Decode, Gather, Replay}
+use Rattle.bao_command.specs.declared.fault.Fault.TheVariants.{Word, Root, Key, KeyAndContext, KeyFile, KeyFileAndOthers, OutputRange, TooManyFiles, OutIsOutput, OutLeadsToOutput, OutIsRead, LongAndOthers, ListIsOut, ListIsRead, ListLeadsToOther, File, Decode, Gather, Replay}
 use Rattle.bao_files.specs.Disks.{FileState}
 use Rattle.bao_files.specs.declared.fault.FileFault.TheVariants as file
 use Rattle.bao_command.specs.Outcome.{Begun, IsUsage}
@@ -25,6 +25,7 @@ begun words request at after old new OutputRange asks leaves = inl leaves
 begun words request at after old new TooManyFiles asks leaves = inl leaves
 begun words request at after old new OutIsOutput asks leaves = inl leaves
 begun words request at after old new OutLeadsToOutput asks leaves = inl leaves
+begun words request at after old new OutIsRead asks leaves = inl leaves
 begun words request at after old new LongAndOthers asks leaves = inl leaves
 begun words request at after old new ListIsOut asks leaves = inl leaves
 begun words request at after old new ListIsRead asks leaves = inl leaves
@@ -50,13 +51,14 @@ pub returns-clause-refused : goal.returns-clause-refused
 returns-clause-refused g c = λ refused. c.answer_clap.ensures.refused (λ help. refused.1 (c.in-Err.ensures.help help))
 
 -- arguments for which clap has no request have no other reason
-pub unasked : (words : List Text) (error : Error) → HasKind (fault_of program_app words) error ⊎ IsUnasked words error → kind_of error ≢ OutOfMemory → IsUsage words
-unasked words error (inl (inl is)) other = absurd (other is)
-unasked words error (inl (inr among)) other = inl (λ none. subst (IsAmong (kind_of error)) none among)
-unasked words error (inr of) other = inr (inl of.none)
+pub unasked : (words : List Text) (at : List ℕ → FileState) (error : Error) → HasKind (fault_of program_app words) error ⊎ IsUnasked words error → kind_of error ≢ OutOfMemory
+    → IsUsage words at
+unasked words at error (inl (inl is)) other = absurd (other is)
+unasked words at error (inl (inr among)) other = inl (λ none. subst (IsAmong (kind_of error)) none among)
+unasked words at error (inr of) other = inr (inl of.none)
 
 pub returns-clause-usage : goal.returns-clause-usage
-returns-clause-usage g c = λ is. unasked (map string_bytes c.args.words.now) c.in-Err.error c.in-Err.ensures.refused (c.answer_clap.ensures.usage is)
+returns-clause-usage g c = λ is. unasked (map string_bytes c.args.words.now) (g.D.Disk.at c.args.disk.now) c.in-Err.error c.in-Err.ensures.refused (c.answer_clap.ensures.usage is)
 
 pub returns-in-Ok-clause-usage : goal.returns-in-Ok-clause-usage
 returns-in-Ok-clause-usage g c = λ is. inr (inr (c.in-Ok.request, c.in-Ok.ensures.request, (c.in-Err-serve.fault, sym c.report.ensures ∙ is, c.in-Err-serve.ensures.due)))

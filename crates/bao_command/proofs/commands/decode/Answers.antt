@@ -3,13 +3,12 @@ use Rattle.bao_files.specs.Printed as file
 use Rattle.bao_command.specs.Printed.{CommandPrints}
 use Rattle.bao_command.specs.Tasks.{part_line}
 use Rattle.bao_command.specs.Works.{DecodesRight}
-use Rattle.bao_command.proofs.Due.{file_due}
 use Rattle.bao_command.proofs.Refusals.{is_there, text_refused}
-use Rattle.bao_command.proofs.Telling.{leaves_after, no_refusal, on_printed, told_prints}
+use Rattle.bao_command.proofs.Telling.{leaves_after, no_refusal, of_file_or, on_printed, told_prints}
 use Rattle.bao_command.proofs.commands.decode.Goals as goal
 
 pub returns-in-Ok-clause-due : goal.returns-in-Ok-clause-due
-returns-in-Ok-clause-due g c = file_due _ c.told.result c.told.ensures.file
+returns-in-Ok-clause-due g c = of_file_or _ c.told.result c.told.ensures.file
 
 pub returns-in-Ok-clause-refused : goal.returns-in-Ok-clause-refused
 returns-in-Ok-clause-refused g c = no_refusal _ c.told.result c.told.ensures.file

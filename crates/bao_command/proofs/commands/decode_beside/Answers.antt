@@ -3,13 +3,12 @@ use Rattle.bao_files.specs.Printed as file
 use Rattle.bao_files.specs.Printed.{ok_line}
 use Rattle.bao_command.specs.Printed.{CommandPrints}
 use Rattle.bao_command.specs.Works.{CopiesRight}
-use Rattle.bao_command.proofs.Due.{file_due}
-use Rattle.bao_command.proofs.Refusals.{copy_refused, is_there}
-use Rattle.bao_command.proofs.Telling.{leaves_after, no_refusal, on_printed, told_prints}
+use Rattle.bao_command.proofs.Refusals.{copy_refused, is_there, outboard_refused}
+use Rattle.bao_command.proofs.Telling.{leaves_after, no_refusal, of_file_or, on_printed, told_prints}
 use Rattle.bao_command.proofs.commands.decode_beside.Goals as goal
 
 pub returns-in-Ok-clause-due : goal.returns-in-Ok-clause-due
-returns-in-Ok-clause-due g c = file_due _ c.told.result c.told.ensures.file
+returns-in-Ok-clause-due g c = of_file_or _ c.told.result c.told.ensures.file
 
 pub returns-in-Ok-clause-refused : goal.returns-in-Ok-clause-refused
 returns-in-Ok-clause-refused g c = no_refusal _ c.told.result c.told.ensures.file
@@ -47,6 +46,8 @@ returns-after-fault-clause-refused g c = λ is. (
       λ known outline bytes there also.
           copy_refused c.args.mode.now c.in_ok-root.root.0 (g.D.Disk.faultless c.args.disk.now) outline bytes c.args.outboard c.args.copy c.args.path c.in-Err.fault is
           (c.in-Err.ensures.refused known outline bytes there also),
+      λ none. outboard_refused c.args.mode.now c.in_ok-root.root.0 (g.D.Disk.faultless c.args.disk.now) (g.D.Disk.at c.args.disk.now c.args.outboard.now) c.args.outboard c.args.copy c.in-Err.fault is
+          (c.in-Err.ensures.no_copy none),
     ),
   ),
 )

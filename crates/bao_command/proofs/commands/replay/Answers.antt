@@ -1,10 +1,9 @@
-use Rattle.std.proofs.Common.{ℕ, List, subst, sym}
+use Rattle.std.proofs.Common.{ℕ, List, inr, refl, subst, sym}
 use Rattle.bao_tasks.specs.Replayed.{IsRun, OfFiles}
 use Rattle.bao_command.specs.Printed.{CommandPrints}
 use Rattle.bao_command.specs.Tasks.{IsReplay}
-use Rattle.bao_command.proofs.Refusals.{replay_refused}
-use Rattle.bao_command.proofs.Telling.{no_refusal, on_printed, told_prints}
-use Rattle.bao_command.proofs.Due.{file_due}
+use Rattle.bao_command.proofs.Refusals.{replay_refused, replay_usage}
+use Rattle.bao_command.proofs.Telling.{no_refusal, of_file_or, on_printed, told_prints}
 use Rattle.bao_command.proofs.commands.replay.Goals as goal
 
 pub returns-in-Ok-clause-answer : goal.returns-in-Ok-clause-answer
@@ -25,7 +24,7 @@ pub returns-in-Ok-clause-refused : goal.returns-in-Ok-clause-refused
 returns-in-Ok-clause-refused g c = no_refusal _ c.told.result c.told.ensures.file
 
 pub returns-in-Ok-clause-due : goal.returns-in-Ok-clause-due
-returns-in-Ok-clause-due g c = file_due _ c.told.result c.told.ensures.file
+returns-in-Ok-clause-due g c = of_file_or _ c.told.result c.told.ensures.file
 
 pub returns-in-Err-clause-refused : goal.returns-in-Err-clause-refused
 returns-in-Err-clause-refused g c = λ is. (
@@ -36,3 +35,13 @@ returns-in-Err-clause-refused g c = λ is. (
         (λ number at. c.replay_on.ensures.illegal number at) (λ number cause at. c.replay_on.ensures.refused number cause at),
   ),
 )
+
+pub returns-in-Err-clause-due : goal.returns-in-Err-clause-due
+returns-in-Err-clause-due g c =
+    inr (inr (inr (
+      c.in-Err.fault,
+      refl,
+      λ two.
+          replay_usage (g.D.Disk.at c.args.disk.now) c.args.mode.now c.in_ok-root.root c.args.capacity c.args.script.now c.args.files.now c.replay_on.result c.in-Err.fault c.in-Err.is two
+          (λ number at. c.replay_on.ensures.script number at) (λ at. (c.replay_on.ensures.capacity at).0),
+    )))

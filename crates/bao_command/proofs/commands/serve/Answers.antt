@@ -1,8 +1,10 @@
-use Rattle.std.proofs.Common.{◌≡◌, ℕ, List, Option, Result, Ok, Err, IfErr, OnOk, inl, inr, refl}
+use Rattle.std.proofs.Common.{◌≡◌, ◌⊎◌, ℕ, Bool, true, false, Decides, List, Option, Result, Ok, Err, IfErr, OnOk, inl, inr, refl}
+use Rattle.std.proofs.lemmas.Bool.{false≢true}
+use Rattle.std.proofs.lemmas.Bool.Decides.{Decides-eqb}
 use Rattle.b3tree.specs.declared.mode.Mode.{Mode}
-use Rattle.bao_files.specs.Disks.{FileState}
+use Rattle.bao_files.specs.Disks.{FileState, KeepsFiles}
 use Rattle.bao_command.specs.declared.fault.Fault.{Fault}
-use Rattle.bao_command.specs.declared.fault.Fault.TheVariants.{Word, Root, Key, KeyAndContext, KeyFile, KeyFileAndOthers, OutputRange, TooManyFiles, OutIsOutput, OutLeadsToOutput, LongAndOthers, ListIsOut, ListIsRead, ListLeadsToOther, File, Decode, Gather, Replay}
+use Rattle.bao_command.specs.declared.fault.Fault.TheVariants.{Word, Root, Key, KeyAndContext, KeyFile, KeyFileAndOthers, OutputRange, TooManyFiles, OutIsOutput, OutLeadsToOutput, OutIsRead, LongAndOthers, ListIsOut, ListIsRead, ListLeadsToOther, File, Decode, Gather, Replay}
 use Rattle.bao_files.specs.declared.fault.FileFault.TheVariants as file
 use Rattle.bao_request.specs.declared.tasks.Request.{Request}
 use Rattle.bao_command.specs.Effects.{Writes, list_of}
@@ -15,6 +17,10 @@ use Rattle.bao_command.proofs.Due.{mode_due, task_due}
 use Rattle.bao_command.proofs.Modes.{mode_answer, mode_refuses_none}
 use Rattle.bao_command.proofs.Telling.{other_status}
 use Rattle.bao_command.proofs.commands.serve.Goals as goal
+
+is_or_not : (b : Bool) (P : Type 0) → Decides b P → P ⊎ (¬ P)
+is_or_not true P decides = inl (decides.0 refl)
+is_or_not false P decides = inr (λ p. absurd (false≢true (decides.1 p)))
 
 module _ (request : Request) (at after : List ℕ → FileState) (mode : Mode) (has : HasMode at request mode) where
   -- what was printed of the line in the request's mode answers the request
@@ -32,6 +38,7 @@ module _ (request : Request) (at after : List ℕ → FileState) (mode : Mode) (
   answers bytes old new (Err TooManyFiles) apart right prints = prints
   answers bytes old new (Err OutIsOutput) apart right prints = prints
   answers bytes old new (Err OutLeadsToOutput) apart right prints = prints
+  answers bytes old new (Err OutIsRead) apart right prints = prints
   answers bytes old new (Err LongAndOthers) apart right prints = prints
   answers bytes old new (Err ListIsOut) apart right prints = prints
   answers bytes old new (Err ListIsRead) apart right prints = prints
@@ -46,9 +53,13 @@ module _ (request : Request) (at after : List ℕ → FileState) (mode : Mode) (
   answers bytes old new (Err (Replay fault)) apart right prints = prints
 
   -- what the task's fault leaves and refuses is the request's
-  leaves : (result : Result Unit Fault) → IfErr result (LeavesFiles at after mode request.task) → IfErr result (LeavesFilesOf at after request)
-  leaves (Ok done) left = tt
-  leaves (Err fault) left = inr (mode, has, left)
+  leaves : (result : Result Unit Fault) → GoesApart request → IfErr result (LeavesFiles at after mode request.task)
+      → IfErr result (λ fault. status_of fault ≡ 2 → KeepsFiles at after) → IfErr result (LeavesFilesOf at after request)
+  leaves (Ok done) apart left usage = tt
+  leaves (Err fault) apart left usage = elim (is_or_not _ _ (Decides-eqb (status_of fault) 2)) [
+    | inl is ↦ inl (usage is)
+    | inr other ↦ inr (other, apart, (mode, has, left))
+  ]
 
   refuses : (sure : Type 0) (result : Result Unit Fault) → IfErr result (λ fault. status_of fault ≡ 1 → IsRefused sure at mode request.task)
       → IfErr result (λ fault. status_of fault ≡ 1 → IsRefusedFor sure at request)
@@ -70,11 +81,12 @@ pub returns-in_ok-check_places-clause-answer : goal.returns-in_ok-check_places-c
 returns-in_ok-check_places-clause-answer g c =
     let prints = c.serve_task.ensures.prints in
     answers c.args.request.now (g.D.Disk.at c.args.disk.now) (g.D.Disk.at c.serve_task.new.disk) c.in_ok-mode.mode c.in_ok-mode.ensures.mode prints.0 (g.O.Write.contents c.args.out.now)
-    (g.O.Write.contents c.serve_task.new.out) c.serve_task.result (c.writes_apart.ensures.yes c.if-writes_apart.true, c.in_ok-check_list.ensures.clash, c.in_ok-check_list.ensures.read) prints.1 prints.2
+    (g.O.Write.contents c.serve_task.new.out) c.serve_task.result (c.writes_apart.ensures.yes c.if-writes_apart.true, c.in_ok-check_list.ensures.clash, c.in_ok-check_list.ensures.read, c.in_ok-check_places.ensures.apart) prints.1 prints.2
 
 pub returns-in_ok-check_places-clause-files : goal.returns-in_ok-check_places-clause-files
 returns-in_ok-check_places-clause-files g c =
-    leaves c.args.request.now (g.D.Disk.at c.args.disk.now) (g.D.Disk.at c.serve_task.new.disk) c.in_ok-mode.mode c.in_ok-mode.ensures.mode c.serve_task.result c.serve_task.ensures.files
+    leaves c.args.request.now (g.D.Disk.at c.args.disk.now) (g.D.Disk.at c.serve_task.new.disk) c.in_ok-mode.mode c.in_ok-mode.ensures.mode c.serve_task.result
+    (c.writes_apart.ensures.yes c.if-writes_apart.true, c.in_ok-check_list.ensures.clash, c.in_ok-check_list.ensures.read, c.in_ok-check_places.ensures.apart) c.serve_task.ensures.files c.serve_task.ensures.usage
 
 pub returns-in_ok-check_places-clause-refused : goal.returns-in_ok-check_places-clause-refused
 returns-in_ok-check_places-clause-refused g c =
@@ -94,7 +106,7 @@ returns-in_err-mode-clause-refused g c =
     other_status _ c.from_residual-in_err-mode.result _ c.from_residual-in_err-mode.ensures.1 (mode_refuses_none c.args.request.now.key_file _ c.in_err-mode.ensures.fault)
 
 pub returns-in_err-mode-clause-due : goal.returns-in_err-mode-clause-due
-returns-in_err-mode-clause-due g c = mode_due c.args.request.now c.from_residual-in_err-mode.result _ c.from_residual-in_err-mode.ensures.1 c.in_err-mode.ensures.due
+returns-in_err-mode-clause-due g c = mode_due (g.D.Disk.at c.args.disk.now) c.args.request.now c.from_residual-in_err-mode.result _ c.from_residual-in_err-mode.ensures.1 c.in_err-mode.ensures.due
 
 pub returns-in_ok-check_places-clause-due : goal.returns-in_ok-check_places-clause-due
-returns-in_ok-check_places-clause-due g c = task_due c.args.request.now c.serve_task.result c.serve_task.ensures.due
+returns-in_ok-check_places-clause-due g c = task_due (g.D.Disk.at c.args.disk.now) c.args.request.now c.serve_task.result c.serve_task.ensures.due

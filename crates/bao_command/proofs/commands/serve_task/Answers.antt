@@ -1,6 +1,7 @@
-use Rattle.std.proofs.Common.{◌≡◌, ◌≤◌, ℕ, List, None, length, if◌then◌else◌, Result, Ok, Err, IfErr, OnOk, Bor, inl, inr, refl, subst, sym}
+use Rattle.std.proofs.Common.{◌≡◌, ◌⊎◌, ◌<◌, ◌≤◌, ◌+◌, ◌-◌, ◌^◌, ℕ, List, None, length, if◌then◌else◌, Result, Ok, Err, IfErr, OnOk, Bor, inl, inr, refl, subst, sym}
 use Rattle.b3tree.specs.declared.mode.Mode.{Mode}
-use Rattle.bao_files.specs.Disks.{FileState}
+use Rattle.bao_files.specs.Disks.{FileState, KeepsFiles}
+use Rattle.bao_files.specs.Printed.{IsDigits}
 use Rattle.bao_request.specs.declared.tasks.Task.{Task}
 use Rattle.bao_request.specs.declared.tasks.Task.TheVariants.{CutSlice, Decode, DecodeCopy, Encode}
 use Rattle.bao_tasks.specs.declared.gathering.Gathering.{Gathering}
@@ -11,10 +12,10 @@ use Rattle.gather.specs.declared.grain.Grain.{Grain}
 use Rattle.gather.specs.declared.grain.Grain.TheVariants.{Group as ByGroup, Chunk as ByChunk}
 use Rattle.bao_command.specs.Refused.{IsBlobOf, IsEachBlob, IsRefused, IsRefusedGathering, IsRefusedReplay, OfRoot}
 use Rattle.bao_command.specs.Status.{status_of}
-use Rattle.bao_command.specs.Tasks.{IsReplay, IsRight, LeavesFiles, line_of}
+use Rattle.bao_command.specs.Tasks.{Decodes, Gathers, HasBadLine, HasBadScript, HasManyFiles, HasNoCapacity, HasRoot, IsNoCapacity, IsPastOutput, IsReplay, IsRight, LeavesFiles, Replays, line_of}
 use Rattle.bao_command.specs.Works.{CopiesRight, CutsRight, DecodesRight, EncodesRight, Leaves, LeavesGathered}
-use Rattle.bao_command.proofs.Due.{file_due}
-use Rattle.bao_command.proofs.Telling.{both_printed, no_refusal, on_ok, on_printed}
+use Rattle.bao_command.proofs.Due.{decode_due, file_due, gather_due, hash_due, replay_due}
+use Rattle.bao_command.proofs.Telling.{both_printed, no_refusal, no_usage, on_ok, on_printed, usage_keeps}
 use Rattle.bao_command.proofs.commands.serve_task.Goals as goal
 
 -- what a task's fault leaves, where it has no list
@@ -28,6 +29,10 @@ left_by at after mode task Did (Err fault) step (inr did) = inr (did.0, (did.1.0
 untouched : (at : List ℕ → FileState) (mode : Mode) (task : Task) (result : Result Unit Fault) → IfErr result (LeavesFiles at at mode task)
 untouched at mode task (Ok done) = tt
 untouched at mode task (Err fault) = inl (inl (λ path. refl))
+
+untouched_usage : (at : List ℕ → FileState) (result : Result Unit Fault) → IfErr result (λ fault. status_of fault ≡ 2 → KeepsFiles at at)
+untouched_usage at (Ok done) = tt
+untouched_usage at (Err fault) = λ is path. refl
 
 regrouped : (P Q R : Type 0) (result : Result Unit Fault) → OnPrinted result P → OnPrinted result (Q × R) → OnPrinted result ((P × Q) × R)
 regrouped P Q R (Ok done) p q = ((p, q.0), q.1)
@@ -199,7 +204,55 @@ pub returns-in-Encode-clause-refused : goal.returns-in-Encode-clause-refused
 returns-in-Encode-clause-refused g c = no_refusal _ c.encode.result c.encode.ensures.file
 
 pub returns-in-Encode-clause-due : goal.returns-in-Encode-clause-due
-returns-in-Encode-clause-due g c = file_due _ c.encode.result c.encode.ensures.file
+returns-in-Encode-clause-due g c = file_due (g.D.Disk.at c.args.disk.now) c.args.task.now c.encode.result c.encode.ensures.file
+
+pub returns-in-Hash-clause-due : goal.returns-in-Hash-clause-due
+returns-in-Hash-clause-due g c =
+    let Past : Type 0 = ¬ (c.in-Hash.at + c.in-Hash.length ≤ 2 ^ 64 - 1) in
+    hash_due (g.D.Disk.at c.args.disk.now) c.args.task.now Past c.hash.result (subst (λ (t : Task). Past → IsPastOutput t) (sym c.in-Hash.is) (λ past. past)) c.hash.ensures.due
+
+pub returns-in-CutSlice-clause-due : goal.returns-in-CutSlice-clause-due
+returns-in-CutSlice-clause-due g c =
+    let NoRoot : Type 0 = ¬ IsDigits c.in-CutSlice.root.now in
+    decode_due (g.D.Disk.at c.args.disk.now) c.args.task.now NoRoot c.cut_slice.result (subst (λ (t : Task). NoRoot → ¬ HasRoot t) (sym c.in-CutSlice.is) (λ no. no))
+    (subst Decodes (sym c.in-CutSlice.is) tt) c.cut_slice.ensures.due
+
+pub returns-in-Decode-clause-due : goal.returns-in-Decode-clause-due
+returns-in-Decode-clause-due g c =
+    let NoRoot : Type 0 = ¬ IsDigits c.in-Decode.root.now in
+    decode_due (g.D.Disk.at c.args.disk.now) c.args.task.now NoRoot c.decode.result (subst (λ (t : Task). NoRoot → ¬ HasRoot t) (sym c.in-Decode.is) (λ no. no))
+    (subst Decodes (sym c.in-Decode.is) tt) c.decode.ensures.due
+
+pub returns-in-DecodeCopy-clause-due : goal.returns-in-DecodeCopy-clause-due
+returns-in-DecodeCopy-clause-due g c =
+    let NoRoot : Type 0 = ¬ IsDigits c.in-DecodeCopy.root.now in
+    decode_due (g.D.Disk.at c.args.disk.now) c.args.task.now NoRoot c.decode_beside.result (subst (λ (t : Task). NoRoot → ¬ HasRoot t) (sym c.in-DecodeCopy.is) (λ no. no))
+    (subst Decodes (sym c.in-DecodeCopy.is) tt) c.decode_beside.ensures.due
+
+pub returns-in-Gather-clause-due : goal.returns-in-Gather-clause-due
+returns-in-Gather-clause-due g c =
+    let NoRoot : Type 0 = ¬ IsDigits c.in-Gather.root.now in
+    let Many : Type 0 = 64 < length c.as_slice-files.result.now in
+    let many : Many → 64 < length c.in-Gather.files.items = subst (λ (files : List (Bor (List ℕ))). Many → 64 < length files) c.as_slice-files.ensures.value (λ is. is) in
+    let Bad : Type 0 = IsNoCapacity c.in-Gather.capacity in
+    gather_due (g.D.Disk.at c.args.disk.now) c.args.task.now NoRoot Many Bad c.gather.result (subst (λ (t : Task). NoRoot → ¬ HasRoot t) (sym c.in-Gather.is) (λ no. no))
+    (subst (λ (t : Task). Many → HasManyFiles t) (sym c.in-Gather.is) many) (subst Gathers (sym c.in-Gather.is) tt)
+    (subst (λ (t : Task). Bad → HasNoCapacity t) (sym c.in-Gather.is) (λ bad. bad)) c.gather.ensures.due
+
+pub returns-in-Replay-clause-due : goal.returns-in-Replay-clause-due
+returns-in-Replay-clause-due g c =
+    let at = g.D.Disk.at c.args.disk.now in
+    let NoRoot : Type 0 = ¬ IsDigits c.in-Replay.root.now in
+    let script : List ℕ = c.in-Replay.script.now in
+    let Many : Type 0 = 64 < length c.as_slice-files-in-Replay.result.now in
+    let Bad : Type 0 = IsNoCapacity c.in-Replay.capacity ⊎ HasBadLine at script c.as_slice-files-in-Replay.result.now in
+    let many : Many → 64 < length c.in-Replay.files.items =
+    subst (λ (files : List (Bor (List ℕ))). Many → 64 < length files) c.as_slice-files-in-Replay.ensures.value (λ is. is) in
+    let bad : Bad → IsNoCapacity c.in-Replay.capacity ⊎ HasBadLine at script c.in-Replay.files.items =
+    subst (λ (files : List (Bor (List ℕ))). Bad → IsNoCapacity c.in-Replay.capacity ⊎ HasBadLine at script files) c.as_slice-files-in-Replay.ensures.value (λ is. is) in
+    replay_due at c.args.task.now NoRoot Many Bad c.replay.result (subst (λ (t : Task). NoRoot → ¬ HasRoot t) (sym c.in-Replay.is) (λ no. no))
+    (subst (λ (t : Task). Many → HasManyFiles t) (sym c.in-Replay.is) many) (subst Replays (sym c.in-Replay.is) tt)
+    (subst (λ (t : Task). Bad → HasNoCapacity t ⊎ HasBadScript at t) (sym c.in-Replay.is) bad) c.replay.ensures.due
 
 pub returns-in-Gather-clause-refused : goal.returns-in-Gather-clause-refused
 returns-in-Gather-clause-refused g c =
@@ -267,3 +320,21 @@ returns-in-Gather-clause-blob g c =
     (subst (λ (files : List (Bor (List ℕ))). OnOk result (OfRoot c.in-Gather.root.now
     (IsEachBlob sure at after c.args.mode.now c.in-Gather.encode c.in-Gather.capacity c.in-Gather.outboard files c.in-Gather.path.now c.in-Gather.missing old new)))
     c.as_slice-files.ensures.value c.gather.ensures.blob)
+
+pub returns-in-Hash-clause-usage : goal.returns-in-Hash-clause-usage
+returns-in-Hash-clause-usage g c = untouched_usage (g.D.Disk.at c.args.disk.now) c.hash.result
+
+pub returns-in-Replay-clause-usage : goal.returns-in-Replay-clause-usage
+returns-in-Replay-clause-usage g c = untouched_usage (g.D.Disk.at c.args.disk.now) c.replay.result
+
+pub returns-in-Encode-clause-usage : goal.returns-in-Encode-clause-usage
+returns-in-Encode-clause-usage g c = usage_keeps (g.D.Disk.at c.args.disk.now) (g.D.Disk.at c.encode.new.disk) _ c.encode.result c.encode.ensures.files
+
+pub returns-in-CutSlice-clause-usage : goal.returns-in-CutSlice-clause-usage
+returns-in-CutSlice-clause-usage g c = usage_keeps (g.D.Disk.at c.args.disk.now) (g.D.Disk.at c.cut_slice.new.disk) _ c.cut_slice.result c.cut_slice.ensures.files
+
+pub returns-in-Decode-clause-usage : goal.returns-in-Decode-clause-usage
+returns-in-Decode-clause-usage g c = usage_keeps (g.D.Disk.at c.args.disk.now) (g.D.Disk.at c.decode.new.disk) _ c.decode.result c.decode.ensures.files
+
+pub returns-in-DecodeCopy-clause-usage : goal.returns-in-DecodeCopy-clause-usage
+returns-in-DecodeCopy-clause-usage g c = usage_keeps (g.D.Disk.at c.args.disk.now) (g.D.Disk.at c.decode_beside.new.disk) _ c.decode_beside.result c.decode_beside.ensures.files

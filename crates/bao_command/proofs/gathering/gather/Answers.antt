@@ -1,4 +1,4 @@
-use Rattle.std.proofs.Common.{◌≡◌, ◌≢◌, ◌≤◌, ◌⊎◌, ℕ, List, [], Option, None, Some, length, Result, Ok, Err, Bor, IfErr, IfOk, IsErrAnd, OnErr, OnOk, inl, inr, arith, refl, subst, sym, ◌∙◌}
+use Rattle.std.proofs.Common.{◌≡◌, ◌≢◌, ◌≤◌, ◌⊎◌, ℕ, List, [], Option, None, Some, length, Result, Ok, Err, Bor, IfErr, IfOk, IsErrAnd, OnErr, OnOk, IsErrOf, inl, inr, ap, arith, refl, subst, sym, ◌∙◌}
 use Rattle.b3tree.specs.declared.mode.Mode.{Mode}
 use Rattle.gather.specs.declared.fault.GatherFault.TheVariants as gather
 use Rattle.std.specs.Io.KnownBytes.{Appends}
@@ -12,18 +12,45 @@ use Rattle.bao_tasks.specs.declared.gathered_fault.GatheredFault.{GatheredFault}
 use Rattle.bao_tasks.specs.declared.gathered_fault.GatheredFault.TheVariants.{File, Gather, Outboard}
 use Rattle.bao_tasks.specs.declared.gathering.Gathering.{Gathering}
 use Rattle.bao_command.specs.declared.fault.Fault.{Fault}
+use Rattle.bao_tasks.specs.GatheredFaults.{LooksUnfinished}
 use Rattle.bao_tasks.specs.Listed.{lines_of_parts}
+use Rattle.bao_tasks.specs.declared.missing.Lack.{Lack}
+use Rattle.bao_tasks.specs.declared.missing.Lack.TheVariants.{Missing, Unasked}
+use Rattle.bao_tasks.specs.declared.missing.MissingParts.{MissingParts}
+use Rattle.bao_tasks.specs.declared.notes.Notes.{Notes}
 use Rattle.bao_command.specs.Effects.{KeepsButList, Lists, PutsBoth}
 use Rattle.bao_command.specs.Printed.{CommandPrints}
 use Rattle.bao_command.specs.Refused.{IsEachBlob, IsRefusedGathering}
 use Rattle.bao_command.specs.Status.{gathered_status_of}
-use Rattle.bao_command.specs.Tasks.{IsBeside, IsOfFile}
+use Rattle.bao_command.specs.Tasks.{IsBeside, IsNoCapacity, IsOfFile}
 use Rattle.bao_command.specs.Works.{IsRightBlob, LeavesGathered}
-use Rattle.bao_command.proofs.Telling.{file_refuses_none, no_refusal, on_line, on_printed, told_prints}
+use Rattle.bao_command.proofs.Telling.{file_is_no_usage, file_refuses_none, no_refusal, no_usage, of_file_or, on_line, on_printed, told_prints}
+use Rattle.bao_command.proofs.Refusals.{check_is_no_usage}
 use Rattle.bao_command.proofs.gathering.gather.Goals as goal
 use Rattle.bao_command.proofs.gathering.gather.Goals.{in-None, in-Some}
 
 -- a fault that isn't one of the files has another status than 1
+-- of what gathering answers 802 alone is one of the arguments
+gathered_usage : (fault : GatheredFault) → gathered_status_of fault ≡ 2 → fault ≡ Gather gather.Capacity
+gathered_usage (File cause) is = absurd (file_is_no_usage cause is)
+gathered_usage (Outboard cause) is = absurd (check_is_no_usage cause is)
+gathered_usage (Gather gather.Store) is = let bad : 4 ≡ 2 = is in absurd (omega arith)
+gathered_usage (Gather gather.Capacity) is = refl
+gathered_usage (Gather gather.TooLarge) is = let bad : 1 ≡ 2 = is in absurd (omega arith)
+gathered_usage (Gather gather.Seat) is = let bad : 4 ≡ 2 = is in absurd (omega arith)
+gathered_usage (Gather gather.Unfinished) is = let bad : 1 ≡ 2 = is in absurd (omega arith)
+gathered_usage (Gather gather.NotTheRoot) is = let bad : 1 ≡ 2 = is in absurd (omega arith)
+gathered_usage (Gather gather.Memory) is = let bad : 4 ≡ 2 = is in absurd (omega arith)
+gathered_usage (Gather gather.Starved) is = let bad : 4 ≡ 2 = is in absurd (omega arith)
+
+unfinished_is_no_usage : gathered_status_of (Gather gather.Unfinished) ≢ 2
+unfinished_is_no_usage is = let bad : 1 ≡ 2 = is in omega arith
+
+no_two : (fault : GatheredFault) (result : Result ℕ GatheredFault) → result ≡ Err fault → gathered_status_of fault ≡ 2 → IsErrOf result (Gather gather.Unfinished) → ⊥
+no_two fault result is two unfinished =
+    let same : fault ≡ Gather gather.Unfinished = cc in
+    unfinished_is_no_usage (subst (λ (f : GatheredFault). gathered_status_of f ≡ 2) same two)
+
 excused_status : (fault : GatheredFault) → IsExcusedGathering fault → gathered_status_of fault ≢ 1
 excused_status (File cause) excused is = file_refuses_none cause is
 excused_status (Outboard cause) excused is = absurd excused
@@ -63,6 +90,25 @@ lists_after at between after (Some list) lines kept listed = record {
 but_list : (at between after : List ℕ → FileState) (list : Option (Bor (List ℕ))) → KeepsFiles at between → KeepsButList between after list → KeepsButList at after list
 but_list at between after list kept (inl also) = inl (before_put at between after kept also)
 but_list at between after list kept (inr parts) = inr (parts.0, lists_after at between after list (lines_of_parts parts.0) kept parts.1)
+
+-- the lines are of some parts
+some_list : (at after : List ℕ → FileState) (list : Option (Bor (List ℕ))) (lack : Lack)
+    → KeepsFiles at after ⊎ ((parts : MissingParts) × (lack ≡ Missing parts) × Lists at after list (lines_of_parts parts.shown.items)) → KeepsButList at after list
+some_list at after list lack (inl kept) = inl kept
+some_list at after list lack (inr listed) = inr (listed.0.shown.items, listed.2)
+
+-- wrong arguments leave the blob unlooked for
+lack_unasked : (fault : GatheredFault) (result : Result ℕ GatheredFault) (old new : Lack) → result ≡ Err fault → gathered_status_of fault ≡ 2 → old ≡ Unasked
+    → LooksUnfinished result old new → new ≡ Unasked
+lack_unasked fault result old new is two unasked (inl unfinished) = absurd (no_two fault result is two unfinished)
+lack_unasked fault result old new is two unasked (inr (inl same)) = same ∙ unasked
+lack_unasked fault result old new is two unasked (inr (inr none)) = none
+
+-- so that nothing is listed
+unlisted : (at after : List ℕ → FileState) (list : Option (Bor (List ℕ))) (lack : Lack) → lack ≡ Unasked
+    → KeepsFiles at after ⊎ ((parts : MissingParts) × (lack ≡ Missing parts) × Lists at after list (lines_of_parts parts.shown.items)) → KeepsFiles at after
+unlisted at after list lack none (inl kept) = kept
+unlisted at after list lack none (inr listed) = let no : Unasked ≡ Missing listed.0 = sym none ∙ listed.1 in absurd cc
 
 of_residual : (result : Result Unit Fault) (fault : Fault) → IsErrAnd result (λ e. e ≡ fault) → IsOfFile fault → IfErr result IsOfFile
 of_residual (Ok done) fault is of = tt
@@ -232,7 +278,7 @@ returns-clause-files g c =
           (subst (λ (r : Result ℕ GatheredFault). OnErr r (KeepsFiles at (g.D.Disk.at w.gather_beside_on-gathered.new.disk))) (sym w.gathered-is ∙ c.in-Err.is)
           w.gather_beside_on-gathered.ensures.kept)
     ] in
-    inl (but_list at between (g.D.Disk.at c.list_lack.new.disk) c.args.paths.list kept c.list_lack.ensures)
+    inl (but_list at between (g.D.Disk.at c.list_lack.new.disk) c.args.paths.list kept (some_list between (g.D.Disk.at c.list_lack.new.disk) c.args.paths.list _ c.list_lack.ensures))
 
 pub returns-clause-refused : goal.returns-clause-refused
 returns-clause-refused g c = λ one.
@@ -255,3 +301,61 @@ returns-clause-refused g c = λ one.
           (w.gather_beside_on-gathered.ensures.available sure known blob is_blob place some small beside have))
     ] in
     (root, (c.in_ok-root.ensures.ok, refused))
+
+pub returns-in-Ok-gathered-clause-usage : goal.returns-in-Ok-gathered-clause-usage
+returns-in-Ok-gathered-clause-usage g c = no_usage _ c.told.result c.told.ensures.file
+
+pub returns-in_err-list_nothing-in-Ok-gathered-clause-usage : goal.returns-in_err-list_nothing-in-Ok-gathered-clause-usage
+returns-in_err-list_nothing-in-Ok-gathered-clause-usage g c =
+    let quiet = c.in_err-list_nothing-in-Ok-gathered.ensures.quiet in
+    let result : Result Unit Fault = c.from_residual-in_err-list_nothing-in-Ok-gathered.result in
+    no_usage _ result (of_residual result _ c.from_residual-in_err-list_nothing-in-Ok-gathered.ensures.1 (quiet.0, quiet.1))
+
+pub returns-clause-usage : goal.returns-clause-usage
+returns-clause-usage g c = λ two.
+    let at = g.D.Disk.at c.args.disk.now in
+    let between = g.D.Disk.at c.match-paths.disk in
+    let after = g.D.Disk.at c.list_lack.new.disk in
+    let kept : KeepsFiles at between = elim c.match-paths.branch [
+      | in-None w ↦
+          subst (λ d. KeepsFiles at (g.D.Disk.at d)) (sym w.disk-is)
+          (subst (λ (r : Result ℕ GatheredFault). OnErr r (KeepsFiles at (g.D.Disk.at w.gather_on-gathered.new.disk))) (sym w.gathered-is ∙ c.in-Err.is) w.gather_on-gathered.ensures.kept)
+      | in-Some w ↦
+          subst (λ d. KeepsFiles at (g.D.Disk.at d)) (sym w.disk-is)
+          (subst (λ (r : Result ℕ GatheredFault). OnErr r (KeepsFiles at (g.D.Disk.at w.gather_beside_on-gathered.new.disk))) (sym w.gathered-is ∙ c.in-Err.is)
+          w.gather_beside_on-gathered.ensures.kept)
+    ] in
+    let unasked : c.match-paths.notes.lack ≡ Unasked = elim c.match-paths.branch [
+      | in-None w ↦
+          subst (λ (n : Notes). n.lack ≡ Unasked) (sym w.notes-is)
+          (lack_unasked c.in-Err.fault w.gather_on-gathered.result _ _ (sym w.gathered-is ∙ c.in-Err.is) two c.in-Ok.ensures.lack w.gather_on-gathered.ensures.looked)
+      | in-Some w ↦
+          subst (λ (n : Notes). n.lack ≡ Unasked) (sym w.notes-is)
+          (lack_unasked c.in-Err.fault w.gather_beside_on-gathered.result _ _ (sym w.gathered-is ∙ c.in-Err.is) two c.in-Ok.ensures.lack w.gather_beside_on-gathered.ensures.looked)
+    ] in
+    before_put at between after kept (unlisted between after c.args.paths.list c.match-paths.notes.lack unasked c.list_lack.ensures)
+
+pub returns-in-Ok-gathered-clause-due : goal.returns-in-Ok-gathered-clause-due
+returns-in-Ok-gathered-clause-due g c = of_file_or _ c.told.result c.told.ensures.file
+
+pub returns-in_err-list_nothing-in-Ok-gathered-clause-due : goal.returns-in_err-list_nothing-in-Ok-gathered-clause-due
+returns-in_err-list_nothing-in-Ok-gathered-clause-due g c =
+    let quiet = c.in_err-list_nothing-in-Ok-gathered.ensures.quiet in
+    let result : Result Unit Fault = c.from_residual-in_err-list_nothing-in-Ok-gathered.result in
+    of_file_or _ result (of_residual result _ c.from_residual-in_err-list_nothing-in-Ok-gathered.ensures.1 (quiet.0, quiet.1))
+
+pub returns-clause-due : goal.returns-clause-due
+returns-clause-due g c = inr (inr (inr (
+  c.in-Err.fault,
+  refl,
+  λ two.
+      let capacity : Err c.in-Err.fault ≡ Err (Gather gather.Capacity) = ap (λ (f : GatheredFault). Err f) (gathered_usage c.in-Err.fault two) in
+      let none : IsNoCapacity c.args.how.capacity = elim c.match-paths.branch [
+        | in-None w ↦ w.gather_on-gathered.ensures.capacity (sym w.gathered-is ∙ c.in-Err.is ∙ capacity)
+        | in-Some w ↦ w.gather_beside_on-gathered.ensures.capacity (sym w.gathered-is ∙ c.in-Err.is ∙ capacity)
+      ] in
+      none,
+)))
+
+pub returns-in-Ok-gathered-clause-few : goal.returns-in-Ok-gathered-clause-few
+returns-in-Ok-gathered-clause-few g c = on_printed c.told.result (omega (arith, c.if-files-gt-MOST_FILES.false))

@@ -1,13 +1,16 @@
-use Rattle.std.proofs.Common.{◌≡◌, ℕ, List, true, Err, IfErr, sym, ap, subst, ◌∙◌}
+use Rattle.std.proofs.Common.{◌≡◌, ℕ, List, [], true, Err, IfErr, inr, sym, ap, subst, ◌∙◌}
 use Rattle.std.proofs.lemmas.Result.{err_from_is_err_and}
-use Rattle.bao_files.specs.Disks.{IsKnown, Stored}
+use Rattle.bao_files.specs.Disks.{IsKnown, IsStored, Stored}
 use Rattle.bao_files.proofs.Disks.{puts_text}
-use Rattle.bao_text.specs.Cut.{claimed}
+use Rattle.bao_text.specs.declared.kinds.Part.TheVariants.{Slice}
+use Rattle.bao_text.specs.Cut.{claimed, cut_text}
 use Rattle.bao_decode.specs.Opened.{is_origin_faultless, origin_contents}
-use Rattle.bao_decode.specs.Weaving.{CutBesideStops, are_whole}
+use Rattle.bao_decode.specs.Weaving.{CutBesideStops, are_whole, woven_text}
 use Rattle.bao_decode.specs.declared.decode_fault.DecodeFault.{DecodeFault}
 use Rattle.bao_decode.proofs.BlobWeavings.{own_beside}
-use Rattle.bao_decode.proofs.Slicings.{beside_done, beside_short, beside_stops}
+use Rattle.bao_decode.proofs.Decodings.{finish_refused, finish_stops}
+use Rattle.bao_decode.proofs.Openings.{is_some}
+use Rattle.bao_decode.proofs.Slicings.{beside_done, beside_short, beside_stops, cut_beside_is, unopened_stops}
 use Rattle.bao_decode.proofs.slicing.slice_beside_on.Goals as goal
 
 pub returns-in-Err-clause-refused : goal.returns-in-Err-clause-refused
@@ -41,6 +44,48 @@ returns-in_err-count-clause-refused g c =
     (never woven.outboard.now × never woven.copy.now) disk c.args.outboard c.args.copy c.args.path (g.D.Draft.Write.contents c.in-Ok.out) (g.D.Draft.Write.contents c.write_slice.new.out) fault
     c.in_ok-beside.ensures.opened c.in_ok-plain.ensures.opened (ap has same.0) (ap has same.1) c.in-Ok-of.ensures.claims
     (λ d. (subst never (sym same.0) (c.in_ok-beside.ensures.sure d), subst never (sym same.1) (c.in_ok-plain.ensures.sure d))) at_outboard at_copy whole c.in_err-count.ensures.known)
+
+pub returns-in_err-plain-clause-refused : goal.returns-in_err-plain-clause-refused
+returns-in_err-plain-clause-refused g c =
+    let before = g.D.Disk.at c.args.disk.now in
+    let mode = c.args.mode.now in
+    let root = c.args.root.now.0 in
+    let start = c.args.start in
+    let len = c.args.len in
+    let disk = g.D.Disk.faultless c.args.disk.now in
+    let exit = err_from_is_err_and c.from_residual-in_err-plain.result c.from_residual-in_err-plain.ensures.1 in
+    finish_refused c.from_residual-in_err-plain.result exit.0 c.in_err-plain.field-0.0
+    (λ f. IsKnown (before c.args.path.now) → (outline bytes : List ℕ) → before c.args.outboard.now ≡ Stored outline → before c.args.copy.now ≡ Stored bytes
+    → are_whole (claimed outline) outline bytes ≡ true → CutBesideStops mode root start len disk outline bytes c.args.outboard c.args.copy c.args.path f) exit.1 exit.2
+    (λ known outline bytes at_outboard at_copy whole.
+    inr (unopened_stops mode root start len (cut_text (woven_text (claimed outline) outline bytes) start len) disk c.args.copy c.args.path c.in_err-plain.field-0.0 c.in_err-plain.ensures.fault
+    (λ d. c.in_err-plain.ensures.there (is_some (g.D.Draft.Write.contents c.in-Ok.out) [] (c.in-Ok.ensures known)) d (subst IsStored (sym at_copy) tt))))
+
+pub returns-in_err-finish-clause-refused : goal.returns-in_err-finish-clause-refused
+returns-in_err-finish-clause-refused g c =
+    let before = g.D.Disk.at c.args.disk.now in
+    let mode = c.args.mode.now in
+    let root = c.args.root.now.0 in
+    let start = c.args.start in
+    let len = c.args.len in
+    let beside = c.in_ok-beside.beside in
+    let plain = c.in_ok-plain.plain in
+    let woven = c.in-Ok-of.woven in
+    let same = c.in-Ok-of.ensures.same in
+    let disk = g.D.Disk.faultless c.args.disk.now in
+    let never = is_origin_faultless g.D.Input.Source.faultless in
+    let has = origin_contents g.D.Input.Source.contents in
+    let done =
+    beside_done mode root start len (before c.args.outboard.now) (before c.args.copy.now) woven.total (has beside) (has plain) (has woven.outboard.now)
+    (has woven.copy.now) (never woven.outboard.now × never woven.copy.now) c.args.copy c.args.path (g.D.Draft.Write.contents c.in-Ok.out) (g.D.Draft.Write.contents c.write_slice.new.out)
+    c.in_ok-count.count c.in_ok-beside.ensures.opened c.in_ok-plain.ensures.opened (ap has same.0) (ap has same.1) c.in-Ok-of.ensures.claims c.in_ok-count.ensures.some c.in_ok-count.ensures.known in
+    let exit = err_from_is_err_and c.from_residual-in_err-finish.result c.from_residual-in_err-finish.ensures.1 in
+    finish_refused c.from_residual-in_err-finish.result exit.0 c.in_err-finish.field-0.0
+    (λ f. IsKnown (before c.args.path.now) → (outline bytes : List ℕ) → before c.args.outboard.now ≡ Stored outline → before c.args.copy.now ≡ Stored bytes
+    → are_whole (claimed outline) outline bytes ≡ true → CutBesideStops mode root start len disk outline bytes c.args.outboard c.args.copy c.args.path f) exit.1 exit.2
+    (λ known outline bytes at_outboard at_copy whole.
+    inr (finish_stops mode root (Slice start len) disk done.0 (cut_text (woven_text (claimed outline) outline bytes) start len) c.args.copy c.args.path c.in_err-finish.field-0.0
+    c.in_err-finish.ensures.fault done.2.0 (cut_beside_is (before c.args.outboard.now) (before c.args.copy.now) outline bytes done.0 start len at_outboard at_copy whole done.1)))
 
 pub returns-clause-done : goal.returns-clause-done
 returns-clause-done g c =

@@ -1,4 +1,4 @@
-use Rattle.std.proofs.Common.{◌≡◌, ◌^◌, ◌<◌, ℕ, List, length, Err, IfErr, sym, ap, subst, ◌∙◌}
+use Rattle.std.proofs.Common.{◌≡◌, ◌^◌, ◌<◌, ℕ, List, length, Err, IfErr, sym, ap, subst, ◌∙◌, arith}
 use Rattle.std.proofs.lemmas.Result.{err_from_is_err_and}
 use Rattle.bao_files.specs.Disks.{IsKnown, Stored}
 use Rattle.bao_text.specs.declared.kinds.Part.TheVariants.{Slice}
@@ -8,7 +8,8 @@ use Rattle.bao_decode.specs.Opened.{is_origin_faultless, origin_contents}
 use Rattle.bao_decode.specs.TextPass.{DecodeStops}
 use Rattle.bao_decode.specs.declared.decode_fault.DecodeFault.{DecodeFault}
 use Rattle.bao_decode.proofs.BlobWeavings.{own_slice}
-use Rattle.bao_decode.proofs.Slicings.{slice_done, slice_stops}
+use Rattle.bao_decode.proofs.Decodings.{finish_refused, finish_stops}
+use Rattle.bao_decode.proofs.Slicings.{cut_is, slice_done, slice_stops}
 use Rattle.bao_decode.proofs.slicing.slice_on.Goals as goal
 
 pub returns-in_err-count-clause-refused : goal.returns-in_err-count-clause-refused
@@ -29,6 +30,27 @@ returns-in_err-count-clause-refused g c =
     slice_stops mode root start len (before c.args.file.now) (origin_contents g.D.Input.Source.contents origin) encoding (is_origin_faultless g.D.Input.Source.faultless origin) disk
     c.args.file c.args.path (g.D.Draft.Write.contents c.in-Ok.out) (g.D.Draft.Write.contents c.write_slice.new.out) fault c.in_ok-encoding.ensures.opened c.in_ok-encoding.ensures.sure
     at_file short c.in_err-count.ensures.known)
+
+pub returns-in_err-finish-clause-refused : goal.returns-in_err-finish-clause-refused
+returns-in_err-finish-clause-refused g c =
+    let before = g.D.Disk.at c.args.disk.now in
+    let mode = c.args.mode.now in
+    let root = c.args.root.now.0 in
+    let start = c.args.start in
+    let len = c.args.len in
+    let origin = c.in_ok-encoding.encoding in
+    let disk = g.D.Disk.faultless c.args.disk.now in
+    let done =
+    slice_done mode root start len (before c.args.file.now) (origin_contents g.D.Input.Source.contents origin)
+    (is_origin_faultless g.D.Input.Source.faultless origin) c.args.file c.args.path (g.D.Draft.Write.contents c.in-Ok.out) (g.D.Draft.Write.contents c.write_slice.new.out) c.in_ok-count.count
+    c.in_ok-encoding.ensures.opened c.in_ok-count.ensures.some c.in_ok-count.ensures.known in
+    let exit = err_from_is_err_and c.from_residual-in_err-finish.result c.from_residual-in_err-finish.ensures.1 in
+    finish_refused c.from_residual-in_err-finish.result exit.0 c.in_err-finish.field-0.0
+    (λ f. IsKnown (before c.args.path.now) → (encoding : List ℕ) → before c.args.file.now ≡ Stored encoding → length encoding < 2 ^ 63
+    → DecodeStops mode root (Slice start len) disk (cut_text encoding start len) c.args.file c.args.path f) exit.1 exit.2
+    (λ known encoding at_file short.
+    finish_stops mode root (Slice start len) disk done.0 (cut_text encoding start len) c.args.file c.args.path c.in_err-finish.field-0.0 c.in_err-finish.ensures.fault done.2.0
+    (cut_is (before c.args.file.now) encoding done.0 start len at_file (omega (arith, short)) done.1))
 
 pub returns-clause-done : goal.returns-clause-done
 returns-clause-done g c =

@@ -1,14 +1,17 @@
-use Rattle.std.proofs.Common.{◌≡◌, ◌⊎◌, ℕ, List, None, Some, Ok, Err, true, refl, inl, inr}
-use Rattle.gather.specs.declared.fault.GatherFault.TheVariants.{Starved, TooLarge}
+use Rattle.std.proofs.Common.{◌≡◌, ◌⊎◌, ◌<◌, ℕ, List, IfSome, None, Option, Some, Ok, Err, false, true, length, refl, sym, ap, subst, ◌∙◌, inl, inr}
+use Rattle.gather.specs.declared.fault.GatherFault.{GatherFault as Cause}
+use Rattle.gather.specs.declared.fault.GatherFault.TheVariants.{Capacity, Starved, TooLarge, Unfinished}
 use Rattle.gather.specs.Large.{HasCollision, fixed_as}
 use Rattle.gather.specs.Lists.{IsFromSource}
 use Rattle.bao_windows.specs.Written.{AreTooLong}
 use Rattle.store_core.specs.declared.fixed.Fixed.{Fixed}
-use Rattle.bao_tasks.specs.declared.gathered_fault.GatheredFault.TheVariants.{Gather}
+use Rattle.bao_tasks.specs.declared.gathered_fault.GatheredFault.TheVariants.{File, Gather}
+use Rattle.bao_files.specs.declared.fault.FileFault.TheVariants.{Read}
 use Rattle.bao_tasks.specs.FromFiles.{AreEnough, IsExcusedGathering, IsFromFile, IsInFile, file_bytes}
+use Rattle.bao_tasks.specs.GatheredFaults.{AreAbsent}
 use Rattle.bao_tasks.specs.TakenFiles.{AreOfFiles, HasSound}
 use Rattle.bao_tasks.specs.Givens.{given_contents, is_given_faultless, most_bytes, watched_contents, watched_faultless}
-use Rattle.bao_tasks.proofs.FromFiles.{drafted_of, excused_end, fault_of, long_wider, met_or_pair, no_sources, not_other_root, not_too_large, one_large, pair_of_files, right_draft, same_ok}
+use Rattle.bao_tasks.proofs.FromFiles.{drafted_of, excused_end, fault_of, first_unread, long_wider, met_or_pair, no_sources, none_untried, not_capacity, not_of_reading, not_other_root, not_too_large, one_large, pair_of_files, right_draft, same_ok, untried_draft}
 use Rattle.bao_tasks.proofs.Together.{all_taken, enough_wider}
 use Rattle.bao_tasks.proofs.gathering.drafted.Given.{Over}
 use Rattle.bao_tasks.proofs.gathering.drafted.Goals as goal
@@ -29,6 +32,70 @@ first_wide g c surely blob pair =
 second_wide : (g : Over) (c : After-attempt-2 g) → (g.D.Disk.faultless c.args.disk.now) → (blob : List ℕ) → HasCollision (IsFromSource c.args.wanted.now.form.now (watched_contents {P = g.row.P.Denot} (given_contents g.D.Input.Source.contents)) (watched_faultless {P = g.row.P.Denot} (is_given_faultless g.D.Input.Source.faultless)) c.take_files-2.new.taken.givens.items) (fixed_as c.args.wanted.now.root.now c.args.wanted.now.mode.now c.args.wanted.now.how.capacity) blob → HasCollision (IsFromFile c.args.wanted.now.form.now c.args.wanted.now.how.capacity (g.D.Disk.at c.args.disk.now) c.args.files.now) (fixed_as c.args.wanted.now.root.now c.args.wanted.now.mode.now c.args.wanted.now.how.capacity) blob
 second_wide g c surely blob pair =
     pair_of_files c.args.wanted.now.form.now (watched_contents {P = g.row.P.Denot} (given_contents g.D.Input.Source.contents)) (watched_faultless {P = g.row.P.Denot} (is_given_faultless g.D.Input.Source.faultless)) (g.D.Disk.faultless c.args.disk.now) c.args.wanted.now.how.capacity (g.D.Disk.at c.args.disk.now) c.args.files.now c.take_files-2.new.taken.givens.items surely (second_of g c) (fixed_as c.args.wanted.now.root.now c.args.wanted.now.mode.now c.args.wanted.now.how.capacity) blob pair
+
+-- where no file is there, the tries have no sources
+first_none : (g : Over) (c : After-attempt g) → AreAbsent (g.D.Disk.at c.args.disk.now) c.args.files.now → length c.take_files.new.taken.givens.items ≡ 0
+first_none g c none = ap length (c.take_files.ensures.absent none ∙ c.new.ensures.items)
+
+second_none : (g : Over) (c : After-attempt-2 g) → AreAbsent (g.D.Disk.at c.args.disk.now) c.args.files.now → length c.take_files-2.new.taken.givens.items ≡ c.attempt.new.tried.count
+second_none g c none =
+    let first : length c.take_files.new.taken.givens.items ≡ 0 = ap length (c.take_files.ensures.absent none ∙ c.new.ensures.items) in
+    ap length (c.take_files-2.ensures.absent none) ∙ first ∙ sym (ap (λ t. t.count) (c.attempt.ensures.same first))
+
+pub returns-in-Ok-Some-clause-absent : goal.returns-in-Ok-Some-clause-absent
+returns-in-Ok-Some-clause-absent g c = λ none.
+    untried_draft _ c.attempt.result c.in-Ok-Some.field-0 c.in-Ok-Some.made (c.attempt.ensures.none (first_none g (goal.at.returns-in-Ok-Some-clause-absent g c).After-attempt none))
+    c.in-Ok-Some.is c.in-Ok-Some.field-0-is
+
+pub returns-in-Err-clause-absent : goal.returns-in-Err-clause-absent
+returns-in-Err-clause-absent g c = λ none.
+    first_unread c.args.files.now c.attempt.result c.in-Err.fault (c.attempt.ensures.none (first_none g (goal.at.returns-in-Err-clause-absent g c).After-attempt none)) c.in-Err.is
+
+pub returns-in-Ok-Some-attempt-clause-absent : goal.returns-in-Ok-Some-attempt-clause-absent
+returns-in-Ok-Some-attempt-clause-absent g c = λ none.
+    untried_draft _ c.attempt-2.result c.in-Ok-Some-attempt.field-0 c.in-Ok-Some-attempt.made (c.attempt-2.ensures.none (second_none g (goal.at.returns-in-Ok-Some-attempt-clause-absent g c).After-attempt-2 none))
+    c.in-Ok-Some-attempt.is c.in-Ok-Some-attempt.field-0-is
+
+pub returns-in-Err-attempt-clause-absent : goal.returns-in-Err-attempt-clause-absent
+returns-in-Err-attempt-clause-absent g c = λ none.
+    first_unread c.args.files.now c.attempt-2.result c.in-Err-attempt.fault (c.attempt-2.ensures.none (second_none g (goal.at.returns-in-Err-attempt-clause-absent g c).After-attempt-2 none))
+    c.in-Err-attempt.is
+
+pub returns-clause-absent : goal.returns-clause-absent
+returns-clause-absent g c = λ none.
+    let first = first_none g (goal.at.returns-clause-absent g c).After-attempt none in
+    let second = second_none g (goal.at.returns-clause-absent g c).After-attempt-2 none in
+    c.cause_of.ensures.none (ap (λ t. t.met) (c.attempt-2.ensures.same second) ∙ ap (λ t. t.met) (c.attempt.ensures.same first))
+
+pub returns-in-Err-clause-unread : goal.returns-in-Err-clause-unread
+returns-in-Err-clause-unread g c = λ path is surely text there. let named : c.in-Err.fault ≡ File (Read path) = cc in not_of_reading c.in-Err.fault path c.in-Err.ensures.writing named
+
+pub returns-in-Err-attempt-clause-unread : goal.returns-in-Err-attempt-clause-unread
+returns-in-Err-attempt-clause-unread g c = λ path is surely text there.
+    let named : c.in-Err-attempt.fault ≡ File (Read path) = cc in not_of_reading c.in-Err-attempt.fault path c.in-Err-attempt.ensures.writing named
+
+pub returns-clause-looked : goal.returns-clause-looked
+returns-clause-looked g c = elim c.lack_left.ensures [
+  | inl met ↦
+      let said : c.cause_of.result ≡ Gather Unfinished = subst (λ (m : Option Cause). IfSome m (λ f. c.cause_of.result ≡ Gather f)) met.0 (c.cause_of.ensures.met met.1) in
+      inl (ap Err said)
+  | inr unasked ↦ inr (inr unasked)
+]
+
+pub returns-clause-unread : goal.returns-clause-unread
+returns-clause-unread g c = λ path is surely text there.
+    let named : c.cause_of.result ≡ File (Read path) = cc in
+    let said = c.cause_of.ensures.unread path named in
+    let left : c.attempt.result ≡ Ok None = same_ok c.attempt.result c.in-Ok-None.field-0 None c.in-Ok-None.is c.in-Ok-None.field-0-is in
+    let left_again : c.attempt-2.result ≡ Ok None = same_ok c.attempt-2.result c.in-Ok-None-attempt.field-0 None c.in-Ok-None-attempt.is c.in-Ok-None-attempt.field-0-is in
+    let first = c.attempt.ensures.unmet left (inl refl) in
+    let second = c.attempt-2.ensures.unmet left_again first.1 in
+    elim (c.take_files.ensures.there refl surely there.0 there.1 text there.2 there.3 there.4) [
+      | inl starved ↦ (let no : true ≡ false = sym (c.take_files-2.ensures.starved starved) ∙ said.0 in cc)
+      | inr has ↦
+          none_untried (watched_contents {P = g.row.P.Denot} (given_contents g.D.Input.Source.contents)) (watched_faultless {P = g.row.P.Denot} (is_given_faultless g.D.Input.Source.faultless))
+          c.take_files-2.new.taken.givens.items c.attempt-2.new.tried.count c.attempt-2.new.tried.met text (second.0 refl) second.1 said.1 (c.take_files-2.ensures.kept text has)
+    ]
 
 pub returns-in-Err-clause-paths : goal.returns-in-Err-clause-paths
 returns-in-Err-clause-paths g c = c.in-Err.ensures.paths c.args.files.now
@@ -128,3 +195,9 @@ returns-clause-too_large g c = λ slices surely is.
     ] in
     let large : c.cause_of.result ≡ Gather TooLarge = cc in
     one_large c.cause_of.result c.attempt.new.tried.met c.attempt-2.new.tried.met (AreTooLong (IsFromFile c.args.wanted.now.form.now c.args.wanted.now.how.capacity (g.D.Disk.at c.args.disk.now) c.args.files.now) (fixed_as c.args.wanted.now.root.now c.args.wanted.now.mode.now c.args.wanted.now.how.capacity) c.args.wanted.now.how.capacity) c.cause_of.ensures.cause first second large
+
+pub returns-clause-capacity : goal.returns-clause-capacity
+returns-clause-capacity g c = λ is.
+    let no : c.cause_of.result ≡ Gather Capacity = cc in
+    absurd {A = (c.args.wanted.now.how.capacity ≡ 0) ⊎ (65536 < c.args.wanted.now.how.capacity)}
+    (not_capacity c.cause_of.result c.attempt-2.new.tried.met c.cause_of.ensures.cause (c.attempt-2.ensures.met (c.attempt.ensures.met tt)) no)

@@ -1,5 +1,6 @@
 use Rattle.std.specs.Borrow.{Bor}
-use Rattle.std.proofs.Common.{ℕ, List, IfErr, Ok, Err, Result, refl, sym, subst, ◌∙◌, inl, inr}
+use Rattle.std.proofs.Common.{◌≡◌, ◌⊎◌, ℕ, List, IfErr, MatchResult, Ok, Err, Result, ap, refl, sym, subst, ◌∙◌, inl, inr}
+use Rattle.std.proofs.lemmas.Result.{err_from_is_err_and}
 use Rattle.b3tree.specs.Valid.{AreBytes}
 use Rattle.bao_decode.specs.Copies.{IsEnoughOf}
 use Rattle.bao_files.specs.Disks.{FileState}
@@ -10,7 +11,10 @@ use Rattle.store_core.specs.declared.fixed.Fixed.{Fixed}
 use Rattle.bao_tasks.specs.Gathered.{HasOutlineIn}
 use Rattle.bao_tasks.proofs.Beside.{are_of, beside_of, outlined_of, outline_in, own_faultless, own_outline, where_ok}
 use Rattle.bao_tasks.specs.declared.gathered_fault.GatheredFault.{GatheredFault}
-use Rattle.bao_tasks.specs.GatheredFaults.{NamesBeside, NamesFirst}
+use Rattle.bao_tasks.specs.declared.gathered_fault.GatheredFault.TheVariants.{File}
+use Rattle.bao_tasks.specs.GatheredFaults.{IsFirstUnread, NamesBeside, NamesFirst, StopsBeside}
+use Rattle.bao_files.specs.declared.fault.FileFault.{FileFault}
+use Rattle.bao_files.specs.declared.fault.FileFault.TheVariants.{Memory, Read}
 use Rattle.bao_tasks.proofs.gathering.gather_beside_on.Goals as goal
 
 -- a fault that names the first of the files names no other path beside the outboard encoding's
@@ -18,6 +22,44 @@ names_beside : (outboard : Bor (List ℕ)) (files : List (Bor (List ℕ))) (path
     → IfErr r (NamesBeside outboard files path)
 names_beside outboard files path (Ok count) names = tt
 names_beside outboard files path (Err fault) names = inr names
+
+-- where no file is there, the fault is of the outboard encoding or of the first file, or there was no memory
+stops_or_first : (outboard : Bor (List ℕ)) (files : List (Bor (List ℕ))) (r : Result ℕ GatheredFault) → MatchResult r (λ _. ⊥) (IsFirstUnread files)
+    → MatchResult r (λ _. ⊥) (λ fault. StopsBeside outboard fault ⊎ IsFirstUnread files fault)
+stops_or_first outboard files (Ok count) is = is
+stops_or_first outboard files (Err fault) is = inr is
+
+stopped : (outboard : Bor (List ℕ)) (files : List (Bor (List ℕ))) (r : Result ℕ GatheredFault) (fault : GatheredFault) (unread : FileFault) → r ≡ Err fault → fault ≡ File unread
+    → (unread ≡ Memory) ⊎ (unread ≡ Read outboard) → MatchResult r (λ _. ⊥) (λ fault. StopsBeside outboard fault ⊎ IsFirstUnread files fault)
+stopped outboard files r fault unread is of (inl none) =
+    subst (λ (s : Result ℕ GatheredFault). MatchResult s (λ _. ⊥) (λ f. StopsBeside outboard f ⊎ IsFirstUnread files f)) (sym is) (inr (inl (of ∙ ap (λ (f : FileFault). File f) none)))
+stopped outboard files r fault unread is of (inr named) =
+    subst (λ (s : Result ℕ GatheredFault). MatchResult s (λ _. ⊥) (λ f. StopsBeside outboard f ⊎ IsFirstUnread files f)) (sym is)
+    (inl (subst (StopsBeside outboard) (sym of) named))
+
+named_outboard : (outboard file : Bor (List ℕ)) (r : Result ℕ GatheredFault) (fault : GatheredFault) (unread : FileFault) → r ≡ Err fault → fault ≡ File unread
+    → (unread ≡ Memory) ⊎ (unread ≡ Read outboard) → r ≡ Err (File (Read file)) → file ≡ outboard
+named_outboard outboard file r fault unread is of (inl none) named = let no : Memory ≡ Read file = cc in cc
+named_outboard outboard file r fault unread is of (inr one) named = cc
+
+pub returns-in_err-text-clause-unread : goal.returns-in_err-text-clause-unread
+returns-in_err-text-clause-unread g c = λ file is surely text there.
+    let exit = err_from_is_err_and c.from_residual.result c.from_residual.ensures.1 in
+    named_outboard c.args.outboard file c.from_residual.result exit.0 c.in_err-text.field-0.0 exit.1 exit.2 c.in_err-text.ensures.fault is
+
+pub returns-clause-absent : goal.returns-clause-absent
+returns-clause-absent g c = λ none. stops_or_first c.args.outboard c.args.files.now c.gather_on.result (c.gather_on.ensures.absent none)
+
+pub returns-in_err-text-clause-absent : goal.returns-in_err-text-clause-absent
+returns-in_err-text-clause-absent g c = λ none.
+    let exit = err_from_is_err_and c.from_residual.result c.from_residual.ensures.1 in
+    stopped c.args.outboard c.args.files.now c.from_residual.result exit.0 c.in_err-text.field-0.0 exit.1 exit.2 c.in_err-text.ensures.fault
+
+pub returns-in-Err-clause-absent : goal.returns-in-Err-clause-absent
+returns-in-Err-clause-absent g c = λ none. inl tt
+
+pub returns-clause-unread : goal.returns-clause-unread
+returns-clause-unread g c = λ file is surely text there. absurd (c.gather_on.ensures.unread file is surely text there)
 
 pub returns-clause-paths : goal.returns-clause-paths
 returns-clause-paths g c = names_beside c.args.outboard c.args.files.now c.args.path c.gather_on.result c.gather_on.ensures.paths

@@ -27,6 +27,9 @@ returns-after-push-clause-taken g c = elim c.match-push.branch [
       inl (items ∙ pushed)
 ]
 
+pub returns-after-push-clause-absent : goal.returns-after-push-clause-absent
+returns-after-push-clause-absent g c = λ none. absurd (c.in-Ok.ensures.found none)
+
 pub returns-after-push-clause-there : goal.returns-after-push-clause-there
 returns-after-push-clause-there g c = elim c.match-push.branch [
   | in-Ok-push w ↦ λ yes sure stored.

@@ -18,7 +18,7 @@ loop-place-preserved g c =
     taking_more (watched_contents (given_contents g.D.Input.Source.contents)) (watched_faultless (is_given_faultless g.D.Input.Source.faultless)) (g.D.Disk.faultless c.args.disk.now)
     (most_bytes c.args.wanted.now.form.now c.args.wanted.now.how.capacity) at paths c.args.regular c.args.taken.now.starved c.args.taken.now.givens.items kinds n c.loop-place.taken.starved
     c.take-fate.new.taken.starved c.loop-place.taken.givens.items c.take-fate.new.taken.givens.items (get_or paths n none) c.requires.kinds
-    (slice_get-get_or kinds n false within_kinds ∙ ap (λ (b : Bool). Some b) kind) (slice_get-get_or paths n none within) c.take-fate.ensures.starved c.take-fate.ensures.taken
+    (slice_get-get_or kinds n false within_kinds ∙ ap (λ (b : Bool). Some b) kind) (slice_get-get_or paths n none within) c.take-fate.ensures.starved c.take-fate.ensures.absent c.take-fate.ensures.taken
     c.take-fate.ensures.there c.loop-place.invariant
 
 pub returns-clause-there : goal.returns-clause-there

@@ -1,10 +1,11 @@
-use Rattle.std.proofs.Common.{Ok, Err, ◌≡◌, ◌∙◌, ap, refl}
+use Rattle.std.proofs.Common.{Ok, Err, ℕ, ◌≡◌, ◌⊎◌, ◌<◌, ◌∙◌, ap, refl, subst}
 use Rattle.bao_windows.specs.declared.fault.WindowsFault.TheVariants as windows
+use Rattle.bao_windows.specs.Written.{IsOfWindows}
 use Rattle.bao_tasks.specs.Givens.{watched_contents, watched_faultless}
 use Rattle.gather.specs.declared.fault.GatherFault.{GatherFault}
-use Rattle.gather.specs.declared.fault.GatherFault.TheVariants.{TooLarge}
+use Rattle.gather.specs.declared.fault.GatherFault.TheVariants.{Capacity, TooLarge}
 use Rattle.bao_tasks.proofs.FromFiles.{same_err}
-use Rattle.bao_tasks.proofs.Windowed.{enough_stored, enough_windows, large_windows, right_of_windows}
+use Rattle.bao_tasks.proofs.Windowed.{enough_stored, enough_windows, large_windows, right_of_windows, windows_have_room}
 use Rattle.bao_tasks.proofs.gathering.write_taken.Goals as goal
 
 pub returns-then-is_stored-clause-available : goal.returns-then-is_stored-clause-available
@@ -53,3 +54,10 @@ returns-in-Err-Gather-clause-too_large g c = λ slices is.
     c.windows-windows.ensures.all
     (same_err c.write_windows.result c.in-Err-Gather.field-0 (windows.Gather TooLarge) c.in-Err-Gather.is (c.in-Err-Gather.field-0-is ∙ ap (λ (f : GatherFault). windows.Gather f) large))
     (c.is_stored.ensures.windows c.if-is_stored.false) c.most_chunks.ensures.most c.write_windows.ensures.too_long refl
+
+pub returns-in-Err-Gather-clause-capacity : goal.returns-in-Err-Gather-clause-capacity
+returns-in-Err-Gather-clause-capacity g c = λ is.
+    let none : c.in-Err-Gather.fault ≡ Capacity = cc in
+    let fault : IsOfWindows (windows.Gather c.in-Err-Gather.fault) = rw (← c.in-Err-Gather.field-0-is) c.in-Err-Gather.ensures.fault in
+    absurd {A = (c.args.wanted.now.how.capacity ≡ 0) ⊎ (65536 < c.args.wanted.now.how.capacity)}
+    (windows_have_room (subst (λ (f : GatherFault). IsOfWindows (windows.Gather f)) none fault))

@@ -47,6 +47,7 @@ gaps-preserved g c =
     record {
       within = next.gap.within;
       total = c.add.ensures.total ∙ before.total;
+      certified = c.add.ensures.certified ∙ before.certified;
       looked = c.add.ensures.looked ∙ before.looked;
       count = omega (arith, c.in_ok-add.ensures.count, before.count, next.before.after, next.some);
       bytes = omega (arith, c.in_ok-add.ensures.bytes, size, fits);

@@ -7,6 +7,7 @@ abbrev pub invariant-gaps : goal.invariant-gaps
 invariant-gaps g l = record {
   within : l.from ≤ l.units;
   total : l.parts.total ≡ l.total;
+  certified : l.parts.certified ≡ l.certified;
   looked : l.parts.looked ≡ place_of l.wanted.grain l.total l.units;
   count : l.parts.count ≤ l.from;
   bytes : l.parts.bytes ≤ place_of l.wanted.grain l.total l.from;

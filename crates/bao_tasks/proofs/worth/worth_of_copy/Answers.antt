@@ -1,6 +1,6 @@
 use Rattle.std.proofs.Common.{◌≡◌, ◌∙◌, ℕ, ◌+◌, List, ap, subst, arith}
 use Rattle.bao_check.specs.Outline.{outline_claimed}
-use Rattle.bao_tasks.specs.Worth.{IsGoodPart, IsWorth, JudgesGroup, Refuses, groups_within}
+use Rattle.bao_tasks.specs.Worth.{IsGoodPart, IsWorth, JudgesGroup, Refuses, group_count}
 use Rattle.bao_tasks.proofs.Counting.{more, none}
 use Rattle.bao_tasks.proofs.Said.{said_always, said_both, said_then}
 use Rattle.bao_tasks.proofs.worth.worth_of_copy.Goals as goal
@@ -24,10 +24,10 @@ loop-group-preserved g c =
 pub returns-clause-worth : goal.returns-clause-worth
 returns-clause-worth g c =
     let good : List ℕ → ℕ → Type 0 = (λ copy. IsGoodPart c.args.outline.now copy) in
-    let all : c.loop-group.group ≡ c.groups_within-groups.result = omega arith in
-    let asked = c.groups_within-groups.ensures ∙ ap (groups_within c.args.capacity) c.claimed.ensures in
+    let all : c.loop-group.group ≡ c.group_count-groups.result = omega arith in
+    let asked = c.group_count-groups.ensures.value ∙ ap group_count c.claimed.ensures in
     said_then _ _ (λ copy. Refuses (good copy) c.loop-group.group c.loop-group.refused)
-    (λ copy. IsWorth (good copy) (groups_within c.args.capacity (outline_claimed c.args.outline.now)) (record { groups = c.groups_within-groups.result; refused = c.loop-group.refused }))
+    (λ copy. IsWorth (good copy) (group_count (outline_claimed c.args.outline.now)) (record { groups = c.group_count-groups.result; refused = c.loop-group.refused }))
     (λ copy refuses. record {
       asked = asked;
       refuses = subst (λ (n : ℕ). Refuses (good copy) n c.loop-group.refused) (all ∙ asked) refuses;

@@ -1,11 +1,11 @@
-use Rattle.std.proofs.Common.{◌≡◌, ◌⊎◌, ◌≤◌, ℕ, List, Err, IfOk, Result, subst, sym, length, inl, inr}
+use Rattle.std.proofs.Common.{◌≡◌, ◌⊎◌, ◌≤◌, ℕ, List, Err, IfOk, Result, arith, subst, sym, length, inl, inr}
 use Rattle.bao_text.specs.Choice.{chunk_count}
 use Rattle.bao_tasks.proofs.FromFiles.{bare_as, bare_length, blob_as, found_as, long_as, out_as, own_as, own_length, pair_as, same_err}
 use Rattle.bao_tasks.proofs.Parts.{not_gathered, written_out}
-use Rattle.bao_tasks.proofs.Windowed.{not_large, right_out}
+use Rattle.bao_tasks.proofs.Windowed.{no_capacity, not_large, right_out}
 use Rattle.bao_tasks.proofs.writing.write_gathered.Goals as goal
 use Rattle.gather.specs.declared.fault.GatherFault.{GatherFault}
-use Rattle.gather.specs.declared.fault.GatherFault.TheVariants.{NotTheRoot, TooLarge}
+use Rattle.gather.specs.declared.fault.GatherFault.TheVariants.{Capacity, NotTheRoot, TooLarge}
 use Rattle.gather.specs.HandedOut.{IsHandedOut, own_bytes}
 use Rattle.gather.specs.Large.{AreLonger, AreTheBlob, HasCollision, fixed_as}
 use Rattle.gather.specs.Lists.{IsFromSource}
@@ -147,3 +147,15 @@ returns-in-Err-clause-too_large g c = λ slices is.
     let large : c.in-Err.fault ≡ TooLarge = cc in
     let longer : AreLonger handed (fixed_as root mode room) = c.gather.ensures.gathers.longer (same_err c.gather.result c.in-Err.fault TooLarge c.in-Err.is large) in
     long_as handed root mode c.args.how.capacity (subst (λ (n : ℕ). AreLonger handed (fixed_as root mode n)) (c.capacity_for-capacity.ensures.slices slices) longer)
+
+pub returns-in-Ok-clause-capacity : goal.returns-in-Ok-clause-capacity
+returns-in-Ok-clause-capacity g c = λ is. absurd (no_capacity c.args.path _ _ _ c.write_found.result c.write_found.ensures.fault is)
+
+pub returns-in-Err-clause-capacity : goal.returns-in-Err-clause-capacity
+returns-in-Err-clause-capacity g c = λ is.
+    let none : c.in-Err.fault ≡ Capacity = cc in
+    let room : ℕ = c.capacity_for-capacity.result in
+    elim (c.gather.ensures.gathers.certified.capacity.0 (same_err c.gather.result c.in-Err.fault Capacity c.in-Err.is none)) [
+      | inl zero ↦ inl (c.capacity_for-capacity.ensures.none zero)
+      | inr large ↦ inr (omega (arith, large, c.capacity_for-capacity.ensures.most))
+    ]

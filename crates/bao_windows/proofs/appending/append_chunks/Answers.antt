@@ -28,5 +28,5 @@ chunks-preserved c =
         | inr high ↦ inl (omega (arith, high, c.min-count.ensures, c.chunks.invariant.step, c.chunks-test.true))
       ];
       done = adds_more_of piece at came n _ _ _ bytes c.chunks.invariant.done c.in_ok-extend_from_slice.ensures.items size
-          (of_chunk piece (at + came) ((at + came) / 1024) bytes same c.in-Some.ensures.binds);
+          (of_chunk piece (at + came) ((at + came) / 1024) bytes same (sym c.in-Some.ensures.value) c.in-Some.ensures.binds);
     }

@@ -1,5 +1,6 @@
 use Rattle.crews.proofs.Common.{sym, subst, inl, inr, Grain, IsServed, made_of, IsHanded, IsTooLarge, large_wider, onward, Fixed}
 use Rattle.gather.proofs.Forming.{later_parts}
+use Rattle.gather.proofs.Serving.{failed_since}
 use Rattle.gather.specs.declared.grain.Grain.TheVariants.{Chunk as ByChunk}
 use Rattle.gather.specs.Parts.{HaveParts, IsFor}
 use Rattle.crews.specs.Going.{goes}
@@ -9,8 +10,11 @@ use Rattle.crews.proofs.closing.closing_rounds.Goals as goal
 
 pub returns-in-Group-clause-served : goal.returns-in-Group-clause-served
 returns-in-Group-clause-served g c = λ blob of served have.
-    c.work_as.ensures.parts blob of served
-    (subst (λ (grain : Grain). HaveParts c.args.form.now grain g.H.Holder.gives (fixed_of c.args.seat.now).mode blob c.args.holders.now) c.in-Group.is have)
+    elim (c.work_as.ensures.parts blob of served
+    (subst (λ (grain : Grain). HaveParts c.args.form.now grain g.H.Holder.gives (fixed_of c.args.seat.now).mode blob c.args.holders.now) c.in-Group.is have)) [
+      | inl failed ↦ inl (failed_since c.args.report.now c.work_as.new.report failed)
+      | inr met ↦ inr met
+    ]
 
 pub returns-in-Chunk-clause-reports : goal.returns-in-Chunk-clause-reports
 returns-in-Chunk-clause-reports g c = onward fixed_of GoneOn goes _ _ _ _ _ _ _ _ _ _ _ _ c.work_as.ensures.reports c.salvage.ensures.reports
@@ -28,10 +32,13 @@ returns-in-Chunk-clause-served g c = λ blob of served have.
     let now : HaveParts form ByChunk g.H.Holder.gives (fixed_of mid).mode blob c.work_as.new.holders =
     subst (λ (f : Fixed). HaveParts form ByChunk g.H.Holder.gives f.mode blob c.work_as.new.holders) (sym same) (later_parts form ByChunk g.H.Holder.gives F.mode blob _ _ first.later asked) in
     elim (c.salvage.ensures.parts blob (subst (λ (f : Fixed). IsFor form f blob) (sym same) of) (subst (λ (f : Fixed). IsServed f blob) (sym same) served) now) [
-      | inl failed ↦ inl failed
+      | inl failed ↦ inl (failed_since c.work_as.new.report c.salvage.new.report failed)
       | inr (inl large) ↦
-          inr (inl (large_wider _ (IsHanded gives old) first.reports.no_more F
-          (subst (λ (f : Fixed). IsTooLarge (IsHanded gives c.work_as.new.holders) f) same large)))
+          inr (inl (
+            large.0,
+            large_wider _ (IsHanded gives old) first.reports.no_more F
+                (subst (λ (f : Fixed). IsTooLarge (IsHanded gives c.work_as.new.holders) f) same large.1),
+          ))
       | inr (inr filled) ↦
           inr (inr (record {
             recorded = filled.recorded;

@@ -1,9 +1,10 @@
-use Rattle.crews.proofs.Common.{IsTrue, sym, subst, Mode, IsKeyed, accepted_binds, are_longer, made_of, Report, IsAnswered, fixed_of}
-use Rattle.crews.proofs.Summing.{answered_all, each_then, failed_all, large_all, seats_bind}
+use Rattle.crews.proofs.Common.{IsTrue, sym, subst, Mode, IsKeyed, accepted_binds, are_longer, made_of, served, Report, IsAnswered, fixed_of}
+use Rattle.crews.proofs.Summing.{all_fill, answered_all, each_then, each_wider, failed_all, large_all, seats_bind}
 use Rattle.crews.proofs.runs.run_as.Goals as goal
 
 pub returns-clause-each : goal.returns-clause-each
-returns-clause-each g c = each_then c.args.assembly.now (made_of c.args.form.now g.H.Holder.gives) g.H.Holder.count _ _ _ c.first_round.ensures c.last_round.ensures
+returns-clause-each g c = each_then c.args.assembly.now (made_of c.args.form.now g.H.Holder.gives) g.H.Holder.count _ _ _ c.first_round.ensures
+    (each_wider _ _ _ _ (λ x y closes. closes.worked) c.last_round.ensures)
 
 pub returns-clause-binds : goal.returns-clause-binds
 returns-clause-binds g c = seats_bind _ _ _ _ _ (subst (λ (mode : Mode). IsKeyed mode) c.mode.ensures c.is_keyed.ensures) (returns-clause-each g c)
@@ -21,3 +22,9 @@ returns-clause-too_large g c = λ large.
 pub returns-clause-longer : goal.returns-clause-longer
 returns-clause-longer g c = λ large.
     are_longer accepted_binds _ (fixed_of c.args.assembly.now) (subst (λ (mode : Mode). IsKeyed mode) c.mode.ensures c.is_keyed.ensures) (returns-clause-too_large g c large)
+
+pub returns-clause-available : goal.returns-clause-available
+returns-clause-available g c = λ blob is first room for.
+    all_fill c.args.assembly.now c.args.form.now g.H.Holder.gives g.H.Holder.count blob _ _ _ for
+    (served (fixed_of c.args.assembly.now) blob (subst (λ (mode : Mode). IsKeyed mode) c.mode.ensures c.is_keyed.ensures) is first room c.args.assembly.now.words.limit) c.first_round.ensures
+    c.last_round.ensures

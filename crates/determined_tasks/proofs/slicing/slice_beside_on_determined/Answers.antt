@@ -5,7 +5,8 @@ use Rattle.bao_files.specs.Disks.{IsKnown, Stored}
 use Rattle.bao_text.specs.declared.kinds.Part.TheVariants.{Slice}
 use Rattle.bao_files.proofs.Results.{with_fault, with_right}
 use Rattle.determined_files.proofs.OnDisks.{both_kept, if_ok}
-use Rattle.determined_tasks.proofs.Cuts.{both_cut, cut_beside_is, part_is, slices_beside_agree}
+use Rattle.bao_decode.proofs.Slicings.{cut_beside_is}
+use Rattle.determined_tasks.proofs.Cuts.{both_cut, part_is, slices_beside_agree}
 use Rattle.determined_tasks.proofs.Decoded.{absent_agree, none_there}
 use Rattle.determined_tasks.proofs.slicing.slice_beside_on_determined.Goals as goal
 

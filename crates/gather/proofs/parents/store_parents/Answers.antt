@@ -1,11 +1,11 @@
-use Rattle.gather.proofs.Common.{◌≡◌, ◌∙◌, ◌⊎◌, ◌/◌, false, true, ap, inl, inr, both_ways, cases_lt, IsOf, length_of, ℕ, sym, subst, arith, Fixed, piece_of}
+use Rattle.gather.proofs.Common.{◌≡◌, ◌∙◌, ◌⊎◌, ◌/◌, false, true, ap, inl, inr, refl, both_ways, cases_lt, IsOf, length_of, ℕ, sym, subst, arith, Fixed, piece_of}
 use Rattle.gather.specs.declared.report.Report.{Report}
-use Rattle.gather.specs.Counts.{Fits, HasFailed, Reports}
+use Rattle.gather.specs.Counts.{Fits, HasFailedSince, Reports}
 use Rattle.gather.specs.Holders.{IsIt}
 use Rattle.gather.proofs.Gaining.{among_onward}
 use Rattle.gather.specs.Available.{IsOfOtherLength}
 use Rattle.gather.proofs.Grouping.{held_below, parent_marked}
-use Rattle.gather.proofs.Serving.{fails_on, memory_counts}
+use Rattle.gather.proofs.Serving.{fails_from, fails_until, memory_counts}
 use Rattle.store_core.specs.Pieces.{holds_parent}
 use Rattle.gather.proofs.Reporting.{counted_none, none_gained, onward, starved, stored_some}
 use Rattle.gather.proofs.parents.store_parents.Goals.{in-Ok, in-Err+then-eq, in-Err+else-eq}
@@ -46,17 +46,17 @@ loop-group-preserved g c =
           let recorded : g.S.Shelf.records old (length_of (piece_of F.base c.args.piece.now)) =
           g.S.Shelf.lasts.length _ _ _ c.loop-group.invariant.1.chunks c.loop-group.invariant.1.parents _ c.loop-group.invariant.1.gains known in
           let other : IsOfOtherLength g.S.Shelf.records old (piece_of (g.S.Shelf.fixed_of old).base c.args.piece.now) → ⊥ = λ no. no _ recorded (ap (λ (f : Fixed). length_of (piece_of f.base c.args.piece.now)) (sym same)) in
-          let All : Report → Type 0 = λ y. HasFailed y ⊎ ((m : ℕ) → m / 64 ≡ group → holds_parent it m ≡ true → g.S.Shelf.has_parent new m) in
+          let All : Report → Type 0 = λ y. HasFailedSince c.args.report.now y ⊎ ((m : ℕ) → m / 64 ≡ group → holds_parent it m ≡ true → g.S.Shelf.has_parent new m) in
           let here : All c.match-commit_parents.report = elim c.match-commit_parents.branch [
             | in-Ok w ↦ inr (λ m at has. w.in-Ok.ensures.parents m at (back (g.S.Shelf.fixed_of old) m has same))
-            | in-Err+then-eq w ↦ inl (subst HasFailed (sym w.report-is) (memory_counts _ _ w.count_memory.ensures))
+            | in-Err+then-eq w ↦ inl (subst (λ (r : Report). HasFailedSince c.args.report.now r) (sym w.report-is) (fails_from c.args.report.now x w.count_memory.new.self c.loop-group.invariant.1.no_less (memory_counts x x w.count_memory.new.self refl w.count_memory.ensures)))
             | in-Err+else-eq w ↦ elim w.in-Err.ensures.refused [
               | inl memory ↦ let no : false ≡ true = rw memory at w.if-eq.ensures in cc
               | inr (inl other_root) ↦ absurd (other_root now_of)
               | inr (inr other_length) ↦ absurd (other other_length)
             ]
           ] in
-          held_below g.S.Shelf.has_parent old new it c.loop-group.from group x c.match-commit_parents.report (fails_on x c.match-commit_parents.report one.no_less)
+          held_below g.S.Shelf.has_parent old new it c.loop-group.from group c.args.report.now x c.match-commit_parents.report (fails_until c.args.report.now x c.match-commit_parents.report one.no_less)
           (λ m. g.S.Shelf.lasts.parent _ _ _ one.chunks one.parents m one.gains)
           (λ m since before low has. both_ways _ (c.in-Some.ensures.3 (m / 64) since before) (parent_marked c.args.piece.now c.boundary_groups-groups.result F.base m c.boundary_groups-groups.ensures low has))
           here (c.loop-group.invariant.4 of known),

@@ -4,7 +4,7 @@ use Rattle.gather.proofs.Common.{None, Some, true, ◌∙◌, ◌%◌, ◌≡◌
 use Rattle.gather.specs.declared.grain.Grain.TheVariants.{Chunk as ByChunk}
 use Rattle.gather.specs.Available.{IsServed, slice_of}
 use Rattle.gather.proofs.Forming.{asked_reaches, chunk_checked, end_at, later_parts, length_for, slices_for, slices_parts}
-use Rattle.gather.proofs.Serving.{fails_on, wanted_one}
+use Rattle.gather.proofs.Serving.{fails_from, fails_until, wanted_one}
 use Rattle.gather.specs.Forms.{checked_len, made_of}
 use Rattle.gather.specs.Parts.{HaveParts, IsFor}
 use Rattle.gather.proofs.salvaging.salvage.Goals as goal
@@ -68,9 +68,9 @@ loop-chunk-preserved g c = (
         subst (λ (k : ℕ). holds_chunk (slice_of (g.S.Shelf.fixed_of x.seat) blob part.start size) k ≡ true) (sym one)
             (let reach = asked_reaches c.args.form.now (g.S.Shelf.fixed_of x.seat) blob ByChunk at part.start size of below asked in here.holds at part.start size below reach.0 reach.1),
       ))) [
-        | inl failed ↦ inl failed
+        | inl failed ↦ inl (fails_from c.args.report.now x.report c.work_part.new.report x.invariant.1.no_less failed)
         | inr filled ↦ elim (x.invariant.4 blob are served has long) [
-          | inl failed ↦ inl (fails_on x.report c.work_part.new.report met.reports.no_less failed)
+          | inl failed ↦ inl (fails_until c.args.report.now x.report c.work_part.new.report met.reports.no_less failed)
           | inr before ↦ inr (λ n early there. elim (cases_lt n at) [
             | inl sooner ↦ elim (before n sooner there) [
               | inl held ↦ inl (g.S.Shelf.lasts.chunk _ _ _ met.reports.chunks met.reports.parents n met.reports.gains held)

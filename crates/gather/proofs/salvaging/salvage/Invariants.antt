@@ -2,7 +2,7 @@ use Rattle.gather.specs.Forms.{made_of}
 use Rattle.gather.specs.Parts.{HaveParts, IsFor}
 use Rattle.gather.specs.Claims.{Among}
 use Rattle.gather.proofs.Common.{sum_by, ◌≡◌, ◌⊎◌, ℕ, ◌<◌, List, length, chunk_count}
-use Rattle.gather.specs.Counts.{HasFailed, Reports}
+use Rattle.gather.specs.Counts.{HasFailedSince, Reports}
 use Rattle.gather.specs.Holders.{AreLater, IsHanded}
 use Rattle.gather.specs.declared.grain.Grain.TheVariants.{Chunk as ByChunk}
 use Rattle.gather.specs.Available.{IsServed}
@@ -14,5 +14,5 @@ invariant-loop-chunk g l = g.S.Shelf.has l.shelf l.seat
     × Among (g.S.Shelf.claims l.fn.seat) (g.S.Shelf.claims l.seat)
     × AreLater (made_of l.form g.H.Holder.gives) l.fn.holders l.holders
     × ((blob : List ℕ) → IsFor l.form (g.S.Shelf.fixed_of l.fn.seat) blob → IsServed (g.S.Shelf.fixed_of l.fn.seat) blob → HaveParts l.form ByChunk g.H.Holder.gives (g.S.Shelf.fixed_of l.fn.seat).mode blob l.fn.holders → l.length ≡ length blob
-    → HasFailed l.report ⊎ ((c : ℕ) → c < l.chunk → c < chunk_count (length blob) → g.S.Shelf.holds l.seat c ⊎ g.S.Shelf.busy l.fn.seat c))
+    → HasFailedSince l.fn.report l.report ⊎ ((c : ℕ) → c < l.chunk → c < chunk_count (length blob) → g.S.Shelf.holds l.seat c ⊎ g.S.Shelf.busy l.fn.seat c))
     × g.S.Shelf.records l.seat l.length

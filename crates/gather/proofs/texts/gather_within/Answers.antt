@@ -11,7 +11,7 @@ use Rattle.gather.specs.declared.fault.GatherFault.{GatherFault}
 use Rattle.gather.specs.declared.fault.GatherFault.TheVariants.{Starved}
 use Rattle.gather.specs.declared.grain.Grain.TheVariants.{Group as ByGroup}
 use Rattle.gather.specs.Available.{HaveSlices, IsFilled}
-use Rattle.gather.specs.Counts.{HasFailed}
+use Rattle.gather.specs.Counts.{HasFailed, IsToldTooLarge}
 use Rattle.gather.specs.Encodings.{IsCut, IsCutOf, cut_gives, encoding}
 use Rattle.gather.specs.Finished.{IsFinished}
 use Rattle.gather.specs.HandedOut.{Gathers}
@@ -80,14 +80,14 @@ returns-clause-covered c = λ blob is room have.
     let met = c.run_one-report.ensures in
     let large : IsTooLarge cut fixed → HasCollision cut fixed blob = large_pair cut fixed blob c.is_keyed.ensures is refl room in
     let available : (it : List ℕ) → IsBlob fixed it → fixed.base ≡ 0 → chunk_count (length it) ≤ c.args.capacity → HaveSlices ByGroup IsCut c.args.mode it holders
-    → HasFailed report ⊎ IsTooLarge (IsHanded IsCut holders) fixed ⊎ IsFilled Records HoldsChunk IsBusy store c.run_one-report.new.store it =
+    → HasFailed report ⊎ IsToldTooLarge report (IsHanded IsCut holders) fixed ⊎ IsFilled Records HoldsChunk IsBusy store c.run_one-report.new.store it =
     subst (λ (f : Fixed). (it : List ℕ) → IsBlob f it → f.base ≡ 0 → chunk_count (length it) ≤ f.capacity → HaveSlices ByGroup IsCut f.mode it holders
-    → HasFailed report ⊎ IsTooLarge (IsHanded IsCut holders) f ⊎ IsFilled Records HoldsChunk IsBusy store c.run_one-report.new.store it) made.fixed_is met.available in
+    → HasFailed report ⊎ IsToldTooLarge report (IsHanded IsCut holders) f ⊎ IsFilled Records HoldsChunk IsBusy store c.run_one-report.new.store it) made.fixed_is met.available in
     out_by vec_items cut fixed blob (Err c.why.result) (returns-clause-gathers c) is (λ e. large ((returns-clause-gathers c).too_large e)) (λ e.
     let told = why_unfinished c.in-Err-finish_one.fault report (sym c.why.ensures ∙ cc) in
     elim (available blob is refl room (slices_mapped encoding cut_gives ByGroup c.args.mode blob holders texts over have)) [
       | inl memory ↦ absurd (omega (arith, memory, told.1))
-      | inr (inl too) ↦ large (large_wider _ cut (handed_cut holders texts over) fixed too)
+      | inr (inl too) ↦ large (large_wider _ cut (handed_cut holders texts over) fixed too.1)
       | inr (inr filled) ↦
           unfinished_pair cut fixed store c.run_one-report.new.store met.worked.chunks met.worked.parents blob made.fixed_is c.is_keyed.ensures is made.state
           (wider_work _ cut (handed_cut holders texts over) _ _ _ _ met.worked.worked) filled

@@ -5,7 +5,7 @@ use Rattle.gather.specs.Holders.{AreLater, IsHanded}
 use Rattle.gather.specs.Large.{IsTooLarge}
 use Rattle.gather.proofs.Gaining.{among_onward}
 use Rattle.gather.proofs.Reporting.{among_holders, handed_here, large_wider, later_one, later_then, onward, onward_none}
-use Rattle.gather.proofs.Serving.{fails_on, get_set_after, known_some, slice_here}
+use Rattle.gather.proofs.Serving.{fails_from, fails_until, get_set_after, known_some, slice_here}
 use Rattle.gather.specs.Forms.{made_of}
 use Rattle.gather.specs.Parts.{IsFor}
 use Rattle.gather.proofs.worker.agree.Goals.{then-is_some-via-else-is_some+then-too_large, then-is_some-via-then-is_some}
@@ -33,14 +33,16 @@ loop-holder-preserved g c =
       later,
       λ k after. get_set_after x.holders x.holder-index k _ (omega (arith, after)) ∙ x.invariant.4 k (omega (arith, after)),
       then.records,
-      λ large.
-          large_wider _ handed x.invariant.1.no_more F
-          (subst (λ (f : Fixed). IsTooLarge (IsHanded (made_of c.args.form.now g.H.Holder.gives) x.holders) f) same
-          (large_wider _ (IsHanded (made_of c.args.form.now g.H.Holder.gives) x.holders) (handed_here (made_of c.args.form.now g.H.Holder.gives) x.holders x.holder-index c.holder-item.result here) _ (met.large large))),
+      λ large. (
+        (met.large large).0,
+        large_wider _ handed x.invariant.1.no_more F
+            (subst (λ (f : Fixed). IsTooLarge (IsHanded (made_of c.args.form.now g.H.Holder.gives) x.holders) f) same
+            (large_wider _ (IsHanded (made_of c.args.form.now g.H.Holder.gives) x.holders) (handed_here (made_of c.args.form.now g.H.Holder.gives) x.holders x.holder-index c.holder-item.result here) _ (met.large large).1)),
+      ),
       λ blob start len are served end has before. elim (cases_lt has.place x.holder-index) [
         | inl sooner ↦ elim (x.invariant.7 blob start len are served end has sooner) [
-          | inl failed ↦ inl (fails_on x.report c.ask_end-too_large.new.report met.reports.no_less failed)
-          | inr (inl large) ↦ inr (inl large)
+          | inl failed ↦ inl (fails_until c.args.report.now x.report c.ask_end-too_large.new.report met.reports.no_less failed)
+          | inr (inl large) ↦ inr (inl (met.reports.stays large.0, large.1))
           | inr (inr some) ↦ inr (inr (known some))
         ]
         | inr not_sooner ↦
@@ -50,7 +52,7 @@ loop-holder-preserved g c =
             (slice_here (made_of c.args.form.now g.H.Holder.gives) F.mode blob start len c.args.holders.now x.holders c.holder-item.result has (x.invariant.4 has.place (omega (arith, at)))) in
             elim (met.agreed blob start len (subst (λ (f : Fixed). IsFor c.args.form.now f blob) (sym same) are) (subst (λ (f : Fixed). IsServed f blob) (sym same) served) end
             (subst (λ (f : Fixed). GivesSlice (made_of c.args.form.now g.H.Holder.gives) f.mode blob start len (get_or x.holders x.holder-index c.holder-item.result)) (sym same) slices)) [
-              | inl failed ↦ inl failed
+              | inl failed ↦ inl (fails_from c.args.report.now x.report c.ask_end-too_large.new.report x.invariant.1.no_less failed)
               | inr recorded ↦ inr (inr (subst (λ (o : Option ℕ). IsSome o) (sym (then.known recorded.0 recorded.1)) refl))
             ]
       ],

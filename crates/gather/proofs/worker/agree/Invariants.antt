@@ -2,12 +2,11 @@ use Rattle.gather.specs.Forms.{made_of}
 use Rattle.gather.specs.Parts.{IsEndIn, IsFor}
 use Rattle.gather.specs.Claims.{Among}
 use Rattle.gather.proofs.Common.{sum_by, ◌≡◌, ◌⊎◌, ℕ, ◌<◌, ◌≤◌, List, IfSome, IsSome, IsTrue, slice_get}
-use Rattle.gather.specs.Counts.{Reports}
+use Rattle.gather.specs.Counts.{IsToldTooLarge, Reports}
 use Rattle.gather.specs.Holders.{AreLater, IsHanded}
 use Rattle.gather.proofs.worker.agree.Given as goal
 use Rattle.gather.specs.Available.{HasSlice, IsServed}
-use Rattle.gather.specs.Counts.{HasFailed}
-use Rattle.gather.specs.Large.{IsTooLarge}
+use Rattle.gather.specs.Counts.{HasFailedSince}
 
 abbrev pub invariant-loop-holder : goal.invariant-loop-holder
 invariant-loop-holder g l = g.S.Shelf.has l.shelf l.seat
@@ -16,7 +15,7 @@ invariant-loop-holder g l = g.S.Shelf.has l.shelf l.seat
     × AreLater (made_of l.form g.H.Holder.gives) l.fn.holders l.holders
     × ((k : ℕ) → l.holder-index ≤ k → slice_get l.holders k ≡ slice_get l.fn.holders k)
     × IfSome l.length (λ n. g.S.Shelf.records l.seat n)
-    × (IsTrue l.too_large → IsTooLarge (IsHanded (made_of l.form g.H.Holder.gives) l.fn.holders) (g.S.Shelf.fixed_of l.fn.seat))
+    × (IsTrue l.too_large → IsToldTooLarge l.report (IsHanded (made_of l.form g.H.Holder.gives) l.fn.holders) (g.S.Shelf.fixed_of l.fn.seat))
     × ((blob : List ℕ) (start len : ℕ) → IsFor l.form (g.S.Shelf.fixed_of l.fn.seat) blob → IsServed (g.S.Shelf.fixed_of l.fn.seat) blob → IsEndIn l.form start len
     → (has : HasSlice (made_of l.form g.H.Holder.gives) (g.S.Shelf.fixed_of l.fn.seat).mode blob start len l.fn.holders) → has.place < l.holder-index
-    → HasFailed l.report ⊎ IsTooLarge (IsHanded (made_of l.form g.H.Holder.gives) l.fn.holders) (g.S.Shelf.fixed_of l.fn.seat) ⊎ IsSome l.length)
+    → HasFailedSince l.fn.report l.report ⊎ IsToldTooLarge l.report (IsHanded (made_of l.form g.H.Holder.gives) l.fn.holders) (g.S.Shelf.fixed_of l.fn.seat) ⊎ IsSome l.length)

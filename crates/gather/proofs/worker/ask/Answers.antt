@@ -1,4 +1,4 @@
-use Rattle.gather.proofs.Common.{Err, ap, refl, sym, subst, arith, piece_of, ◌≡◌, ◌/◌, ◌%◌, ◌==◌, false, true, inl, inr, eqb-true, and_parts, both_ways, cases_Bool, Piece, has_bit, in_mask, holds_chunk}
+use Rattle.gather.proofs.Common.{Err, ℕ, Fixed, IsOf, ap, length, length_of, refl, sym, subst, arith, piece_of, ◌≡◌, ◌∙◌, ◌/◌, ◌%◌, ◌==◌, false, true, inl, inr, eqb-true, and_parts, both_ways, cases_Bool, Piece, has_bit, in_mask, holds_chunk}
 use Rattle.gather.specs.declared.holder.HolderFault.{HolderFault}
 use Rattle.gather.specs.declared.report.Report.{Report}
 use Rattle.gather.specs.Counts.{Fits, Reports}
@@ -8,8 +8,9 @@ use Rattle.gather.proofs.Appending.{appended_all}
 use Rattle.gather.proofs.Reporting.{starved, beside, fetch_fault, fetch_some, lost_or_failed, it_gained, narrowed, none_gained, onward, refused_done, stored_some}
 use Rattle.gather.specs.Available.{slice_of}
 use Rattle.gather.proofs.Bits.{in_without}
-use Rattle.gather.proofs.Serving.{rest_parts}
+use Rattle.gather.proofs.Serving.{fails_from, memory_counts, rest_parts}
 use Rattle.gather.specs.Forms.{checked_len, made_of}
+use Rattle.store_core.specs.Pieces.{holds_parent}
 use Rattle.gather.proofs.Forming.{made_given, made_no_more, slice_given, slice_lost, slice_made, slice_of_store, slice_refused}
 use Rattle.gather.proofs.worker.ask.Goals as goal
 
@@ -25,7 +26,7 @@ returns-in-Err-clause-reports g c =
 
 pub returns-in-Err-clause-served : goal.returns-in-Err-clause-served
 returns-in-Err-clause-served g c = λ blob are served slices asked.
-    elim (lost_or_failed _ _ c.in-Err.fault c.count_lost.ensures (λ device. c.in-Err.ensures.lost (ap (λ (f : HolderFault). Err f) device))) [
+    elim (lost_or_failed _ _ _ c.in-Err.fault c.count_asked.ensures c.count_lost.ensures (λ device. c.in-Err.ensures.lost (ap (λ (f : HolderFault). Err f) device))) [
       | inl failed ↦ inl failed
       | inr lost ↦ absurd (slice_lost c.args.form.now g.H.Holder.gives (g.S.Shelf.fixed_of c.args.seat.now) blob c.args.holder.now c.args.part.now c.requires.part are served slices lost)
     ]
@@ -107,3 +108,51 @@ returns-else-eq-clause-served g c = λ blob are served slices asked. elim c.in-E
   | inl memory ↦ let no : false ≡ true = rw memory at c.if-eq.ensures in cc
   | inr other ↦ absurd (other (slice_of_store c.args.form.now (g.S.Shelf.fixed_of c.args.seat.now) c.fixed-fixed.result blob c.args.part.now _ c.in-Ok-check.piece are c.fixed-fixed.ensures c.in-Ok-check.ensures.slice))
 ]
+
+pub returns-then-eq-clause-served : goal.returns-then-eq-clause-served
+returns-then-eq-clause-served g c = λ blob are served slices asked.
+    inl (memory_counts c.args.report.now c.count_asked.new.self c.count_memory.new.self (ap (λ (r : Report). r.memory) c.count_asked.ensures) c.count_memory.ensures)
+
+pub returns-in-Err-clause-stored : goal.returns-in-Err-clause-stored
+returns-in-Err-clause-stored g c = λ blob are served known slices.
+    elim (lost_or_failed _ _ _ c.in-Err.fault c.count_asked.ensures c.count_lost.ensures (λ device. c.in-Err.ensures.lost (ap (λ (f : HolderFault). Err f) device))) [
+      | inl failed ↦ inl failed
+      | inr lost ↦ absurd (slice_lost c.args.form.now g.H.Holder.gives (g.S.Shelf.fixed_of c.args.seat.now) blob c.args.holder.now c.args.part.now c.requires.part are served slices lost)
+    ]
+
+pub returns-in-Err-check-clause-stored : goal.returns-in-Err-check-clause-stored
+returns-in-Err-check-clause-stored g c = λ blob are served known slices.
+    let F = g.S.Shelf.fixed_of c.args.seat.now in
+    let text = slice_given c.args.form.now g.H.Holder.gives F.mode blob c.args.holder.now c.args.part.now c.as_slice.result.now _ c.requires.part slices c.as_slice.ensures.value (appended_all _ _ _ c.clear.ensures.items c.in-Ok.ensures.appended) in
+    absurd (slice_refused c.args.form.now F c.fixed-fixed.result c.args.part.now _ blob c.in-Err-check.fault are served c.fixed-fixed.ensures text c.in-Err-check.ensures.slice)
+
+pub returns-then-eq-clause-stored : goal.returns-then-eq-clause-stored
+returns-then-eq-clause-stored g c = λ blob are served known slices.
+    inl (memory_counts c.args.report.now c.count_asked.new.self c.count_memory.new.self (ap (λ (r : Report). r.memory) c.count_asked.ensures) c.count_memory.ensures)
+
+pub returns-else-eq-clause-stored : goal.returns-else-eq-clause-stored
+returns-else-eq-clause-stored g c = λ blob are served known slices. elim c.in-Err-commit.ensures.refused [
+  | inl memory ↦ let no : false ≡ true = rw memory at c.if-eq.ensures in cc
+  | inr other ↦ absurd (other (slice_of_store c.args.form.now (g.S.Shelf.fixed_of c.args.seat.now) c.fixed-fixed.result blob c.args.part.now _ c.in-Ok-check.piece are c.fixed-fixed.ensures c.in-Ok-check.ensures.slice))
+]
+
+pub returns-in-Ok-commit-clause-stored : goal.returns-in-Ok-commit-clause-stored
+returns-in-Ok-commit-clause-stored g c = λ blob are served known slices.
+    let F = g.S.Shelf.fixed_of c.args.seat.now in
+    let it = c.in-Ok-check.piece in
+    let gained = c.in-Ok-commit.ensures.gained in
+    let same : g.S.Shelf.fixed_of c.commit.new.seat ≡ F = g.S.Shelf.goes.keeps _ _ _ _ _ gained in
+    let text = slice_given c.args.form.now g.H.Holder.gives F.mode blob c.args.holder.now c.args.part.now c.as_slice.result.now _ c.requires.part slices c.as_slice.ensures.value (appended_all _ _ _ c.clear.ensures.items c.in-Ok.ensures.appended) in
+    let is : piece_of F.base it ≡ slice_of F blob c.args.part.now.start (checked_len c.args.form.now c.args.part.now) =
+    slice_made c.args.form.now F _ c.args.part.now _ it blob _ _ refl refl text c.in-Ok-check.ensures.slice in
+    let of : IsOf F it = slice_of_store c.args.form.now F c.fixed-fixed.result blob c.args.part.now _ it are c.fixed-fixed.ensures c.in-Ok-check.ensures.slice in
+    let long : length_of (piece_of F.base it) ≡ length blob = ap (λ (piece : Piece). length_of piece) is ∙ served.claims c.args.part.now.start (checked_len c.args.form.now c.args.part.now) in
+    let recorded : g.S.Shelf.records c.commit.new.seat (length_of (piece_of (g.S.Shelf.fixed_of c.commit.new.seat).base it)) =
+    subst (λ (n : ℕ). g.S.Shelf.records c.commit.new.seat n) (sym (ap (λ (f : Fixed). length_of (piece_of f.base it)) same ∙ long)) (g.S.Shelf.lasts.length _ _ _ _ _ (length blob) gained known) in
+    elim (c.store_parents.ensures.parents (subst (λ (f : Fixed). IsOf f it) (sym same) of) recorded) [
+      | inl failed ↦
+          let counts = c.count_asked.ensures in
+          inl (fails_from c.args.report.now c.count_asked.new.self c.store_parents.new.report (omega (arith, ap (λ (r : Report). r.memory) counts), omega (arith, ap (λ (r : Report). r.failed) counts)) failed)
+      | inr all ↦ inr (λ m low has. all m low
+          (subst (λ (f : Fixed). holds_parent (piece_of f.base it) m ≡ true) (sym same) (subst (λ (piece : Piece). holds_parent piece m ≡ true) (sym is) has)))
+    ]

@@ -28,7 +28,7 @@ returns-in-Err-clause-reports g c =
 
 pub returns-in-Err-clause-agreed : goal.returns-in-Err-clause-agreed
 returns-in-Err-clause-agreed g c = λ blob start len are served end slices.
-    elim (lost_or_failed _ _ c.in-Err.fault c.count_lost.ensures (λ device. c.in-Err.ensures.lost (ap (λ (f : HolderFault). Err f) device))) [
+    elim (lost_or_failed _ _ _ c.in-Err.fault c.count_asked.ensures c.count_lost.ensures (λ device. c.in-Err.ensures.lost (ap (λ (f : HolderFault). Err f) device))) [
       | inl failed ↦ inl failed
       | inr lost ↦ absurd (slice_lost c.args.form.now g.H.Holder.gives (g.S.Shelf.fixed_of c.args.seat.now) blob c.args.holder.now c.end-part.result c.end-part.ensures.part are served
           (end_slice c.args.form.now g.H.Holder.gives (g.S.Shelf.fixed_of c.args.seat.now).mode blob c.args.holder.now c.end-part.result start len c.end-part.ensures.end end slices) lost)
@@ -89,7 +89,7 @@ pub returns-in-TooLarge-clause-large : goal.returns-in-TooLarge-clause-large
 returns-in-TooLarge-clause-large g c = λ _.
     let A = IsGiven (made_of c.args.form.now g.H.Holder.gives) c.args.holder.now in
     let given : A (piece_of (g.S.Shelf.fixed_of c.args.seat.now).base c.in-Ok-check.piece) = made_given c.args.form.now g.H.Holder.gives c.args.holder.now c.end-part.result c.as_slice.result.now _ (piece_of (g.S.Shelf.fixed_of c.args.seat.now).base c.in-Ok-check.piece) c.as_slice.ensures.value (appended_all _ _ _ c.clear.ensures.items c.in-Ok.ensures.appended) (c.in-Ok-check.ensures.made _) in
-    record { piece = _; from = subst (λ (it : Checked). A (piece_of (g.S.Shelf.fixed_of c.args.seat.now).base it)) (sym c.in-Some.ensures.piece) given; large = c.in-TooLarge.ensures.large refl }
+    (refl, record { piece = _; from = subst (λ (it : Checked). A (piece_of (g.S.Shelf.fixed_of c.args.seat.now).base it)) (sym c.in-Some.ensures.piece) given; large = c.in-TooLarge.ensures.large refl })
 
 pub returns-in-Err-check-clause-agreed : goal.returns-in-Err-check-clause-agreed
 returns-in-Err-check-clause-agreed g c = λ blob start len are served end slices.

@@ -3,7 +3,7 @@ use Rattle.gather.proofs.Reporting.{later_then, onward}
 use Rattle.gather.proofs.Common.{None, Some, ap, ◌∙◌, ◌+◌, ◌*◌, ◌%◌, ◌≡◌, ◌<◌, ◌/◌, ◌==◌, ℕ, length, sym, subst, arith, inl, inr, eqb-true, eq-eqb, mod-lt, both_ways, cases_Bool, cases_lt, chunk_count, Fixed}
 use Rattle.gather.specs.declared.grain.Grain.TheVariants.{Group as ByGroup}
 use Rattle.gather.specs.Available.{IsServed}
-use Rattle.gather.proofs.Serving.{begins_within, fails_on, round_meets, wanted_below, wanted_there}
+use Rattle.gather.proofs.Serving.{begins_within, fails_from, fails_until, round_meets, wanted_below, wanted_there}
 use Rattle.gather.specs.Forms.{checked_len, made_of}
 use Rattle.gather.specs.Parts.{HaveParts, IsAskedIn, IsFor}
 use Rattle.gather.proofs.Forming.{asked_reaches, end_at, group_checked, later_parts, length_for, slices_for, slices_parts}
@@ -38,9 +38,9 @@ loop-step-preserved g c = (
         below,
         (let reach = asked_reaches c.args.form.now (g.S.Shelf.fixed_of x.seat) blob ByGroup n c.group-part.result.start size of below (asked n below wanted.0) in here.holds n c.group-part.result.start size below reach.0 reach.1),
       ))) [
-        | inl failed ↦ inl failed
+        | inl failed ↦ inl (fails_from c.args.report.now x.report c.work_part.new.report x.invariant.1.no_less failed)
         | inr filled ↦ elim (x.invariant.4 blob are served has long) [
-          | inl failed ↦ inl (fails_on x.report c.work_part.new.report met.reports.no_less failed)
+          | inl failed ↦ inl (fails_until c.args.report.now x.report c.work_part.new.report met.reports.no_less failed)
           | inr before ↦ inr (λ k n early at below. elim (cases_lt k x.step) [
             | inl sooner ↦ elim (before k n sooner at below) [
               | inl held ↦ inl (g.S.Shelf.lasts.chunk _ _ _ met.reports.chunks met.reports.parents n met.reports.gains held)

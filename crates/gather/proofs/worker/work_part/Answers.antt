@@ -8,7 +8,7 @@ use Rattle.gather.proofs.Bits.{in_mask_zero}
 use Rattle.gather.proofs.Reporting.{counted_none, starved, still_gained, later_none, among_holders, later_one, later_then, onward, onward_none}
 use Rattle.gather.proofs.worker.work_part.Goals.{else-loop-holder-test, then-loop-holder-test+then-left-eq0}
 use Rattle.gather.specs.Available.{GivesSlice, IsServed, slice_of}
-use Rattle.gather.proofs.Serving.{fails_on, get_set_after, slice_here}
+use Rattle.gather.proofs.Serving.{fails_from, fails_until, memory_counts, get_set_after, slice_here}
 use Rattle.gather.specs.Forms.{checked_len, made_of}
 use Rattle.gather.specs.Parts.{IsFor}
 use Rattle.gather.proofs.worker.work_part.Goals as goal
@@ -39,7 +39,7 @@ loop-holder-preserved g c =
       ],
       λ blob are served has before bound. elim (cases_lt has.place x.holder-index) [
         | inl sooner ↦ elim (x.invariant.7 blob are served has sooner bound) [
-          | inl failed ↦ inl (fails_on x.report c.ask-left.new.report met.reports.no_less failed)
+          | inl failed ↦ inl (fails_until c.args.report.now x.report c.ask-left.new.report met.reports.no_less failed)
           | inr none ↦ inr (λ n. elim (cases_Bool (in_mask group c.ask-left.result n)) [ inl is ↦ absurd (both_ways _ (none n) (met.fewer n is)) | inr out ↦ out ])
         ]
         | inr not_sooner ↦
@@ -47,11 +47,14 @@ loop-holder-preserved g c =
             let slices : GivesSlice (made_of c.args.form.now g.H.Holder.gives) F.mode blob c.args.part.now.start (checked_len c.args.form.now c.args.part.now) (get_or x.holders x.holder-index c.holder-item.result) =
             subst (λ (k : ℕ). GivesSlice (made_of c.args.form.now g.H.Holder.gives) F.mode blob c.args.part.now.start (checked_len c.args.form.now c.args.part.now) (get_or x.holders k c.holder-item.result)) at
             (slice_here (made_of c.args.form.now g.H.Holder.gives) F.mode blob c.args.part.now.start (checked_len c.args.form.now c.args.part.now) c.args.holders.now x.holders c.holder-item.result has (x.invariant.4 has.place (omega (arith, at)))) in
-            met.served blob (subst (λ (f : Fixed). IsFor c.args.form.now f blob) (sym same) are) (subst (λ (f : Fixed). IsServed f blob) (sym same) served)
+            elim (met.served blob (subst (λ (f : Fixed). IsFor c.args.form.now f blob) (sym same) are) (subst (λ (f : Fixed). IsServed f blob) (sym same) served)
             (subst (λ (f : Fixed). GivesSlice (made_of c.args.form.now g.H.Holder.gives) f.mode blob c.args.part.now.start (checked_len c.args.form.now c.args.part.now) (get_or x.holders x.holder-index c.holder-item.result)) (sym same) slices) (λ n asked. (
               elim (x.invariant.6 n (x.invariant.5 n asked)) [ inl left ↦ left.1 | inr held ↦ absurd (both_ways _ held.0 asked) ],
               subst (λ (f : Fixed). holds_chunk (slice_of f blob c.args.part.now.start (checked_len c.args.form.now c.args.part.now)) n ≡ true) (sym same) (bound n (x.invariant.5 n asked)),
-            ))
+            ))) [
+              | inl failed ↦ inl (fails_from c.args.report.now x.report c.ask-left.new.report x.invariant.1.no_less failed)
+              | inr none ↦ inr none
+            ]
       ],
     )
 
@@ -136,3 +139,6 @@ loop-holder-init g c = (
   λ n is. inl (is, (c.in-Ok.ensures.granted n is).1),
   λ blob are served has before bound. absurd (omega (arith, before)),
 )
+
+pub returns-then-eq-clause-served : goal.returns-then-eq-clause-served
+returns-then-eq-clause-served g c = λ blob are served has wanted. inl (memory_counts c.args.report.now c.args.report.now c.count_memory.new.self refl c.count_memory.ensures)

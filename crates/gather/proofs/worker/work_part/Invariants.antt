@@ -6,7 +6,7 @@ use Rattle.gather.specs.Counts.{Reports}
 use Rattle.gather.specs.Holders.{AreLater, IsHanded}
 use Rattle.gather.proofs.worker.work_part.Given as goal
 use Rattle.gather.specs.Available.{HasSlice, IsServed, slice_of}
-use Rattle.gather.specs.Counts.{HasFailed}
+use Rattle.gather.specs.Counts.{HasFailedSince}
 
 abbrev pub invariant-loop-holder : goal.invariant-loop-holder
 invariant-loop-holder g l = g.S.Shelf.has l.shelf l.seat
@@ -18,4 +18,4 @@ invariant-loop-holder g l = g.S.Shelf.has l.shelf l.seat
     × ((c : ℕ) → in_mask l.group l.granted c ≡ true → ((in_mask l.group l.left c ≡ true) × (g.S.Shelf.claims l.seat c ≡ true)) ⊎ ((in_mask l.group l.left c ≡ false) × g.S.Shelf.holds l.seat c))
     × ((blob : List ℕ) → IsFor l.form (g.S.Shelf.fixed_of l.fn.seat) blob → IsServed (g.S.Shelf.fixed_of l.fn.seat) blob
     → (has : HasSlice (made_of l.form g.H.Holder.gives) (g.S.Shelf.fixed_of l.fn.seat).mode blob l.part.start (checked_len l.form l.part) l.fn.holders) → has.place < l.holder-index
-    → ((c : ℕ) → in_mask l.group l.granted c ≡ true → holds_chunk (slice_of (g.S.Shelf.fixed_of l.fn.seat) blob l.part.start (checked_len l.form l.part)) c ≡ true) → HasFailed l.report ⊎ ((c : ℕ) → in_mask l.group l.left c ≡ false))
+    → ((c : ℕ) → in_mask l.group l.granted c ≡ true → holds_chunk (slice_of (g.S.Shelf.fixed_of l.fn.seat) blob l.part.start (checked_len l.form l.part)) c ≡ true) → HasFailedSince l.fn.report l.report ⊎ ((c : ℕ) → in_mask l.group l.left c ≡ false))

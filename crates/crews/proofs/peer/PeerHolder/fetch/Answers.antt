@@ -1,7 +1,7 @@
 use Rattle.crews.proofs.Common.{ℕ, List, [], ◌++◌, ◌∙◌, ap, append-nil, inl, inr, refl, rules, eqb-true, length, vec_len, ◌≡◌, subst, sym, ServeFault, Serve, Lacking, NoLength, Text, SeatIsRefused, Called}
 use Rattle.std.proofs.lemmas.List.{nil_from_length}
 use Rattle.crews.specs.Peers.{Peered}
-use Rattle.crews.proofs.Giving.{fetch_gives}
+use Rattle.crews.proofs.Giving.{fetch_gives, fetch_no_more, fetch_serves, starve_no_more}
 use Rattle.crews.proofs.peer.PeerHolder.fetch.Goals as goal
 
 pub returns-in-Err-NoLength-clause-fetches : goal.returns-in-Err-NoLength-clause-fetches
@@ -48,3 +48,34 @@ returns-then-is_empty-clause-fetches c =
 
 pub returns-then-is_empty-clause-gives : goal.returns-then-is_empty-clause-gives
 returns-then-is_empty-clause-gives c = fetch_gives _ _ _ _ _ _ (returns-then-is_empty-clause-fetches c)
+
+pub returns-in-Err-NoLength-clause-appended : goal.returns-in-Err-NoLength-clause-appended
+returns-in-Err-NoLength-clause-appended c = fetch_serves c.args.self.now _ _ _ _ _ (returns-in-Err-NoLength-clause-fetches c)
+
+pub returns-in-Err-NoLength-clause-no_more : goal.returns-in-Err-NoLength-clause-no_more
+returns-in-Err-NoLength-clause-no_more c = fetch_no_more c.args.self.now _ _ _ _ _ (returns-in-Err-NoLength-clause-fetches c)
+
+pub returns-in-Err-Lacking-clause-appended : goal.returns-in-Err-Lacking-clause-appended
+returns-in-Err-Lacking-clause-appended c = fetch_serves c.args.self.now _ _ _ _ _ (returns-in-Err-Lacking-clause-fetches c)
+
+pub returns-in-Err-Lacking-clause-no_more : goal.returns-in-Err-Lacking-clause-no_more
+returns-in-Err-Lacking-clause-no_more c = fetch_no_more c.args.self.now _ _ _ _ _ (returns-in-Err-Lacking-clause-fetches c)
+
+pub returns-in-Ok-extend_from_slice-clause-appended : goal.returns-in-Ok-extend_from_slice-clause-appended
+returns-in-Ok-extend_from_slice-clause-appended c = fetch_serves c.args.self.now _ _ _ _ _ (returns-in-Ok-extend_from_slice-clause-fetches c)
+
+pub returns-in-Ok-extend_from_slice-clause-no_more : goal.returns-in-Ok-extend_from_slice-clause-no_more
+returns-in-Ok-extend_from_slice-clause-no_more c = fetch_no_more c.args.self.now _ _ _ _ _ (returns-in-Ok-extend_from_slice-clause-fetches c)
+
+pub returns-then-is_empty-clause-appended : goal.returns-then-is_empty-clause-appended
+returns-then-is_empty-clause-appended c = fetch_serves c.args.self.now _ _ _ _ _ (returns-then-is_empty-clause-fetches c)
+
+pub returns-then-is_empty-clause-no_more : goal.returns-then-is_empty-clause-no_more
+returns-then-is_empty-clause-no_more c = fetch_no_more c.args.self.now _ _ _ _ _ (returns-then-is_empty-clause-fetches c)
+
+pub returns-clause-no_more : goal.returns-clause-no_more
+returns-clause-no_more c =
+    let text = c.in-Ok.text.items in
+    let called : Called (Serve c.args.start c.args.len (Text text)) c.args.self.now.seat.view c.serve_slice.new.seat.view =
+    subst (λ (p : Peered). Called (Serve c.args.start c.args.len (Text text)) p.seat.view c.serve_slice.new.seat.view) c.self.view_is c.in-Ok.ensures.served in
+    starve_no_more c.args.self.now _ c.args.start c.args.len (inr (text, called))

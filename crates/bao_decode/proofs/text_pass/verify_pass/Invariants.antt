@@ -1,0 +1,14 @@
+use Rattle.std.proofs.Common.{◌≡◌, ◌≤◌, ◌+◌, ◌-◌, ◌^◌, ℕ, List, length, None}
+use Rattle.bao_decode.proofs.text_pass.verify_pass.Given as goal
+use Rattle.bao_decode.proofs.EncodingPasses.{IsCopied}
+
+abbrev pub invariant-blocks-2 : goal.invariant-blocks-2
+invariant-blocks-2 g l = record {
+  block : length l.block ≡ length l.fn.block;
+  room : length l.room ≡ length l.fn.room;
+  most : l.at ≤ 2 ^ 63 + 2 ^ 32;
+  taken : (text blob : List ℕ) × ((first last : ℕ) × IsCopied l.mode l.root.0 l.part (g.S.Source.contents l.source) first last l.checking l.at None None text blob);
+}
+
+abbrev pub decreases-blocks-2 : goal.decreases-blocks-2
+decreases-blocks-2 g l = 2 ^ 63 + 2 ^ 32 - l.at

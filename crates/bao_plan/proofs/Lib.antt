@@ -1,0 +1,9 @@
+pub mod Bits
+pub mod SetLemmas
+pub mod Any
+pub mod PlanLemmas
+pub mod Histories
+pub mod Rows
+pub mod Counting
+pub mod Measures
+pub mod Ending

@@ -1,0 +1,130 @@
+-- States of plans that are the same part by part, and a list of holders of which one is changed.
+use Rattle.std.proofs.Common.{◌≡◌, ℕ, zero, suc, ◌+◌, ◌/◌, ◌%◌, ◌<◌, ◌==◌, List, [], ◌∷◌, ◌++◌, length, slice_set, slice_get, slice_index_or, slice_index, replicate, None, Some, refl, sym, ap, ◌∙◌, arith, subst, ◌*◌, ◌-◌, ◌≤◌, cond, nat_lt, Bool, true, false, inl, inr}
+use Rattle.std.proofs.lemmas.Bool.Decides.{nat_tests}
+use Rattle.std.proofs.lemmas.Option.{slice_get_cases, slice_get_past, slice_get_read}
+use Rattle.std.proofs.lemmas.Bool.{and_parts, cases_eq, cases_lt, eq-eqb, ne_eqb}
+use Rattle.std.specs.List.{All}
+use Rattle.bao_plan.proofs.Any.{contains_past}
+use Rattle.bao_plan.specs.declared.holder.Holder.{Holder}
+use Rattle.bao_plan.specs.declared.policy.Next.{Next}
+use Rattle.bao_plan.specs.declared.policy.Next.TheVariants.{Fetch, WaitUntil, Nothing}
+use Rattle.bao_plan.specs.Events.{Did, IfFetch, IsWhole, after_asking, put}
+use Rattle.bao_plan.specs.Events.Event.{Asked}
+use Rattle.bao_plan.specs.Sets.{contains, has_bit, in_range}
+use Rattle.bao_plan.proofs.Bits.{has_bit-zero}
+use Rattle.bao_plan.specs.Holders.{IsRoomy, seen, seen_at, seen_or}
+use Rattle.bao_plan.specs.States.{HolderState, State, is_left_out, is_ready, is_wanted, unknown}
+
+pub state_is : (s t : State) → s.policy ≡ t.policy → s.chunks ≡ t.chunks → s.end ≡ t.end → ((c : ℕ) → s.is_open c ≡ t.is_open c) → ((g : ℕ) → s.since g ≡ t.since g) → s.count ≡ t.count → ((k : ℕ) → s.holder k ≡ t.holder k) → s ≡ t
+state_is s t p q z o e n h = λ i. record { policy = p i; chunks = q i; end = z i; is_open = λ c. o c i; since = λ g. e g i; count = n i; holder = λ k. h k i }
+
+-- the same of a holder
+pub holder_is : (x y : HolderState) → ((c : ℕ) → x.refused c ≡ y.refused c) → ((c : ℕ) → x.absent c ≡ y.absent c) → ((c : ℕ) → x.asked c ≡ y.asked c) → x.in_row ≡ y.in_row → x.later ≡ y.later → x.rank ≡ y.rank → x ≡ y
+holder_is x y r a u n l o = λ i. record { refused = λ c. r c i; absent = λ c. a c i; asked = λ c. u c i; in_row = n i; later = l i; rank = o i }
+
+get_set_same : {X : Type 0} → (xs : List X) (i : ℕ) (x : X) → i < length xs → slice_get (slice_set xs i x) i ≡ Some x
+get_set_same [] i x within = absurd (omega arith)
+get_set_same (y ∷ xs) zero x within = refl
+get_set_same (y ∷ xs) (suc i) x within = get_set_same xs i x (omega arith)
+
+get_set_other : {X : Type 0} → (xs : List X) (i k : ℕ) (x : X) → (k ≡ i → ⊥) → slice_get (slice_set xs i x) k ≡ slice_get xs k
+get_set_other [] i k x other = refl
+get_set_other (y ∷ xs) zero zero x other = absurd (other refl)
+get_set_other (y ∷ xs) zero (suc k) x other = refl
+get_set_other (y ∷ xs) (suc i) zero x other = refl
+get_set_other (y ∷ xs) (suc i) (suc k) x other = get_set_other xs i k x (λ e. other (ap suc e))
+
+pub seen_at_read : (hs : List Holder) (h : ℕ) (x : Holder) → slice_get hs h ≡ Some x → seen_at hs h ≡ seen x
+seen_at_read hs h x is = ap seen_or is
+
+-- one holder is changed
+pub seen_put : (hs : List Holder) (h : ℕ) (x : Holder) (y : HolderState) → h < length hs → seen x ≡ y → (k : ℕ) → seen_at (slice_set hs h x) k ≡ put (seen_at hs) h y k
+seen_put hs h x y within is k =
+    elim (cases_eq k h) [
+      | inl e ↦ ap (λ n. seen_at (slice_set hs h x) n) e ∙ (ap seen_or (get_set_same hs h x within) ∙ (is ∙ sym (ap (λ b. cond b y (seen_at hs k)) (eq-eqb k h e))))
+      | inr ne ↦ ap seen_or (get_set_other hs h k x ne) ∙ sym (ap (λ b. cond b y (seen_at hs k)) (ne_eqb k h ne))
+    ]
+
+-- what was read at an index
+pub read_at : (hs : List Holder) (h : ℕ) (x : Holder) → h < length hs → x ≡ slice_index_or hs h x → seen_at hs h ≡ seen x
+read_at hs h x within is = ap seen_or (slice_get_read hs (length hs) h x refl within is)
+
+-- one holder of a plan is changed by f
+pub changed : (hs : List Holder) (h : ℕ) (x y : Holder) (f : HolderState → HolderState) → h < length hs → x ≡ slice_index_or hs h x → seen y ≡ f (seen x) → (k : ℕ) → seen_at (slice_set hs h y) k ≡ put (seen_at hs) h (f (seen_at hs h)) k
+changed hs h x y f within is by = seen_put hs h y (f (seen_at hs h)) within (by ∙ ap f (sym (read_at hs h x within is)))
+
+same_suc : (m n : ℕ) → (m == n) ≡ (suc m == suc n)
+same_suc m n = grind (arith, nat_tests)
+
+get_append : {X : Type 0} → (xs : List X) (x : X) (k : ℕ) → slice_get (xs ++ x ∷ []) k ≡ cond (k == length xs) (Some x) (slice_get xs k)
+get_append [] x zero = refl
+get_append [] x (suc k) = sym (ap (λ b. cond b (Some x) None) (ne_eqb (suc k) 0 (λ e. omega arith)))
+get_append (y ∷ xs) x zero = sym (ap (λ b. cond b (Some x) (Some y)) (ne_eqb 0 (suc (length xs)) (λ e. omega arith)))
+get_append (y ∷ xs) x (suc k) = get_append xs x k ∙ ap (λ b. cond b (Some x) (slice_get xs k)) (same_suc k (length xs))
+
+-- one is added, of which nothing is known
+pub added : (hs : List Holder) (x : Holder) → seen x ≡ unknown → (k : ℕ) → seen_at (hs ++ x ∷ []) k ≡ seen_at hs k
+added hs x is k = ap seen_or (get_append hs x k) ∙ (elim (cases_eq k (length hs)) [
+  | inl e ↦ ap (λ b. seen_or (cond b (Some x) (slice_get hs k))) (eq-eqb k (length hs) e) ∙ (is ∙ sym (ap seen_or (slice_get_past hs k (omega arith))))
+  | inr other ↦ ap (λ b. seen_or (cond b (Some x) (slice_get hs k))) (ne_eqb k (length hs) other)
+])
+
+-- sets of no chunks
+pub zeros_at : (n i : ℕ) → slice_index (replicate n 0) i ≡ 0
+zeros_at zero i = refl
+zeros_at (suc n) zero = refl
+zeros_at (suc n) (suc i) = zeros_at n i
+
+pub none_in : (n k : ℕ) (ws : List ℕ) → ws ≡ replicate n 0 → contains ws k ≡ false
+none_in n k ws is = ap (λ xs. contains xs k) is ∙ (ap (λ w. has_bit w (k % 64)) (zeros_at n (k / 64)) ∙ has_bit-zero (k % 64))
+
+pub in_whole : (n c : ℕ) → in_range 0 n c ≡ nat_lt c n
+in_whole n c = grind (arith, nat_tests)
+
+-- a chunk that is ready is lacking
+pub wanted_is_open : (s : State) (h c : ℕ) → is_wanted s h c ≡ true → s.is_open c ≡ true
+wanted_is_open s h c is = (and_parts _ _ (and_parts _ _ (and_parts _ _ is).0).0).0
+
+pub ready_is_wanted : (s : State) (h now : ℕ) (o : Bool) (c : ℕ) → is_ready s h now o c ≡ true → is_wanted s h c ≡ true
+ready_is_wanted s h now o c is = (and_parts _ _ (and_parts _ _ is).0).0
+
+-- a chunk of a set lies in its words
+pub contains_within : (ws : List ℕ) (c : ℕ) → contains ws c ≡ true → c / 64 < length ws
+contains_within ws c is = elim (cases_lt (c / 64) (length ws)) [
+  | inl within ↦ within
+  | inr past ↦ absurd (let h : true ≡ false = sym is ∙ contains_past ws c past in cc)
+]
+
+pub last_in : (first count : ℕ) → 0 < count → in_range first count (first + count - 1) ≡ true
+last_in first count some = grind (arith, nat_tests)
+
+pub range_within : (ws : List ℕ) (first count : ℕ) → 0 < count → ((c : ℕ) → in_range first count c ≡ true → contains ws c ≡ true) → first + count ≤ 64 * length ws
+range_within ws first count some all = omega (arith, contains_within ws (first + count - 1) (all (first + count - 1) (last_in first count some)))
+
+pub roomy_at : (groups : ℕ) (hs : List Holder) (h : ℕ) (x : Holder) → h < length hs → x ≡ slice_index_or hs h x → All (IsRoomy groups) hs → IsRoomy groups x
+roomy_at groups hs h x within is all = subst (IsRoomy groups) (sym is) (all h x within)
+
+-- one more chunk of a range
+pub range_more : (first n c : ℕ) (p : ℕ → Bool) → ((c : ℕ) → in_range first n c ≡ true → p c ≡ true) → p (first + n) ≡ true → in_range first (n + 1) c ≡ true → p c ≡ true
+range_more first n c p before here is = elim (cases_lt c (first + n)) [
+  | inl below ↦ before c (grind (arith, nat_tests))
+  | inr above ↦ (let e : c ≡ first + n = grind (arith, nat_tests) in ap p e ∙ here)
+]
+
+-- a request under way lies within the groups
+pub asked_within : (groups : ℕ) (hs : List Holder) (h first count : ℕ) → h < length hs → All (IsRoomy groups) hs → 0 < count → ((c : ℕ) → in_range first count c ≡ true → (seen_at hs h).asked c ≡ true) → first + count ≤ 64 * groups
+asked_within groups hs h first count within all some asked = elim ((slice_get_cases hs h).1) [
+  | inl there ↦ (let room = subst (IsRoomy groups) there.3 (all h there.0 within) in
+      let is = seen_at_read hs h there.0 there.2 in
+      omega (arith, range_within there.0.asked.items first count some (λ c here. sym (ap (λ (y : HolderState). y.asked c) is) ∙ asked c here), room.asked))
+  | inr past ↦ absurd (omega arith)
+]
+
+-- a request that is right
+pub did_fetch : (s t : State) (h now : ℕ) (o : Bool) (answer : Next) → h < s.count → is_left_out s.policy (s.holder h) ≡ false → (s.holder h).later ≤ now → (o ≡ true → (c : ℕ) → is_ready s h now false c ≡ false)
+    → IfFetch answer (λ first count. (0 < count) × (count ≤ 1024) × IsWhole s h now o first count × ((c : ℕ) → in_range first count c ≡ true → is_ready s h now o c ≡ true) × (t ≡ after_asking s h now answer))
+    → Did s t (Asked h now answer)
+did_fetch s t h now o (Fetch first count) within is_in later only is =
+    record { right = (within, record { some = is.0; most = is.1; is_in = is_in; later = later; overtakes = o; whole = is.2; ready = is.3; only_then = only }); after = is.4 }
+did_fetch s t h now o (WaitUntil until) within is_in later only is = absurd is
+did_fetch s t h now o Nothing within is_in later only is = absurd is

@@ -1,0 +1,43 @@
+// What crews' rounds leave to nobody.
+
+ghost use Rattle.std.specs.Prelude.{◌≡◌, ◌⊎◌, ◌≤◌, ℕ, List, false, length};
+ghost use Rattle.bao_text.specs.Choice.{chunk_count};
+ghost use Rattle.crews.specs.Lasting.{IsAlone};
+ghost use Rattle.determined_gather.specs.Serves.{HasEveryNode};
+ghost use Rattle.gather.specs.Available.{HaveSlices};
+ghost use Rattle.gather.specs.Counts.{HasFailed, IsToldTooLarge};
+ghost use Rattle.gather.specs.declared.grain.Grain.TheVariants.{Group as ByGroup};
+ghost use Rattle.gather.specs.Holders.{IsHanded};
+ghost use Rattle.store_core.specs.Histories.{state_after};
+ghost use Rattle.store_core.specs.Laws.{IsBlob};
+ghost use Rattle.store_core.specs.Stores.{CollisionSettled};
+ghost use Rattle.store_core.specs.Views.{seat_claims};
+ghost use Rattle.store_shared.specs.Seats.{IsSeatOf, fixed_of};
+
+use crews::{Crew, Open, run};
+use gather::Holder;
+use std::alloc::Global;
+use std::slice::from_mut;
+use std::thread::Threads;
+use store_shared::Assembly;
+
+// A crew that is alone, claims nothing, and whose holders have the blob's slices between them, fills its store: its seat has seen every
+// node of the blob held, as `peer_fills` wants it. Memory was refused in this call otherwise, or a collision is exhibited.
+pub fn run_alone_fills<R: Threads + Sync, H: Holder + Send>(
+    rt: &R,
+    alloc: Global,
+    assembly: &Assembly,
+    crew: &mut Crew<H>,
+)
+    requires of { IsSeatOf assembly.now crew.old.seat }
+    requires alone { IsAlone crew.old.seat.view }
+    requires free { (c : ℕ) → seat_claims crew.old.seat.view c ≡ false }
+    ensures { (blob : List ℕ) → IsBlob (fixed_of assembly.now) blob → (fixed_of assembly.now).base ≡ 0 → chunk_count (length blob) ≤ (fixed_of assembly.now).capacity
+        → HaveSlices ByGroup H.gives (fixed_of assembly.now).mode blob crew.old.holders.items
+        → HasFailed crew.new.report ⊎ IsToldTooLarge crew.new.report (IsHanded H.gives crew.old.holders.items) (fixed_of assembly.now)
+        ⊎ HasEveryNode (state_after crew.new.seat.view.seen) blob ⊎ ((l : ℕ) × CollisionSettled (fixed_of assembly.now) crew.new.seat.view.seen blob l) }
+{
+    // For the prover alone: the flags of a mode are apart from the tree's.
+    assembly.mode().is_keyed();
+    run(rt, alloc, assembly, from_mut(crew), &Open);
+}

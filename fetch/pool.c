@@ -1,0 +1,109 @@
+#include "http.h"
+
+#include <signal.h>
+#include <time.h>
+
+enum { READERS_MOST = 64, COMPUTERS_MOST = 16 };
+
+uint64_t now_ms(void) {
+    struct timespec t;
+    clock_gettime(CLOCK_MONOTONIC, &t);
+    return (uint64_t)t.tv_sec * 1000 + (uint64_t)t.tv_nsec / 1000000;
+}
+
+bool pool_new(pool *it) {
+    long cores = sysconf(_SC_NPROCESSORS_ONLN);
+    const unsigned most[] = {[TO_COMPUTE] = cores < 1 ? 1 : cores > COMPUTERS_MOST ? COMPUTERS_MOST : (unsigned)cores, [TO_READ] = READERS_MOST};
+    pthread_condattr_t steady;
+    *it = (pool){.quit = false};
+    if (pipe2(it->bell, O_CLOEXEC | O_NONBLOCK) || pthread_condattr_init(&steady)) return false;
+    pthread_condattr_setclock(&steady, CLOCK_MONOTONIC);
+    pthread_mutex_init(&it->lock, NULL);
+    pthread_cond_init(&it->gone, &steady);
+    for (unsigned i = 0; i < LANES; i++) {
+        lane *of = &it->lanes[i];
+        *of = (lane){.pool = it, .end = &of->first, .most = most[i]};
+        pthread_cond_init(&of->wake, NULL);
+    }
+    return true;
+}
+
+void pool_ring(const pool *it) {
+    ssize_t n = write(it->bell[1], "", 1);
+    (void)n;                                /* a pipe that is full rings, too */
+}
+
+static void finish(pool *it, job *what) {
+    pthread_mutex_lock(&it->lock);
+    what->next = it->done, it->done = what;
+    pthread_mutex_unlock(&it->lock);
+    pool_ring(it);
+}
+
+static void *serve(void *with) {
+    lane *of = with;
+    pool *it = of->pool;
+    pthread_mutex_lock(&it->lock);
+    while (!it->quit) {
+        job *what = of->first;
+        if (!what) {
+            of->idle++;
+            pthread_cond_wait(&of->wake, &it->lock);
+            of->idle--;
+            continue;
+        }
+        if (!(of->first = what->next)) of->end = &of->first;
+        pthread_mutex_unlock(&it->lock);
+        what->run(what);
+        finish(it, what);
+        pthread_mutex_lock(&it->lock);
+    }
+    of->threads--;
+    pthread_cond_signal(&it->gone);
+    pthread_mutex_unlock(&it->lock);
+    return NULL;
+}
+
+/* One more thread, with all signals left to the thread that decides. Under the lock. */
+static void grow(lane *of) {
+    pthread_t thread;
+    sigset_t all, before;
+    sigfillset(&all);
+    pthread_sigmask(SIG_SETMASK, &all, &before);
+    if (!pthread_create(&thread, NULL, serve, of)) pthread_detach(thread), of->threads++;
+    pthread_sigmask(SIG_SETMASK, &before, NULL);
+}
+
+void pool_post(pool *it, unsigned to, job *what) {
+    lane *of = &it->lanes[to];
+    what->next = NULL;
+    pthread_mutex_lock(&it->lock);
+    if (!of->idle && of->threads < of->most) grow(of);
+    bool alone = !of->threads;              /* no thread is allowed: it is done here and now */
+    if (!alone) *of->end = what, of->end = &what->next, pthread_cond_signal(&of->wake);
+    pthread_mutex_unlock(&it->lock);
+    if (alone) what->run(what), finish(it, what);
+}
+
+void pool_collect(pool *it) {
+    char rings[64];
+    while (read(it->bell[0], rings, sizeof rings) > 0) continue;
+    pthread_mutex_lock(&it->lock);
+    job *what = it->done;
+    it->done = NULL;
+    pthread_mutex_unlock(&it->lock);
+    for (job *next; what; what = next) next = what->next, what->done(what);
+}
+
+bool pool_end(pool *it) {
+    struct timespec until;
+    clock_gettime(CLOCK_MONOTONIC, &until);
+    until.tv_sec++;
+    pthread_mutex_lock(&it->lock);
+    it->quit = true;
+    for (unsigned i = 0; i < LANES; i++) pthread_cond_broadcast(&it->lanes[i].wake);
+    int r = 0;
+    while (!r && it->lanes[TO_COMPUTE].threads + it->lanes[TO_READ].threads) r = pthread_cond_timedwait(&it->gone, &it->lock, &until);
+    pthread_mutex_unlock(&it->lock);
+    return !r;
+}

@@ -1,0 +1,398 @@
+"""What is measured, and what is wanted of it: the names of all figures, their bounds, why one is missed, and bench/history.tsv.
+
+bench.py measures them, and doc/ makes their table and plot.
+"""
+import os
+import re
+
+HISTORY = f"{os.path.dirname(os.path.dirname(os.path.abspath(__file__)))}/bench/history.tsv"
+
+
+# The whole programs: a name, the words, and whether they make a file. FILE and OUT stand for paths.
+HASH = "bao_gather hash"
+HASH_ONE = "bao_gather hash --length 33"
+B3SUM_ONE = "b3sum --num-threads 1"
+B3SUM_FOUR = "b3sum --num-threads 4"
+B3SUM_READ_ONE = "b3sum --no-mmap --num-threads 1"
+B3SUM_READ_FOUR = "b3sum --no-mmap --num-threads 4"
+OUTBOARD = "bao_gather outboard"
+ENCODE = "bao_gather encode"
+COPY_ENCODED = "cp of the combined encoding"
+COPY_FILE = "cp of the file"
+SLICED = "bao_gather slice of 100 bytes"
+DECODE = "bao_gather decode"
+DECODE_TO_DISK = "bao_gather decode, OUT on a disk"
+DECODE_BESIDE = "bao_gather decode --outboard"
+GATHER = "bao_gather gather, one true file"
+GATHER_BESIDE = "bao_gather gather --outboard, one true copy"
+GATHER_VERBOSE = "bao_gather gather --verbose, one true file"
+GATHER_TEN = "bao_gather gather, ten damaged files"
+GATHER_COMMON = "bao_gather gather, twenty files with one damaged chunk in common"
+GATHER_SALVAGE = "bao_gather gather --salvage, three files damaged in the same groups"
+GATHER_LONG = "bao_gather gather --long, one true file"
+GATHER_LONGER = "bao_gather gather --long, one true file of all"
+HASH_GATHERED = "bao_gather hash of the gathered blob"
+SLICE = "cut_slice of 1 MiB"
+SLICE_OF_SIXTEENTH = "cut_slice of 1 MiB, a sixteenth of the file"
+LARGER_SLICE = "cut_slice of 8 MiB"
+POOL_ONE = "hash_pool, 1 worker"
+POOL_FOUR = "hash_pool, 4 workers"
+PIECES_ONE = "hashes of 16 KiB by one thread"
+PIECES_FOUR = "hashes of 16 KiB by four threads"
+# The lengths of small files, in KiB, and what hashing such ones takes us and BLAKE3's own library.
+SMALL = [1, 2, 4, 8, 16, 64]
+EACH = {kib: f"hashes of {kib} KiB each" for kib in SMALL}
+OF_BLAKE3_EACH = {kib: f"libblake3's {EACH[kib]}" for kib in SMALL}
+SMALL_PIECES = "Hasher, pieces of 64 KiB"
+LARGE_PIECES = "Hasher, pieces of 1 MiB"
+FILE_ONE = "hash_source, 1 worker"
+FILE_FOUR = "hash_source, 4 workers"
+CHECK = "check_combined"
+CHECK_JOINED = "check_combined_join"
+CHECK_OUTBOARD = "check_outboard"
+CHECK_BARE = "check_bare"
+CHECK_SLICE = "check_slice of 1 MiB"
+AUDIT = "audit of the whole encoding"
+GATHER_TEXTS = "gather_texts"
+HASH_OF_GATHERED = "hash of the gathered"
+INTO_EMPTY = "a group into an empty store"
+INTO_FULL = "a group into a full store"
+OUT_OF_ONE = "a group out of a store of one"
+OUT_OF_FULL = "a group out of a full store"
+STORES = "stores of as many words"
+COMMITS_ONE = "commits by one seat"
+COMMITS_FOUR = "commits by four seats"
+COPY = "a plain copy"
+READS_ONE = "reads by one seat"
+READS_FOUR = "reads by four seats"
+TAKES_OF_ONE = "a group taken 1,000 times, of one"
+TAKES_OF_ALL = "a group taken 1,000 times, of 1,024"
+SERVED_SHARED = "1 MiB served by a shared store"
+READ_SHARED = "1 MiB read from a shared store"
+SERVED_ALONE = "1 MiB served by a one-thread store"
+READ_ALONE = "1 MiB read from a one-thread store"
+RUN_ONE = "run by one worker"
+RUN_FOUR = "run by four workers"
+PARENTS_ALONE = "parents alone"
+C_HASH = "bw_hash"
+C_CHECK = "bw_check_combined"
+C_COMMITS_ONE = "bw_seat_commit by one thread"
+C_COMMITS_FOUR = "bw_seat_commit by four threads"
+C_READS_ONE = "bw_seat_read by one thread"
+C_READS_FOUR = "bw_seat_read by four threads"
+C_HASH_FIRST = "bw_hash of the first 64 MiB"
+C_FEED_SMALL = "bw_feed_take_many in pieces of 64 KiB"
+C_FEED_LARGE = "bw_feed_take_many in pieces of 256 KiB"
+C_FEED_NODES = "bw_feed_take"
+C_DECODE = "bw_decode"
+C_OUTLINE = "bw_outline_check"
+C_COMMIT_ALL = "bw_seat_commit_all"
+C_COMMIT_CHUNKS = "bw_seat_commit_chunks"
+C_OUTLINE_COMMIT = "bw_outline_commit"
+C_GATHER = "bw_gather"
+
+# The table: a name of what was timed, and how it worked. Lines of the program bench have their names from there;
+# a further way that it prints needs a line here, and one below where it has a ratio.
+ROWS = [
+    (HASH, "whole program, as a user runs it"),
+    (B3SUM_FOUR, "whole program, several threads"),
+    (B3SUM_READ_FOUR, "whole program, reads in pieces"),
+    (HASH_ONE, "whole program, one thread"),
+    (B3SUM_ONE, "whole program, one thread"),
+    (B3SUM_READ_ONE, "whole program, one thread, reads in pieces"),
+    (OUTBOARD, "whole program, one thread, writes a file"),
+    (ENCODE, "whole program, several threads, writes a file"),
+    (COPY_ENCODED, "the system's copy of as many bytes as encode writes"),
+    (COPY_FILE, "the system's copy of as many bytes as decode writes"),
+    (SLICED, "whole program, of the middle of the file, writes a file"),
+    (DECODE, "whole program, one thread, checks the file's combined encoding, writes the file"),
+    (DECODE_TO_DISK, "as before, with OUT in the folder of temporary files, whose device its sync waits for"),
+    (DECODE_BESIDE, "whole program, verifies the file beside its outboard encoding, writes it"),
+    (HASH_GATHERED, "whole program, as a user runs it, of the first 64 MiB"),
+    (GATHER, "whole program, four workers, window by window, of the combined encoding of the first 64 MiB"),
+    (GATHER_BESIDE, "as before, of the first 64 MiB as they are, beside their outboard encoding"),
+    (GATHER_VERBOSE, "whole program, four workers, of the combined encoding of the first 64 MiB, which is counted"),
+    (GATHER_TEN, "whole program, four workers, of ten such encodings, each with another tenth damaged"),
+    (GATHER_COMMON, "whole program, four workers, of twenty such encodings, which leave the blob unfinished"),
+    (GATHER_LONG, "as before, of a blob that may have any length"),
+    (GATHER_LONGER, "whole program, four workers, window by window, of the combined encoding of all"),
+    (GATHER_SALVAGE, "whole program, four workers, of three such encodings, each with another byte damaged in one of 16 groups"),
+    ("hash", "b3tree::hash in one process, one thread"),
+    ("hash_join", "bao_read::hash_join in one process, several threads"),
+    (POOL_ONE, "bao_read::hash_pool in one process, one worker"),
+    (POOL_FOUR, "bao_read::hash_pool in one process, four workers"),
+    (PIECES_ONE, "b3tree::hash of one piece in one process, one thread, as often as the file has such pieces"),
+    (PIECES_FOUR, "as before, by four threads, which share a count of how often, and nothing else"),
+    *((EACH[kib], f"b3tree::hash in one process, one thread, of each {kib} KiB of the first MiB by itself") for kib in SMALL),
+    *((OF_BLAKE3_EACH[kib], f"BLAKE3's own C library, held to AVX2, in one process, one thread, of each {kib} KiB of the first MiB by itself") for kib in SMALL),
+    (SMALL_PIECES, "b3tree::Hasher in one process, one thread"),
+    (LARGE_PIECES, "b3tree::Hasher in one process, one thread"),
+    (FILE_ONE, "bao_read::hash_source in one process, one thread, reads the file in pieces"),
+    (FILE_FOUR, "bao_read::hash_source in one process, several threads, reads the file in pieces"),
+    (SLICE, "bao_text::cut_slice in one process, one thread, from the file's combined encoding"),
+    (SLICE_OF_SIXTEENTH, "as before, from a combined encoding a sixteenth as long"),
+    (LARGER_SLICE, "as before, from the file's combined encoding"),
+    (CHECK, "bao_check::check_combined in one process, one thread, of the file's combined encoding"),
+    (CHECK_JOINED, "bao_join::check_combined_join in one process, several threads, of the same"),
+    (CHECK_OUTBOARD, "bao_check::check_outboard in one process, one thread, of the file's outboard encoding"),
+    (CHECK_BARE, "bao_check::check_bare in one process, one thread, of the file beside its outboard encoding, which is checked before"),
+    (CHECK_SLICE, "bao_check::check_slice in one process, one thread, of a slice of it"),
+    (AUDIT, "bao_bind::audit in one process, one thread, of the file and its combined encoding, which agree"),
+    (HASH_OF_GATHERED, "b3tree::hash in one process, one thread, of the first 64 MiB"),
+    (GATHER_TEXTS, "gather::gather_texts in one process, one worker, of their combined encoding"),
+    (INTO_EMPTY, "store_core's take and commit of 64 chunks in one process, where the store holds nothing"),
+    (INTO_FULL, "as before, where it holds 64 MiB"),
+    (OUT_OF_ONE, "store_core's read of 64 chunks in one process, where the store holds no others"),
+    (OUT_OF_FULL, "as before, where it holds 64 MiB"),
+    (STORES, "129 words for each chunk of the first 64 MiB, in one process, one thread, each store in one order for all threads"),
+    (COMMITS_ONE, "store_shared's commits of these chunks in one process, one seat on one thread, which claims them"),
+    (COMMITS_FOUR, "as before, four seats on a thread each"),
+    (COPY, "of the first 64 MiB, in one process, one thread"),
+    (READS_ONE, "store_shared's read of these bytes in one process, one seat on one thread, the mean of four reads"),
+    (READS_FOUR, "as before, four seats on a thread each, a quarter by each"),
+    (TAKES_OF_ONE, "store_shared's take and give in one process, one thread, in a store of one group"),
+    (TAKES_OF_ALL, "as before, in a store of 1,024 groups"),
+    (SERVED_SHARED, "store_shared's serve_slice in one process, one seat on one thread, out of a store of the first 64 MiB with all parents, the mean of 16"),
+    (READ_SHARED, "store_shared's read of the same bytes, the mean of 16"),
+    (SERVED_ALONE, "store_core's serve_slice in one process, out of such a one-thread store, the mean of 16"),
+    (READ_ALONE, "store_core's read of the same bytes, the mean of 16"),
+    (RUN_ONE, "crews::run in one process, one worker, of the combined encoding of the first 64 MiB"),
+    (RUN_FOUR, "as before, four workers"),
+    (PARENTS_ALONE, "store_shared's commit_parents of the same groups' slices in one process, one seat on one thread, where the length is recorded, with finding these groups"),
+    (C_HASH, "C library in one process, one thread"),
+    (C_CHECK, "C library in one process, one thread, of the file's combined encoding"),
+    (C_COMMITS_ONE, "C library in one process, one POSIX thread with a seat, of the slices of the groups of the first 64 MiB, which it checks and had claimed"),
+    (C_COMMITS_FOUR, "as before, four POSIX threads with a seat each"),
+    (C_READS_ONE, "C library in one process, one POSIX thread with a seat, of these bytes, the mean of four reads"),
+    (C_READS_FOUR, "as before, four POSIX threads with a seat each, a quarter by each"),
+    (C_HASH_FIRST, "C library in one process, one thread, as all that follow"),
+    ("bw_hasher_update in pieces of 64 KiB", "of the same, with the hash"),
+    ("bw_xof of 1 MiB", "of output, of no bytes"),
+    ("bw_encode", "of the same 64 MiB, in the caller's memory"),
+    ("bw_outboard", "as before"),
+    ("bw_slice of 1 MiB", "of the same, all of which is hashed"),
+    ("bw_cut_slice of 1 MiB", "from their combined encoding"),
+    ("bw_check_slice of 1 MiB", "of that slice"),
+    ("bw_check_outboard", "of their outboard encoding"),
+    ("bw_check_bare", "of the same beside their outboard encoding, which is checked before"),
+    ("bw_audit", "of the same and their combined encoding, which agree"),
+    (C_DECODE, "of their combined encoding"),
+    (C_FEED_SMALL, "as before"),
+    (C_FEED_LARGE, "as before"),
+    (C_FEED_NODES, "as before, node by node, each asked for by bw_feed_wants"),
+    ("bw_feed_push", "of their outboard encoding, in pieces of 64 KiB, with the outline of it"),
+    ("bw_outline_new", "of their outboard encoding"),
+    (C_OUTLINE, "of the same beside it, 64 KiB at a time"),
+    ("bw_outline_slice", "as before"),
+    ("bw_store_new", "with room for them"),
+    ("bw_store_part of 4 MiB", "of the second 4 MiB"),
+    (C_COMMIT_CHUNKS, "of their combined encoding, into an empty store"),
+    (C_COMMIT_ALL, "as before, with the parents"),
+    (C_OUTLINE_COMMIT, "of the same beside the outline, 64 KiB at a time, into an empty store"),
+    ("bw_seat_commit_parents", "of the slice of each group, which is cut out of their combined encoding"),
+    ("bw_seat_settle", "of the slice of the last byte"),
+    (C_GATHER, "of their combined encoding, into an empty store"),
+    ("bw_seat_salvage of a full store", "where nothing is left to be asked for"),
+    ("bw_seat_serve_slice of 1 MiB", "out of a full store"),
+    ("bw_seat_finish", "as before, of all"),
+]
+
+# The table of calls of the C library that have next to nothing to do: a name, and what is wanted of it.
+CALLS = [
+    ("bw_hasher_update of no bytes", "below 20"),
+    ("bw_seat_length", "below 20"),
+    ("bw_seat_take and bw_seat_give", ""),
+    ("bw_seat_held", ""),
+    ("bw_seat_split and bw_seat_join", ""),
+    ("bw_seat_split and bw_seat_meet", ""),
+    ("bw_hasher_new", ""),
+    ("bw_hasher_finish of no bytes", ""),
+    ("bw_hash of no bytes", ""),
+    ("bw_derive_key of no bytes", ""),
+    ("bw_feed_slice", ""),
+    ("bw_feed_wants", ""),
+    ("bw_slice_len of 64 KiB", ""),
+    ("bw_slice_ranges of 64 KiB", ""),
+    ("bw_outboard_ranges of 64 KiB", ""),
+    ("bw_slice_nodes of 64 KiB", ""),
+    ("bw_node_at of 64 KiB", ""),
+]
+
+# The table of memory: a name, how it was measured, and what is wanted of it.
+MEMORY = [
+    ("a shared store keeps", "store_shared's Assembly::new with room for 65,536 chunks, in a process with little else", "below 70"),
+    ("a shared store takes at most", "as before, while it is made", "below 140"),
+]
+
+# The table of the most memory that the whole program has at once: a name, which stands in the table of times too, and how many MiB are wanted. Each is
+# printed beside the MiB of the file, which a task would have at once that reads it whole.
+PEAKS = [
+    (HASH, "at most 32"),
+    (ENCODE, "at most 120"),
+    (OUTBOARD, "at most 120"),
+    (SLICED, "at most 32"),
+    (DECODE, "at most 120"),
+    (DECODE_BESIDE, "at most 120"),
+    (GATHER, "at most 40"),
+    (GATHER_BESIDE, "at most 40"),
+    (GATHER_VERBOSE, "at most 40"),
+    (GATHER_COMMON, "at most 40"),
+    (GATHER_LONG, "at most 40"),
+    (GATHER_LONGER, "at most 40"),
+]
+
+# The ratios of two of those times: the first over the second, and what is wanted of it.
+RATIOS = [
+    ("several threads", B3SUM_FOUR, HASH, "at least 0.45 on four processors"),
+    ("several threads", B3SUM_READ_FOUR, HASH, "at least 1.0 on four processors"),
+    ("one thread", B3SUM_ONE, HASH_ONE, "at least 0.42"),
+    ("one thread", B3SUM_READ_ONE, HASH_ONE, ""),
+    ("several threads", B3SUM_FOUR, FILE_FOUR, ""),
+    ("one thread", B3SUM_ONE, FILE_ONE, ""),
+    ("one thread", B3SUM_ONE, "hash", "at least 0.55"),
+    ("several threads", "hash", "hash_join", "at least 2.5 on four processors"),
+    ("one thread", "hash", POOL_ONE, ""),
+    ("several threads", "hash", POOL_FOUR, "at least 3.0 on four processors"),
+    ("several threads", PIECES_ONE, PIECES_FOUR, "4 on four processors of their own: what threads are worth on this machine"),
+    ("several threads", FILE_ONE, FILE_FOUR, ""),
+    ("one thread", EACH[64], EACH[8], "at least 0.7: small files"),
+    *(("one thread", EACH[kib], OF_BLAKE3_EACH[kib], "at most 1.4") for kib in SMALL),
+    ("one thread", SMALL_PIECES, "hash", "at most 1.3"),
+    ("one thread", LARGE_PIECES, "hash", "at most 1.1"),
+    ("one thread", OUTBOARD, HASH_ONE, "at most 1.5"),
+    ("several threads", ENCODE, HASH_ONE, "at most 2.2"),
+    ("several threads", DECODE, HASH_ONE, "at most 3.5"),
+    ("as a user runs it", ENCODE, COPY_ENCODED, "1 is what the system takes to read and write as many bytes"),
+    ("as a user runs it", DECODE, COPY_FILE, "1 is what the system takes to read and write as many bytes"),
+    ("one thread", SLICE, SLICE_OF_SIXTEENTH, "about 1: not with the encoding"),
+    ("one thread", LARGER_SLICE, SLICE, "about 8: with the slice"),
+    ("one thread", CHECK, "hash", "at most 1.1"),
+    ("several threads", CHECK, CHECK_JOINED, "at least 2.5 on four processors"),
+    ("one thread", CHECK_OUTBOARD, "hash", "at most 0.1"),
+    ("one thread", CHECK_BARE, "hash", "at most 1.1"),
+    ("one thread", AUDIT, "hash", "at most 1.3: one hash and one comparison"),
+    ("one thread", GATHER_TEXTS, HASH_OF_GATHERED, "at most 3.5: a check, a store, a read and a hash"),
+    ("as a user runs it", GATHER, HASH_GATHERED, "at most 6"),
+    ("as a user runs it", GATHER_TEN, GATHER, "at most 3"),
+    ("as a user runs it", GATHER_LONG, HASH_GATHERED, "at most 8"),
+    ("as a user runs it", GATHER_LONGER, HASH, "at most 8"),
+    ("as a user runs it", GATHER_BESIDE, GATHER, "at most 1"),
+    ("as a user runs it", GATHER_COMMON, GATHER, "at most 4"),
+    ("one thread", INTO_FULL, INTO_EMPTY, "about 1: not with what the store holds"),
+    ("one thread", OUT_OF_FULL, OUT_OF_ONE, "about 1: not with what the store holds"),
+    ("one thread", COMMITS_ONE, STORES, "at most 1.5"),
+    ("several threads", COMMITS_ONE, COMMITS_FOUR, "at least 2.5 on four processors"),
+    ("one thread", COPY, READS_ONE, "at least 0.3"),
+    ("several threads", READS_ONE, READS_FOUR, "at least 2.5 on four processors"),
+    ("one thread", TAKES_OF_ALL, TAKES_OF_ONE, "about 1: not with the store"),
+    ("one thread", SERVED_SHARED, READ_SHARED, "at most 3"),
+    ("one thread", SERVED_ALONE, READ_ALONE, "at most 3"),
+    ("several threads", RUN_ONE, RUN_FOUR, "at least 2.5 on four processors"),
+    ("one thread", PARENTS_ALONE, RUN_ONE, "at most 0.09: so run takes at most 1.1 of its time without parents"),
+    ("one thread", C_HASH, "hash", "at most 1.05"),
+    ("one thread", C_CHECK, CHECK, "at most 1.05"),
+    ("one thread", C_READS_ONE, READS_ONE, ""),
+    ("several threads", C_COMMITS_ONE, C_COMMITS_FOUR, "at least 2.5 on four processors"),
+    ("several threads", C_READS_ONE, C_READS_FOUR, "at least 2.5 on four processors"),
+    ("one thread", C_DECODE, C_HASH_FIRST, ""),
+    ("one thread", C_FEED_SMALL, C_HASH_FIRST, "at most 1.3"),
+    ("one thread", C_FEED_LARGE, C_HASH_FIRST, ""),
+    ("one thread", C_FEED_NODES, C_HASH_FIRST, ""),
+    ("one thread", C_OUTLINE, C_HASH_FIRST, ""),
+    ("one thread", C_COMMIT_CHUNKS, C_HASH_FIRST, ""),
+    ("one thread", C_COMMIT_ALL, C_COMMIT_CHUNKS, ""),
+    ("one thread", C_OUTLINE_COMMIT, C_COMMIT_ALL, ""),
+    ("one thread", C_GATHER, C_HASH_FIRST, ""),
+]
+
+
+# How far above a figure is that is wanted to be about another one, and isn't.
+ABOUT = 1.25
+
+
+def ratio_name(how, first, second):
+    return f"{how}: {first} / {second}"
+
+
+def peak_name(name):
+    return f"memory of {name}"
+
+
+def wanted_figures():
+    """What is wanted of each figure of which something is, by its name."""
+    found = {ratio_name(how, first, second): wanted for how, first, second, wanted in RATIOS if wanted}
+    found |= {f"{name}, MB": wanted for name, _, wanted in MEMORY}
+    found |= {f"{peak_name(name)}, MiB": wanted for name, wanted in PEAKS}
+    return found | {f"{name}, ns": wanted for name, wanted in CALLS if wanted}
+
+
+def is_missed(wanted, figure, processors=os.cpu_count() or 1):
+    """Whether the figure isn't what is wanted, where that begins with a number. One for four processors counts where there are as many."""
+    said = re.match(r"(at least|at most|below|about) ([0-9.]+)( on four processors)?", wanted)
+    if not said or (said[3] and processors < 4):
+        return False
+    number = float(said[2])
+    return {"at least": figure < number, "at most": figure > number, "below": figure >= number, "about": figure > ABOUT * number}[said[1]]
+
+
+def judged(wanted, figure):
+    """What is said behind the figure."""
+    return f" (wanted: {wanted}{'; MISSED' if is_missed(wanted, figure) else ''})" if wanted else ""
+
+
+# The columns before the figures.
+RUN = ["date", "commit", "machine", "build", "load", "mib", "runs", "what"]
+
+# Why a figure is missed that is, as far as it is known.
+WHY = {
+    ratio_name("several threads", "hash", POOL_FOUR): "virtual processors share cores: see the row of 16 KiB",
+    ratio_name("one thread", EACH[2], OF_BLAKE3_EACH[2]): "that library has two chunks side by side in one vector, row by row",
+    ratio_name("one thread", EACH[4], OF_BLAKE3_EACH[4]): "that library has two chunks side by side in one vector, row by row",
+    ratio_name("one thread", SLICE, SLICE_OF_SIXTEENTH): "the cache was in another state for each; since each comes after a slice of 8 MiB, 1.02 was measured",
+    ratio_name("one thread", CHECK_BARE, "hash"): "eight neighbouring chunks at a time leave the processor less to read ahead: 1.02 of 1 MiB, which stays in its cache",
+    ratio_name("one thread", OUT_OF_FULL, OUT_OF_ONE): "the cache was in another state for each; since each is read twice, 1.05 was measured",
+    ratio_name("one thread", AUDIT, "hash"): "the piece's chunks are read once more, out of memory and not out of a cache",
+    ratio_name("one thread", GATHER_TEXTS, HASH_OF_GATHERED): "two fresh 64 MiB, beside the check and the hash",
+    ratio_name("as a user runs it", GATHER, HASH_GATHERED): "each window is hashed and written on one thread, while the next one is filled",
+    ratio_name("as a user runs it", GATHER_LONG, HASH_GATHERED): "each window is hashed and written on one thread, while the next one is filled",
+    ratio_name("as a user runs it", GATHER_LONGER, HASH): "each window is hashed and written on one thread, while the next one is filled",
+    ratio_name("several threads", COMMITS_ONE, COMMITS_FOUR): "starting four threads takes up to 4 ms, beside 13 of work",
+    ratio_name("several threads", ENCODE, HASH_ONE): "more than half of its time is the kernel's, for fresh pages of what is written",
+    ratio_name("several threads", READS_ONE, READS_FOUR): "other work beside it; of 64 MiB with nothing else at work 2.63 was measured, and 2.58 of commits",
+    ratio_name("one thread", C_FEED_SMALL, C_HASH_FIRST): "of 1 MiB, which stays in the processor's cache, 1.29 was measured; a piece has a copy of its chunks, 8 turns of the lanes where 7.5 would be full, and 11 parents one by one, and its lanes wait for memory more than those of the hash",
+    "a shared store keeps, MB": "4.2 of it are for parents",
+    "a shared store takes at most, MB": "the list of zeros and the table's copy of it",
+}
+
+# What the plot shows, from top to bottom.
+PLOTTED = [
+    ("hash: b3sum's time / ours, one thread", ratio_name("one thread", B3SUM_ONE, "hash")),
+    ("check: of a combined encoding / hash, one thread", ratio_name("one thread", CHECK, "hash")),
+    ("decode: the program's / hash on one thread", ratio_name("several threads", DECODE, HASH_ONE)),
+    ("gather: the program's, one true file / hash on four threads", ratio_name("as a user runs it", GATHER, HASH_GATHERED)),
+]
+
+
+def history():
+    """Returns the runs: of each its cells by their columns."""
+    with open(HISTORY, encoding="utf-8") as it:
+        head, *lines = it.read().rstrip("\n").split("\n")
+    return [dict(zip(head.split("\t"), line.split("\t"))) for line in lines]
+
+
+def ends_of(cell):
+    """Returns the least and the most of a figure or a range."""
+    first, _, last = cell.partition(" to ")
+    return float(first), float(last or first)
+
+
+def in_short(least, most):
+    return f"{least:g}" if least == most else f"{least:g} to {most:g}"
+
+
+def missed_by(name, wanted, cell):
+    """What is said of a figure that is missed."""
+    misses = [is_missed(wanted, it, 4) for it in ends_of(cell)]
+    if not any(misses):
+        return ""
+    return f"{'missed' if all(misses) else 'at times missed'}: {WHY.get(name, 'it is not known why')}"
