@@ -99,7 +99,7 @@ def missing(blob):
     size = GROUP_LEN * bao.CHUNK_LEN
     at = bao.chunks_of(BLOBS[blob]) // 2 // GROUP_LEN * size
     after = min(at + size, BLOBS[blob])
-    return [f"missing: bytes {at} to {after - 1}", f"missing: {after - at} of {BLOBS[blob]} bytes, parts: 1"]
+    return [f"missing: bytes {at} to {after - 1}", f"missing: {after - at} of {BLOBS[blob]} bytes, ranges: 1"]
 
 
 def gather(blob, *files, how=""):
@@ -126,7 +126,7 @@ FOUR_TIMES, LITTLE, OF_A_PIPE = 4 * 68, 32, 32 + 68
 TWENTY = linked("64M.torn", 20)
 BESIDE_ZEROS = gather("4M", "4M.torn", "zeros-3G"), gather("4M", "4M.torn", "zeros-1T")
 TRUE_BESIDE_ZEROS = gather("64M", "64M.bao", "zeros-3G", how="--verbose")
-TRUE_AND_ZEROS = [counted("64M.bao", 0, "64M"), "zeros-3G: no combined encoding of ROOT; a plain copy goes with --outboard"]
+TRUE_AND_ZEROS = [counted("64M.bao", 0, "64M"), "zeros-3G: not a combined encoding of ROOT; for a plain copy, use --outboard"]
 
 # Holders that are many, or large.
 HOLDERS = [

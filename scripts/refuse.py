@@ -45,11 +45,12 @@ WRITTEN = (OUT, LIST)
 DRAFT = re.compile(rf"(?:.*/)?({OUT}|{LIST})\.part\.gather[2-9]?")
 
 # The lines of --verbose, and of a list that isn't written; the one of a FILE that was counted, and those in its place for want of memory.
-TOLD = re.compile(rb"bao_gather: (?:left out .*|missing: .*|nothing fits ROOT: .*|list: left as it is: .*|.*: not counted: no memory|.*: \d+ of \d+ groups of 64 KiB refused)\n")
+TOLD = re.compile(rb"bao_gather: (?:left out .*|missing: .*|nothing fits ROOT: .*|list: left as it is: .*|.*: not counted: no memory|.*: \d+ of \d+ groups of 64 KiB refused|.*: not a combined encoding of ROOT; .*)\n")
 # What the system has against a FILE, in a line of its own or at the end of one.
 REASON = re.compile(rb"^bao_gather: [^:\n]*: [^:\n]* \(os error \d+\)\n|(?<=can't be read): [^:\n]* \(os error \d+\)", re.MULTILINE)
-UNLISTED = re.compile(rb"bao_gather: list: left as it is: (?:memory|what is missing isn't known)\n")
-COUNTED = re.compile(rb"bao_gather: (.*): \d+ of \d+ groups of 64 KiB refused")
+UNLISTED = re.compile(rb"bao_gather: list: left as it is: memory\n")
+COUNTED = re.compile(rb"bao_gather: (.*): (?:\d+ of \d+ groups of 64 KiB refused|not a combined encoding of ROOT; .*)")
+FORMLESS = re.compile(rb"^bao_gather: (.*): not a combined encoding of ROOT; ", re.MULTILINE)
 UNCOUNTED, STARVED = b"bao_gather: %b: not counted: no memory", b"bao_gather: left out %b: no memory"
 
 # No run comes near these seconds: it is held for ever.
@@ -134,6 +135,15 @@ class Ending:
     beside: int = 0
 
 
+class Model(scenarios.Programs):
+    """The definitions, where nothing is known of the form of some files' bytes."""
+
+    unformed = ()
+
+    def is_no_encoding(self, text):
+        return text not in self.unformed and super().is_no_encoding(text)
+
+
 class Case:
     """A run of the program on words, over files."""
 
@@ -153,12 +163,15 @@ class Case:
         # A long file is encoded in another way where there is no memory for the first.
         self.needed = {PLAIN} if is_avoidable or is_shared else self.memory
         self.name = " ".join(it if len(it) < 64 else f"{it[:6]}.." for it in words)
+        # The calls of open that a run makes to read each FILE, before the one that finds out its form.
+        self.first_opens = {}
 
     @functools.lru_cache(maxsize=None)
-    def ending(self, changes=frozenset()):
-        """How it ends by the definitions, where some files can't be read (None), or end at a byte."""
-        model = scenarios.Programs()
+    def ending(self, changes=frozenset(), unformed=frozenset()):
+        """How it ends by the definitions, where some files can't be read (None), or end at a byte, and the form of some isn't found out."""
+        model = Model()
         model.files, model.irregular = dict(self.files), set(self.pipes)
+        model.unformed = [self.files[it] for it in unformed]
         for file, end in changes:
             if end is None:
                 model.files.pop(file, None)
@@ -214,8 +227,28 @@ class Case:
             met = [line.rstrip("\n").split(" ", 1) for line in it]
         return ended, [[byte, DRAFT.sub(r"\1", file)] for byte, file in met]
 
-    def is_right(self, fault, met, ended):
-        """Whether it ended as promised, where these calls were met."""
+    def formless(self):
+        """The FILEs that are no combined encoding, which the program finds out at last by opening and reading them once more."""
+        return {it.decode() for it in FORMLESS.findall(self.ending().complaint)} if self.is_placed else set()
+
+    def find_opens(self, program, folder, shim):
+        """Has each open of a run fail, and so finds out which are the first of FILEs that are opened once more for their form."""
+        opened, met = {}, [()]
+        while self.formless() and met:
+            number = sum(map(len, opened.values())) + 1
+            _, met = self.run(program, folder, {"LD_PRELOAD": shim, "CALL": "open", "AT": str(number), "HOW": str(errno.EIO)})
+            for _, file in met:
+                opened.setdefault(file, []).append(number)
+        self.first_opens = {file: opened.get(file, [])[:-1] for file in self.formless()}
+
+    def unformed(self, fault, number, met):
+        """The FILEs whose form wasn't found out, and nothing else of them: all calls that failed, from this one on, came after they had been read."""
+        files = self.formless() & {file for _, file in met}
+        # What a FILE gives is read by position: the other reads are for its form.
+        return {it for it in files if fault.call == "read" or fault.call == "open" and max(self.first_opens[it], default=0) < number}
+
+    def is_right(self, fault, number, met, ended):
+        """Whether it ended as promised, where these calls were met, of which the first is the one of this number."""
         whole = self.ending()
         if met and fault.how == KILLED:
             return ended.status == -signal.SIGKILL and ended.out in (KEPT, whole.out) and ended.listed in (KEPT, whole.listed)
@@ -231,7 +264,9 @@ class Case:
         is_in_order = fault.call == "read" or fault.call == "pread" and self.words[0] in (*DECODES, "cut-slice")
         ends_early = is_in_order and fault.how == "none"
         is_end = lambda byte, file: fault.how == "none" and byte.isdigit() and int(byte) >= len(self.files[file])
-        changes = frozenset((file, int(byte) if ends_early else None) for byte, file in met if file in self.files and file not in WRITTEN and not is_end(byte, file))
+        unformed = frozenset(self.unformed(fault, number, met))
+        gone = lambda file: file in self.files and file not in WRITTEN and file not in unformed
+        changes = frozenset((file, int(byte) if ends_early else None) for byte, file in met if gone(file) and not is_end(byte, file))
         is_again = self.is_placed and fault.call == "open" and all(file in self.files and file not in WRITTEN for _, file in met)
         if unreasoned(ended) == unreasoned(whole) and (is_again or fault.call in AVOIDABLE_CALLS or fault.how in AVOIDABLE):
             return True
@@ -243,8 +278,9 @@ class Case:
             is_more = is_list_of_more(whole.listed, ended.listed)
             wanted = [dataclasses.replace(it, listed=ended.listed) if is_more and it.status == 1 else it for it in (whole, self.ending(changes), self.ending(emptied))]
             return any(self.is_ending(it, places, ended, TOLD) for it in wanted)
-        # What is asked of a FILE may not matter, where it does for OUT.
-        wanted = [self.ending(changes), *([whole] if fault.call in AVOIDABLE_CALLS else [])]
+        # What is asked of a FILE may not matter, where it does for OUT, or matter for its form alone.
+        wanted = [self.ending(changes, unformed), *([whole] if fault.call in AVOIDABLE_CALLS else [])]
+        wanted += [self.ending(unformed=frozenset(self.formless() & {file for _, file in met}))] if fault.call == "statx" else []
         told = TOLD if LIST in places else None
         return self.is_changed(fault, met, ended) or any(self.is_ending(it, places, ended, told) for it in wanted)
 
@@ -258,10 +294,12 @@ class Case:
         return whole.status == 0 and told and ended.out == KEPT
 
     def is_of_memory(self, ended):
-        """It ended with a fault of memory of its own, and OUT is as it was, or whole where the line on standard output found no room."""
+        """It ended with a fault of memory of its own, and OUT is as it was, or whole where the line on standard output found no room. The list is as it was,
+        if gathering hadn't begun, or empty."""
         complaint = TOLD.sub(b"", ended.complaint)
         whole = self.ending()
-        left, listed = ([KEPT, whole.out], [KEPT, whole.listed]) if complaint == PLAIN else ([KEPT], [KEPT])
+        left = [KEPT, whole.out] if complaint == PLAIN else [KEPT]
+        listed = [KEPT, b""] if "--missing" in self.words else [KEPT]
         return ended.status == 4 and not ended.printed and complaint in self.memory and ended.out in left and ended.listed in listed
 
     def is_ending(self, wanted, places, ended, apart=None):
@@ -271,13 +309,13 @@ class Case:
         if apart:
             wanted, ended = (dataclasses.replace(it, complaint=apart.sub(b"", it.complaint)) for it in (wanted, ended))
         status, printed, complaint, out = wanted.status, [wanted.printed], wanted.complaint, ended.out == wanted.out
-        # What can't be written is as it was. OUT is in place before the list is made.
-        out = out and ended.listed == (KEPT if places & {*WRITTEN} else wanted.listed)
+        # What can't be written is as it was. OUT is in place before the list is made; where it can't be, the list is empty, as after a success.
+        listed = KEPT if LIST in places else wanted.listed
+        out = out and ended.listed == listed
         if status == 0 and places & {*WRITTEN}:
             place = OUT if OUT in places else LIST
-            left = f"bao_gather: {LIST}: left as it is: what is missing isn't known\n" if place == OUT and "--missing" in self.words else ""
-            status, printed, complaint = 3, [b""], complaint + f"{left}bao_gather: cannot write {place}\n".encode()
-            out = (ended.out, ended.listed) == (KEPT if place == OUT else wanted.out, KEPT)
+            status, printed, complaint = 3, [b""], complaint + f"bao_gather: cannot write {place}\n".encode()
+            out = (ended.out, ended.listed) == (KEPT if place == OUT else wanted.out, listed)
         elif status == 0 and STDOUT in places:
             printed = [wanted.printed[:k] for k in range(len(wanted.printed))]
             status, complaint = 3, complaint + b"bao_gather: cannot write output\n"
@@ -329,6 +367,8 @@ def tried(case, faults, program, shim, room):
         if ended != case.ending():
             return 0, [f"{case.name}: {ended} in place of {case.ending()}"]
         passed += 1
+        if faults:
+            case.find_opens(program, folder, shim)
         for fault in faults:
             number = quiet = 0
             while quiet < QUIET and len(wrong) < 20:
@@ -337,7 +377,7 @@ def tried(case, faults, program, shim, room):
                 ended, met = case.run(program, folder, settings)
                 quiet = 0 if met else quiet + 1
                 seen.add(TOLD.sub(b"", ended.complaint))
-                if case.is_right(fault, met, ended):
+                if case.is_right(fault, number, met, ended):
                     passed += 1
                 else:
                     wrong.append(f"{case.name}: {fault}, call {number}, at {met}: {ended}"[:900])
@@ -389,7 +429,7 @@ def tasks(options):
     yield case(f"gather --capacity 100 --workers 1 {root} out whole", {"whole": whole})
     yield case(f"gather --capacity 100 --encode {root} out whole damaged copy", {"whole": whole, "copy": whole, "damaged": damaged})
     yield case(f"gather --workers 3 --capacity 69 {root} out damaged", {"damaged": damaged})
-    yield case(f"gather --verbose --capacity 100 {root} out piece nofile whole", {"piece": whole[:-1] + bytes([whole[-1] ^ 1]), "whole": whole})
+    yield case(f"gather --verbose --capacity 100 {root} out piece nofile whole", {"piece": piece, "whole": whole})
     yield case(f"gather --missing list --workers 1 --capacity 100 {root} out damaged", {"damaged": damaged})
     yield case(f"gather --missing list --workers 1 --capacity 100 {root} out whole", {"whole": whole})
     yield case(f"gather --missing list --salvage --workers 1 --outboard parents {root} out third fifth", {"parents": parents, "fifth": changed(worn["fourth"], 66_000), **worn})

@@ -926,7 +926,7 @@ class Programs:
         try:
             outline = self.outline(mode, root, options)
         except Refused:
-            self.told += self.unlisted(options)
+            self.told += self.listed(options, [])
             raise
         self.told = []
         found = [it for it in files if it in self.files]
@@ -961,23 +961,19 @@ class Programs:
             if self.told[-1] == self.NO_END and "--salvage" not in options and worths and all(refused == groups for refused, groups in worths):
                 self.told.append(self.NOTHING)
         if isinstance(answer, Refused):
-            self.told += self.unlisted(options) if lack is None else self.listed(options, lack[1])
+            self.told += self.listed(options, [] if lack is None else lack[2])
             raise answer
         try:
             self.write(out, bao.combined(mode, answer) if "--encode" in options else answer)
         except Refused:
-            self.told += self.unlisted(options)
+            self.told += self.listed(options, [])
             raise
         if "--missing" in options:
             self.write(options["--missing"], b"")
         return f"ok {len(answer)}"
 
-    def unlisted(self, options):
-        """What is told where what is missing isn't known, and a list of it is asked for."""
-        return [f"{options['--missing']}: left as it is: what is missing isn't known"] if "--missing" in options else []
-
     def listed(self, options, parts):
-        """Writes these parts to the list that is asked for, and answers what is told where that can't be."""
+        """Writes these ranges to the list, if one is asked for, and returns what is printed if that fails."""
         try:
             if "--missing" in options:
                 self.write(options["--missing"], b"".join(b"%d %d\n" % (first, after - first) for first, after in parts))
@@ -987,16 +983,16 @@ class Programs:
 
     # The most parts that are shown of what is missing, and what is told where none has the end, and where nothing is under the root.
     MOST_SHOWN = 8
-    NO_ENCODING = "no combined encoding of ROOT; a plain copy goes with --outboard"
-    NO_OUTBOARD = "no outboard encoding of ROOT: look at ROOT, the key and --context"
+    NO_ENCODING = "not a combined encoding of ROOT; for a plain copy, use --outboard"
+    NO_OUTBOARD = "not the outboard encoding of ROOT: check ROOT, the key and --context"
 
     def is_no_encoding(self, text):
         """Whether it has another size than a combined encoding of the length that it claims."""
         claimed = int.from_bytes(text[:8], "little")
         return len(text) >= 8 and len(text) != 8 + claimed + 64 * (bao.chunks_of(claimed) - 1)
 
-    NO_END = "missing: the end, so that the length isn't known"
-    NOTHING = "nothing fits ROOT: look at ROOT, the key and --context; plain copies go with --outboard, encodings without"
+    NO_END = "missing: the end of the blob, so its length isn't known"
+    NOTHING = "nothing fits ROOT: check ROOT, the key and --context; plain copies need --outboard, encodings don't"
 
     def lack(self, mode, root, outline, texts, grain):
         """What none of these texts has of a length, certified or claimed: parts of so many chunks each, those together that follow one another. None where there is no length."""
@@ -1009,7 +1005,7 @@ class Programs:
             if next(self.pieces(mode, root, outline, texts, start, size), None) is None:
                 first = parts.pop()[0] if parts and parts[-1][1] == start else start
                 parts.append((first, min(start + size, total)))
-        return total, parts
+        return total, end is not None, parts
 
     def claimed(self, mode, root, outline, texts, grain):
         """The length that the outboard encoding claims, or the first text of which one of the first 64 units is right by the length that it claims."""
@@ -1026,11 +1022,11 @@ class Programs:
         """What is told of it."""
         if lack is None:
             return [self.NO_END]
-        total, parts = lack
+        total, is_certified, parts = lack
         if not parts:
-            return ["missing: nothing at a second look: a read failed before"]
+            return ["missing: nothing at a second look: an earlier read failed"]
         shown = [f"missing: bytes {first} to {after - 1}" for first, after in parts[: self.MOST_SHOWN]]
-        return [*shown, f"missing: {sum(after - first for first, after in parts)} of {total} bytes, parts: {len(parts)}"]
+        return [*shown, f"missing: {sum(after - first for first, after in parts)} of {total} bytes, ranges: {len(parts)}"] + ([] if is_certified else [f"missing: the length isn't certified yet: {total} bytes are claimed"])
 
     def given(self, name, options, outline):
         """What a file gives: of one that isn't regular no more is read than can help, and a byte."""

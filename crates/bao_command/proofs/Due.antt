@@ -1,13 +1,15 @@
 -- Why a fault is due.
-use Rattle.std.proofs.Common.{◌≡◌, ◌⊎◌, ◌≤◌, ◌<◌, ◌+◌, ◌-◌, ◌^◌, ◌∙◌, ℕ, List, IfErr, IsErrAnd, Result, Ok, Err, inl, inr, refl, sym, subst}
+use Rattle.std.proofs.Common.{◌≡◌, ◌⊎◌, ◌≤◌, ◌<◌, ◌+◌, ◌-◌, ◌^◌, ◌∙◌, ℕ, List, Bor, Option, None, IfErr, IsErrAnd, Result, Ok, Err, inl, inr, refl, sym, subst}
 use Rattle.bao_decode.specs.declared.decode_fault.DecodeFault.{DecodeFault}
 use Rattle.bao_files.specs.Disks.{FileState}
 use Rattle.bao_files.specs.Printed.{IsDigits}
+use Rattle.bao_files.specs.declared.fault.FileFault.{FileFault}
 use Rattle.bao_tasks.specs.declared.gathered_fault.GatheredFault.{GatheredFault}
 use Rattle.bao_tasks.specs.declared.rerun_fault.RerunFault.{RerunFault}
 use Rattle.bao_request.specs.declared.tasks.Request.{Request}
 use Rattle.bao_request.specs.declared.tasks.Task.{Task}
 use Rattle.bao_command.specs.declared.fault.Fault.{Fault}
+use Rattle.bao_command.specs.Effects.{IsRelisted, list_of}
 use Rattle.bao_command.specs.declared.fault.Fault.TheVariants.{Root, OutputRange, TooManyFiles, Decode, Gather, Replay}
 use Rattle.bao_command.specs.Status.{gathered_status_of, rerun_status_of}
 use Rattle.bao_command.specs.Tasks.{Decodes, Gathers, HasBadScript, HasManyFiles, HasNoCapacity, HasRoot, IsDue, IsOfFile, IsPastOutput, Replays}
@@ -41,7 +43,7 @@ decode_due at task NoRoot (Err fault) root decodes (inr (inr due)) = λ request 
 pub gather_due : (at : List ℕ → FileState) (task : Task) (NoRoot Many Bad : Type 0) (result : Result Unit Fault) → (NoRoot → ¬ HasRoot task) → (Many → HasManyFiles task) → Gathers task
     → (Bad → HasNoCapacity task)
     → IfErr result (λ fault. IsOfFile fault ⊎ ((fault ≡ Root) × NoRoot) ⊎ ((fault ≡ TooManyFiles) × Many)
-    ⊎ ((cause : GatheredFault) × (fault ≡ Gather cause) × (gathered_status_of cause ≡ 2 → Bad)))
+    ⊎ ((cause : GatheredFault) × (unlisted : Option FileFault) × (fault ≡ Gather cause unlisted) × (gathered_status_of cause ≡ 2 → Bad)))
     → IfErr result (IsDueFor at task)
 gather_due at task NoRoot Many Bad (Ok done) root many gathers bad due = tt
 gather_due at task NoRoot Many Bad (Err fault) root many gathers bad (inl of) = λ request same. file_is_due at request fault of
@@ -50,8 +52,8 @@ gather_due at task NoRoot Many Bad (Err fault) root many gathers bad (inr (inl d
 gather_due at task NoRoot Many Bad (Err fault) root many gathers bad (inr (inr (inl due))) = λ request same.
     subst (IsDue at request) (sym due.0) (subst HasManyFiles (sym same) (many due.1))
 gather_due at task NoRoot Many Bad (Err fault) root many gathers bad (inr (inr (inr due))) = λ request same.
-    subst (IsDue at request) (sym due.1)
-    (subst (λ (t : Task). Gathers t × (gathered_status_of due.0 ≡ 2 → HasNoCapacity t)) (sym same) (gathers, λ two. bad (due.2 two)))
+    subst (IsDue at request) (sym due.2)
+    (subst (λ (t : Task). Gathers t × (gathered_status_of due.0 ≡ 2 → HasNoCapacity t)) (sym same) (gathers, λ two. bad (due.3 two)))
 
 pub replay_due : (at : List ℕ → FileState) (task : Task) (NoRoot Many Bad : Type 0) (result : Result Unit Fault) → (NoRoot → ¬ HasRoot task) → (Many → HasManyFiles task) → Replays task
     → (Bad → HasNoCapacity task ⊎ HasBadScript at task)
@@ -67,6 +69,15 @@ replay_due at task NoRoot Many Bad (Err fault) root many replays bad (inr (inr (
 replay_due at task NoRoot Many Bad (Err fault) root many replays bad (inr (inr (inr due))) = λ request same.
     subst (IsDue at request) (sym due.1)
     (subst (λ (t : Task). Replays t × (rerun_status_of due.0 ≡ 2 → HasNoCapacity t ⊎ HasBadScript at t)) (sym same) (replays, λ two. bad (due.2 two)))
+
+-- no fault of another task is one of gathering
+abbrev asked : Task → Request
+asked task = record { key = None; key_file = None; context = None; task = task }
+
+pub lists_none : (at after : List ℕ → FileState) (task : Task) (list : Option (Bor (List ℕ))) (result : Result Unit Fault) → ¬ Gathers task → IfErr result (IsDueFor at task)
+    → IfErr result (IsRelisted at after list)
+lists_none at after task list (Ok done) other due = tt
+lists_none at after task list (Err fault) other due = λ cause is apart. absurd (other (subst (IsDue at (asked task)) is (due (asked task) refl)).0)
 
 -- what is due for the task is so for the request
 pub task_due : (at : List ℕ → FileState) (request : Request) (result : Result Unit Fault) → IfErr result (IsDueFor at request.task) → IfErr result (IsDue at request)

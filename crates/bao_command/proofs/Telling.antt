@@ -1,15 +1,16 @@
 -- What was printed, as the program tells it, and what its faults leave.
-use Rattle.std.proofs.Common.{◌≡◌, ◌≢◌, ◌⊎◌, ℕ, List, Option, Result, Ok, Err, IfErr, IsErrAnd, OnOk, inl, inr, arith, sym, ap, ◌∙◌}
+use Rattle.std.proofs.Common.{◌≡◌, ◌≢◌, ◌⊎◌, ℕ, List, Bor, Option, None, Result, Ok, Err, IfErr, IsErrAnd, OnOk, inl, inr, arith, sym, ap, ◌∙◌}
 use Rattle.std.specs.Io.KnownBytes.{Appends}
 use Rattle.bao_files.specs.Disks.{FileState, KeepsFiles}
 use Rattle.bao_files.specs.Printed as file
 use Rattle.bao_files.specs.declared.fault.FileFault.{FileFault}
 use Rattle.bao_files.specs.declared.fault.FileFault.TheVariants as files
 use Rattle.bao_command.specs.declared.fault.Fault.{Fault}
-use Rattle.bao_command.specs.declared.fault.Fault.TheVariants.{Root}
+use Rattle.bao_command.specs.declared.fault.Fault.TheVariants.{File, Gather, Root, TooManyFiles}
+use Rattle.bao_command.specs.Effects.{IsRelisted}
 use Rattle.bao_command.specs.Printed.{CommandPrints, OnPrinted, told_of}
 use Rattle.bao_command.specs.Status.{file_status_of, status_of}
-use Rattle.bao_command.specs.Tasks.{IsOfFile}
+use Rattle.bao_command.specs.Tasks.{IfPassed, IsOfFile}
 use Rattle.bao_command.specs.Works.{Leaves}
 
 -- a line that was printed, as a fault of the program
@@ -89,3 +90,30 @@ of_file_or P (Err fault) of = inl of
 pub other_status : (P : Type 0) (result : Result Unit Fault) (fault : Fault) → IsErrAnd result (λ e. e ≡ fault) → status_of fault ≢ 1 → IfErr result (λ e. status_of e ≡ 1 → P)
 other_status P (Ok done) fault is none = tt
 other_status P (Err e) fault is none = λ one. absurd (none (ap status_of (sym is) ∙ one))
+
+-- it is no fault of gathering
+pub not_relisted : (at after : List ℕ → FileState) (list : Option (Bor (List ℕ))) (result : Result Unit Fault) → IfErr result IsOfFile → IfErr result (IsRelisted at after list)
+not_relisted at after list (Ok done) of = tt
+not_relisted at after list (Err fault) of = λ cause is apart. absurd (let no : File of.0 ≡ Gather cause None = sym of.1 ∙ is in cc)
+
+-- what holds in any case
+pub always_passed : (P : Type 0) (result : Result Unit Fault) → P → IfPassed result P
+always_passed P (Ok done) p = p
+always_passed P (Err fault) p = λ one. p
+
+-- or since more files are refused with 2
+pub few_passed : (P Many : Type 0) (result : Result Unit Fault) → ¬ P → (Many → IsErrAnd result (λ fault. fault ≡ TooManyFiles)) → IfPassed result ((¬ P) × ¬ Many)
+few_passed P Many (Ok done) past many = (past, λ is. many is)
+few_passed P Many (Err fault) past many = λ one. (past, λ is. let bad : 2 ≡ 1 = sym (ap status_of (many is)) ∙ one in omega arith)
+
+pub range_passed : (P Many Fits : Type 0) (result : Result Unit Fault) → ¬ Many → (Fits → ¬ P) → IfErr result (λ fault. status_of fault ≢ 1) → OnOk result Fits → IfPassed result ((¬ P) × ¬ Many)
+range_passed P Many Fits (Ok done) few step none fits = (step fits, few)
+range_passed P Many Fits (Err fault) few step none fits = λ one. absurd (none one)
+
+pub passed_of : (P Q : Type 0) (result : Result Unit Fault) → (P → Q) → IfPassed result P → IfPassed result Q
+passed_of P Q (Ok done) step p = step p
+passed_of P Q (Err fault) step p = λ one. step (p one)
+
+pub never_passed : (P : Type 0) (result : Result Unit Fault) (fault : Fault) → IsErrAnd result (λ e. e ≡ fault) → status_of fault ≢ 1 → IfPassed result P
+never_passed P (Ok done) fault is none = absurd is
+never_passed P (Err e) fault is none = λ one. absurd (none (ap status_of (sym is) ∙ one))

@@ -1,5 +1,5 @@
 -- what a task does to the files
-use Rattle.std.specs.Prelude.{◌⊎◌, ℕ, List, [], Option, None, Some}
+use Rattle.std.specs.Prelude.{◌≡◌, ◌≢◌, ◌⊎◌, ℕ, List, [], Option, None, Some}
 use Rattle.std.specs.Borrow.{Bor}
 use Rattle.b3tree.specs.declared.mode.Mode.{Mode}
 use Rattle.bao_files.specs.Disks.{FileState, KeepsFiles, Puts}
@@ -7,9 +7,15 @@ use Rattle.bao_files.specs.Encoded.{encoding_text}
 use Rattle.bao_decode.specs.Ranges.{part_bytes}
 use Rattle.bao_tasks.specs.Gathered.{gathered_text}
 use Rattle.bao_tasks.specs.Listed.{lines_of_parts}
+use Rattle.bao_tasks.specs.declared.gathered_fault.GatheredFault.{GatheredFault}
+use Rattle.bao_tasks.specs.declared.missing.Lack.{Lack}
+use Rattle.bao_tasks.specs.declared.missing.Lack.TheVariants.{Missing}
 use Rattle.bao_tasks.specs.declared.missing.Span.{Span}
 use Rattle.bao_request.specs.declared.tasks.Task.{Task}
 use Rattle.bao_request.specs.declared.tasks.Task.TheVariants.{Hash, Encode, CutSlice, Decode, DecodeCopy, Gather, Replay}
+use Rattle.bao_command.specs.declared.fault.Fault.{Fault}
+use Rattle.bao_command.specs.declared.fault.Fault.TheVariants.{Gather as Ungathered}
+use Rattle.bao_command.specs.Status.{gathered_status_of}
 
 -- the path of the task's list, where it has one
 abbrev pub list_of : Task → Option (Bor (List ℕ))
@@ -21,9 +27,22 @@ abbrev pub Lists : (List ℕ → FileState) → (List ℕ → FileState) → Opt
 Lists old new None lines = KeepsFiles old new
 Lists old new (Some list) lines = Puts old new list.now (Some lines)
 
--- all files are as they were, but that the list may be of some parts now
+-- the ranges that are known to be missing
+abbrev pub parts_in : Lack → List Span
+parts_in (Missing parts) = parts.shown.items
+parts_in lack = []
+
+-- a list of some ranges is at its path, where one is named, and nothing else has changed that was known
+abbrev pub ListsSome : (List ℕ → FileState) → (List ℕ → FileState) → Option (Bor (List ℕ)) → Type 0
+ListsSome old new list = (parts : List Span) × Lists old new list (lines_of_parts parts)
+
+-- After a fault of gathering that isn't one of the arguments the list has been made anew, unless the fault says that it couldn't be written.
+abbrev pub IsRelisted : (List ℕ → FileState) → (List ℕ → FileState) → Option (Bor (List ℕ)) → Fault → Type 0
+IsRelisted old new list fault = (cause : GatheredFault) → fault ≡ Ungathered cause None → gathered_status_of cause ≢ 2 → ListsSome old new list
+
+-- all files are as they were, but that the list may be one of some ranges now
 abbrev pub KeepsButList : (List ℕ → FileState) → (List ℕ → FileState) → Option (Bor (List ℕ)) → Type 0
-KeepsButList old new list = KeepsFiles old new ⊎ ((parts : List Span) × Lists old new list (lines_of_parts parts))
+KeepsButList old new list = KeepsFiles old new ⊎ ListsSome old new list
 
 -- the text was put at OUT, and then an empty list at its path, where one is named
 abbrev pub PutsBoth : (List ℕ → FileState) → (List ℕ → FileState) → List ℕ → List ℕ → Option (Bor (List ℕ)) → Type 0

@@ -25,5 +25,5 @@ number_of ListIsRead = None
 number_of ListLeadsToOther = None
 number_of (File fault) = file_number_of fault
 number_of (Decode fault) = decode_number_of fault
-number_of (Gather fault) = gathered_number_of fault
+number_of (Gather fault unlisted) = gathered_number_of fault
 number_of (Replay fault) = rerun_number_of fault

@@ -11,7 +11,7 @@ use Rattle.bao_request.specs.CommandLine.{AsksFor, AsksForHelp, program_app}
 use Rattle.bao_command.specs.declared.fault.Fault.{Fault}
 use Rattle.bao_command.specs.Status.{status_of}
 use Rattle.bao_command.specs.Refused.{IsBlobFor, IsRefusedFor}
-use Rattle.bao_command.specs.Tasks.{Decodes, Gathers, IsDue, LeavesFilesOf, PrintsBeginning, PrintsLine, Replays}
+use Rattle.bao_command.specs.Tasks.{Decodes, Gathers, IsDue, IsPassed, LeavesFilesOf, PrintsBeginning, PrintsLine, Replays}
 
 -- clap finds a fault with the arguments, and it isn't that they ask for help or the version
 abbrev pub AreRefused : List Text → Type 0
@@ -48,6 +48,10 @@ HasReason at request status = (fault : Fault) × (status_of fault ≡ status) ×
 abbrev pub IsUsage : List Text → (List ℕ → FileState) → Type 0
 IsUsage words at =
     (fault_of program_app words ≢ []) ⊎ ((request : Request) → ¬ AsksFor words request) ⊎ ((request : Request) × AsksFor words request × HasReason at request 2)
+
+-- At status 0 and 1: they ask for help, or for a request with good arguments.
+abbrev pub ArePassed : List Text → (List ℕ → FileState) → Type 0
+ArePassed words at = AsksForHelp words ⊎ ((request : Request) × AsksFor words request × IsPassed at request)
 
 -- At status 1: they ask for a task that has a text or a blob to refuse, in the mode of the request, as far as the files are known.
 abbrev pub IsRefusable : List Text → Type 0 → (List ℕ → FileState) → Type 0

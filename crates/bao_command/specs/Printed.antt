@@ -27,7 +27,7 @@ CommandLeaves line old new ListIsRead = Keeps old new
 CommandLeaves line old new ListLeadsToOther = Keeps old new
 CommandLeaves line old new (File fault) = file.Leaves line old new fault
 CommandLeaves line old new (Decode fault) = Keeps old new
-CommandLeaves line old new (Gather fault) = Keeps old new
+CommandLeaves line old new (Gather fault unlisted) = Keeps old new
 CommandLeaves line old new (Replay fault) = Keeps old new
 
 -- the line was printed, or the fault leaves what it leaves

@@ -81,5 +81,5 @@ status_of ListIsRead = 2
 status_of ListLeadsToOther = 2
 status_of (File fault) = file_status_of fault
 status_of (Decode fault) = decode_status_of fault
-status_of (Gather fault) = gathered_status_of fault
+status_of (Gather fault unlisted) = gathered_status_of fault
 status_of (Replay fault) = rerun_status_of fault

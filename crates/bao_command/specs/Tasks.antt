@@ -215,7 +215,7 @@ IsDue at request ListIsRead = ReadsList request
 IsDue at request ListLeadsToOther = LeadsListTo at request.key_file request.task
 IsDue at request (File fault) = Unit {0}
 IsDue at request (Undecoded fault) = Decodes request.task
-IsDue at request (Ungathered fault) = Gathers request.task × (gathered_status_of fault ≡ 2 → HasNoCapacity request.task)
+IsDue at request (Ungathered fault unlisted) = Gathers request.task × (gathered_status_of fault ≡ 2 → HasNoCapacity request.task)
 IsDue at request (Unreplayed fault) = Replays request.task × (rerun_status_of fault ≡ 2 → HasNoCapacity request.task ⊎ HasBadScript at request.task)
 
 -- the text, made of bytes, is accepted as that of a part of the blob with this root, in hexadecimal digits
@@ -299,7 +299,7 @@ LeavesOf request at after old new ListIsRead = Keeps old new
 LeavesOf request at after old new ListLeadsToOther = Keeps old new
 LeavesOf request at after old new (File fault) = LeavesOfFile request at after old new fault
 LeavesOf request at after old new (Undecoded fault) = Keeps old new
-LeavesOf request at after old new (Ungathered fault) = Keeps old new
+LeavesOf request at after old new (Ungathered fault unlisted) = Keeps old new
 LeavesOf request at after old new (Unreplayed fault) = Keeps old new
 
 -- the answer to the request
@@ -322,3 +322,18 @@ LeavesFiles at after mode task fault =
 abbrev pub LeavesFilesOf : (List ℕ → FileState) → (List ℕ → FileState) → Request → Fault → Type 0
 LeavesFilesOf at after request fault =
     KeepsFiles at after ⊎ ((status_of fault ≢ 2) × GoesApart request × ((mode : Mode) × HasMode at request mode × LeavesFiles at after mode request.task fault))
+
+-- What holds of a request before its task is done or an input is refused: ROOT and the key are good, OUT and LIST go apart, the output ends in time, and the
+-- files are few.
+pub record IsPassed (at : List ℕ → FileState) (request : Request) : Type 0 where
+  pub root : HasRoot request.task
+  pub mixed : ¬ IsMixed request.task
+  pub mode : (mode : Mode) × HasMode at request mode
+  pub apart : GoesApart request
+  pub past : ¬ IsPastOutput request.task
+  pub few : ¬ HasManyFiles request.task
+
+-- it holds if the task is done, and if an encoding or a blob is refused
+abbrev pub IfPassed : Result Unit Fault → Type 0 → Type 0
+IfPassed (Ok done) P = P
+IfPassed (Err fault) P = status_of fault ≡ 1 → P

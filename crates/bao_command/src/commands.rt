@@ -13,16 +13,16 @@ ghost use Rattle.bao_files.specs.declared.fault.FileFault.{FileFault};
 ghost use Rattle.bao_text.specs.declared.kinds.Part.TheVariants as Part;
 ghost use Rattle.bao_decode.specs.Ranges.{IsVerifiedText, part_bytes, written_count};
 ghost use Rattle.bao_decode.specs.declared.decode_fault.DecodeFault.{DecodeFault};
-ghost use Rattle.bao_command.specs.Effects.{Writes, list_of};
+ghost use Rattle.bao_command.specs.Effects.{IsRelisted, Writes, list_of};
 ghost use Rattle.bao_command.specs.Works.{CopiesRight, CutsRight, DecodesRight, EncodesRight, Leaves};
 ghost use Rattle.bao_command.specs.ModeWords.{MixesKeys};
 ghost use Rattle.bao_request.specs.declared.tasks.Request.{Request};
 ghost use Rattle.bao_tasks.specs.declared.rerun_fault.RerunFault.{RerunFault};
-ghost use Rattle.bao_command.specs.Outcome.{AreRefused, Begun, Done, IsEachFor, IsRefusable, IsUsage, LeavesAt};
+ghost use Rattle.bao_command.specs.Outcome.{AreRefused, ArePassed, Begun, Done, IsEachFor, IsRefusable, IsUsage, LeavesAt};
 ghost use Rattle.bao_command.specs.Printed.{CommandPrints, OnPrinted, told_of};
 ghost use Rattle.bao_command.specs.Refused.{IsBlobFor, IsBlobOf, IsRefused, IsRefusedCopy, IsRefusedCut, IsRefusedFor, IsRefusedReplay, IsRefusedText, OfDigits};
 ghost use Rattle.bao_command.specs.Status.{decode_status_of, rerun_status_of, status_of};
-ghost use Rattle.bao_command.specs.Tasks.{Answers, HasBadLine, HasManyFiles, HasRoot, IsCutFrom, IsDue, IsNoCapacity, IsMixed, IsNoOutput, IsOfFile, IsPastOutput, IsReplay, IsRight, IsRightCopy, IsRightPart, LeavesFiles, LeavesFilesOf, ListClashes, ReadsList, ReadsOut, WritesApart, line_of, part_line};
+ghost use Rattle.bao_command.specs.Tasks.{Answers, HasBadLine, HasManyFiles, HasRoot, IfPassed, IsCutFrom, IsDue, IsNoCapacity, IsMixed, IsNoOutput, IsOfFile, IsPassed, IsPastOutput, IsReplay, IsRight, IsRightCopy, IsRightPart, LeavesFiles, LeavesFilesOf, ListClashes, ReadsList, ReadsOut, WritesApart, line_of, part_line};
 
 use crate::fault::Fault;
 use crate::gathering::{MOST_FILES, Paths, gather, grain_of, parts_asked};
@@ -46,36 +46,39 @@ use std::alloc::Global;
 use std::io::Write;
 use std::thread::Threads;
 
-// The capacity of a blob that is gathered, in chunks, where none is given.
+// The default of `--capacity`, in chunks.
 const MOST_CHUNKS: u32 = 65_536;
 
 /// Runs the program on `words`, its name first, over the files on `disk`, with `out` and `err` as its standard output and
-/// error, and answers the exit status: 0 done, 1 a text or a blob that is refused, 2 wrong arguments, 3 a file fault, 4 out of
-/// memory. How far a file that is said to have at least 4 MiB has been read is told to `progress`, which is told that the work
-/// is over before anything is printed.
+/// error, and returns the exit status: 0 success, 1 an encoding or a blob is refused, 2 wrong arguments, 3 a file can't be
+/// read or written, 4 out of memory. While a file that is said to have at least 4 MiB is read, its progress is reported to
+/// `progress`, which learns that the work is over before anything is printed.
 ///
-/// At status 0 `out` has the line of the request that the arguments make. It is of the bytes of its files, or of the gathered
-/// blob: of those that a file is known to have, and else of some bytes, each below 256. OUT has what is written of them, and
-/// nothing else has changed but LIST, which is empty then. Or `out` has, where they ask for it, help or the version, or a
-/// beginning of that where its reader closed the pipe.
+/// At 0, `out` gets the line of the request that the arguments make. It is computed from the bytes of the request's files, or
+/// of the gathered blob: those that a file is known to have, or else some bytes, each below 256. OUT holds what the request
+/// writes, LIST is empty, and no other file has changed. If the arguments ask for help or the version, `out` gets that
+/// instead, or a beginning of it if its reader closed the pipe.
 ///
-/// At 3 `out` has a beginning at most, and after other faults nothing. After each status but 0 all files are as they were, but
-/// LIST; or at 3 and 4 OUT is as at 0, where what came after it failed: LIST, or printing the line. At 2 LIST is as it was, too,
-/// and wherever OUT's name, or LIST's, is one of standard output, or LIST's is OUT's, or one of the two is that of a file that is read;
-/// but OUT may be one of the files that are gathered.
+/// At 3, `out` gets at most a beginning of the line, and after other faults nothing. All files are unchanged after each status
+/// but 0, except LIST. But at 3 and 4 OUT may hold what it does at 0, if what comes after it failed: writing LIST, or printing
+/// the line. LIST is unchanged at 2. If gathering fails with another status, LIST is made anew: it has the ranges that no FILE
+/// has, and is empty if they aren't known; if it can't be written, the status stays, and a line on `err` says so.
 ///
-/// On a disk without faults, where it is known what is at OUT, a gathering has put there at status 0 each blob with ROOT, or
-/// its encoding; or two different inputs with one chaining value are exhibited, one of the blob's and one that is made of a
-/// FILE.
+/// All files are unchanged, too, and the status isn't 0, if OUT or LIST has a name of standard output or of a file that is
+/// read, or both have one name. But OUT may be one of the FILEs that are gathered from.
 ///
-/// Arguments that `clap` refuses give 2, or 4 out of memory. 2 comes only where there is a reason to refuse the arguments, the file
-/// with the key, or the script, as far as the files are known: two names of which it is known what is there lead to one file only where they
-/// are the same. 1 comes only of a task that may refuse a text or a blob: `hash` and the encoders don't.
+/// On a disk without faults where the contents of OUT are known, a gathering has put there at 0 each blob with ROOT, or its
+/// encoding; or two different inputs with one chaining value are exhibited, one from the blob and one made of a FILE.
 ///
-/// Where the files are known, 1 comes of decoding, of cutting a slice out, and of a schedule only where there is such a fault
-/// of these very bytes. It comes of none of them where the file, or the outboard encoding, isn't there. On a disk without
-/// faults it comes of gathering only where no file is true and no several of them have the blob together, each group, or with
-/// `--salvage` each chunk, right in one; or two different inputs with one chaining value are exhibited.
+/// Arguments that `clap` refuses give 2, or 4 if out of memory. 2 comes only if there is a reason to refuse the arguments, the
+/// key file or the script, as far as the files are known: two names with known contents lead to one file only if they are
+/// equal. At 0 and 1 there is no reason to refuse the arguments or the key file. 1 comes only from a task that may refuse an
+/// encoding or a blob, so not from `hash`, `encode`, `outboard` and `slice`.
+///
+/// If the files are known, 1 comes from decoding, from cutting a slice and from a schedule only if these very bytes have such
+/// a fault, and never if the file, or the outboard encoding, doesn't exist. On a disk without faults it comes from gathering only
+/// if no FILE is intact and the FILEs don't have the blob together, each group, or with `--salvage` each chunk, right in one of
+/// them; or two different inputs with one chaining value are exhibited.
 pub fn command<R: AllocGlobal + Threads + Sync, D: Disk, O: Write, E: Write, P: Progress + Sync>(
     rt: &R,
     disk: &mut D,
@@ -93,6 +96,8 @@ pub fn command<R: AllocGlobal + Threads + Sync, D: Disk, O: Write, E: Write, P: 
     ensures usage { result ≡ 2 → IsUsage (map string_bytes words.now) (D.at disk.old) }
     ensures blob { result ≡ 0 → IsEachFor (map string_bytes words.now) (D.faultless disk.old) (D.at disk.old) (D.at disk.new) (O.contents out.old) (O.contents out.new) }
     ensures refusal { result ≡ 1 → IsRefusable (map string_bytes words.now) (D.faultless disk.old) (D.at disk.old) }
+    ensures passed { result ≡ 0 → ArePassed (map string_bytes words.now) (D.at disk.old) }
+    ensures judged { result ≡ 1 → ArePassed (map string_bytes words.now) (D.at disk.old) }
 {
     match parse(rt.alloc(), words) {
         Ok(request) => match serve(rt, disk, &request, out, err, progress) {
@@ -106,7 +111,7 @@ pub fn command<R: AllocGlobal + Threads + Sync, D: Disk, O: Write, E: Write, P: 
     }
 }
 
-// Does what the request asks for. What is told beside its line goes to `err`.
+// Does what the request asks for. What `--verbose` reports goes to `err`.
 fn serve<'a, R: AllocGlobal + Threads + Sync, D: Disk, O: Write, E: Write, P: Progress + Sync>(
     rt: &R,
     disk: &mut D,
@@ -126,6 +131,8 @@ fn serve<'a, R: AllocGlobal + Threads + Sync, D: Disk, O: Write, E: Write, P: Pr
     ensures read { ReadsList request.now → IsErr result }
     ensures out { ReadsOut request.now → IsErr result }
     ensures due { IfErr result (IsDue (D.at disk.old) request.now) }
+    ensures listed { IfErr result (IsRelisted (D.at disk.old) (D.at disk.new) (list_of request.now.task)) }
+    ensures passed { IfPassed result (IsPassed (D.at disk.old) request.now) }
 {
     check_root(&request.task)?;
     check_long(&request.task)?;
@@ -139,7 +146,7 @@ fn serve<'a, R: AllocGlobal + Threads + Sync, D: Disk, O: Write, E: Write, P: Pr
     }
 }
 
-// The answer of printing, as a fault of the program.
+// The result of printing, with the program's fault.
 pub(crate) fn told<'a>(printed: Result<(), FileFault<'a>>) -> Result<(), Fault<'a>>
     ensures prints { result ≡ told_of printed.entry }
     ensures file { IfErr result IsOfFile }
@@ -150,7 +157,7 @@ pub(crate) fn told<'a>(printed: Result<(), FileFault<'a>>) -> Result<(), Fault<'
     }
 }
 
-// The root that the digits give.
+// The root with these hexadecimal digits.
 pub(crate) fn root_of<'a>(digits: &str) -> Result<Hash, Fault<'a>>
     ensures ok { IfOk result (λ root. decode_of digits.now ≡ Ok root.0) }
     ensures err { IfErr result (λ fault. (fault ≡ Fault.Root) × ¬ IsDigits digits.now) }
@@ -161,7 +168,7 @@ pub(crate) fn root_of<'a>(digits: &str) -> Result<Hash, Fault<'a>>
     }
 }
 
-// Prints output of the file.
+// Prints bytes of the file's extended output.
 fn hash<'a, R: AllocGlobal + Threads + Sync, D: Disk, O: Write, P: Progress + Sync>(
     rt: &R,
     disk: &D,
@@ -176,6 +183,7 @@ fn hash<'a, R: AllocGlobal + Threads + Sync, D: Disk, O: Write, P: Progress + Sy
         × CommandPrints (digits_line (stream mode.now bytes at len)) (O.contents out.old) (O.contents out.new) result }
     ensures due { IfErr result (λ fault. IsOfFile fault ⊎ ((fault ≡ Fault.OutputRange) × ¬ (at + len ≤ 2 ^ 64 - 1))) }
     ensures refused { IfErr result (λ fault. status_of fault ≢ 1) }
+    ensures fits { OnOk result (at + len ≤ 2 ^ 64 - 1) }
 {
     if !xof_fits(at, u64::from(len)) {
         return Err(Fault::OutputRange);
@@ -205,7 +213,7 @@ fn encode<'a, R: AllocGlobal + Threads + Sync, D: Disk, O: Write, P: Progress + 
     }
 }
 
-// Cuts the slice out of the file, a plain copy where an outboard encoding is named.
+// Cuts the slice out of the file, which is a plain copy if an outboard encoding is named.
 fn slice_of<'a, D: Disk>(
     alloc: Global,
     disk: &mut D,
@@ -230,7 +238,7 @@ fn slice_of<'a, D: Disk>(
     }
 }
 
-// Cuts a slice out, and prints how many bytes of its range the blob has. It says where it is asked what is at fault where the slice is refused.
+// Cuts a slice out, and prints how many bytes of its range the blob has. With `verbose`, reports what is damaged if the slice is refused.
 fn cut_slice<'a, D: Disk, O: Write, E: Write>(
     alloc: Global,
     disk: &mut D,
@@ -266,7 +274,7 @@ fn cut_slice<'a, D: Disk, O: Write, E: Write>(
     }
 }
 
-// Decodes the file, and prints how many bytes were written. It says where it is asked at which place the file is refused.
+// Decodes the file, and prints how many bytes were written. With `verbose`, reports where the file is damaged if it is refused.
 fn decode<'a, D: Disk, O: Write, E: Write, P: Progress>(
     alloc: Global,
     disk: &mut D,
@@ -299,8 +307,8 @@ fn decode<'a, D: Disk, O: Write, E: Write, P: Progress>(
     }
 }
 
-// Verifies the plain copy beside the outboard encoding, and prints how many bytes were written. It says where it is asked which
-// of the two is refused, and at which place.
+// Checks the plain copy beside the outboard encoding, and prints how many bytes were written. With `verbose`, reports which of the
+// two is refused, and where.
 fn decode_beside<'a, D: Disk, O: Write, E: Write, P: Progress>(
     alloc: Global,
     disk: &mut D,
@@ -364,7 +372,7 @@ fn replay<'a, D: Disk, O: Write>(
     }
 }
 
-// Does the task on the files' bytes.
+// Does the task. OUT and LIST have been checked.
 fn serve_task<'a, R: AllocGlobal + Threads + Sync, D: Disk, O: Write, E: Write, P: Progress + Sync>(
     rt: &R,
     disk: &mut D,
@@ -381,6 +389,8 @@ fn serve_task<'a, R: AllocGlobal + Threads + Sync, D: Disk, O: Write, E: Write, 
     ensures refused { IfErr result (λ fault. status_of fault ≡ 1 → IsRefused (D.faultless disk.old) (D.at disk.old) mode.now task.now) }
     ensures blob { OnOk result (IsBlobOf (D.faultless disk.old) (D.at disk.old) (D.at disk.new) mode.now task.now (O.contents out.old) (O.contents out.new)) }
     ensures due { IfErr result (λ fault. (request : Request) → request.task ≡ task.now → IsDue (D.at disk.old) request fault) }
+    ensures listed { IfErr result (IsRelisted (D.at disk.old) (D.at disk.new) (list_of task.now)) }
+    ensures passed { IfPassed result ((¬ IsPastOutput task.now) × ¬ HasManyFiles task.now) }
 {
     let alloc = rt.alloc();
     match task {
@@ -461,7 +471,7 @@ fn serve_task<'a, R: AllocGlobal + Threads + Sync, D: Disk, O: Write, E: Write, 
     }
 }
 
-// A root that is no text of 64 hexadecimal digits is the first fault.
+// Checks ROOT, before anything else.
 fn check_root<'a>(task: &Task<'a>) -> Result<(), Fault<'a>>
     ensures ok { OnOk result (HasRoot task.now) }
     ensures err { IfErr result (λ fault. (fault ≡ Fault.Root) × ¬ HasRoot task.now) }
@@ -478,8 +488,7 @@ fn check_root<'a>(task: &Task<'a>) -> Result<(), Fault<'a>>
     }
 }
 
-// A blob of any length goes without a capacity and without its encoding. The default capacity is let in, since `clap` doesn't tell a default
-// from an argument.
+// Refuses `--long` with `--capacity` or `--encode`. The default capacity is allowed, since `clap` doesn't tell it from an argument.
 fn check_long<'a>(task: &Task<'a>) -> Result<(), Fault<'a>>
     ensures ok { OnOk result (¬ IsMixed task.now) }
     ensures err { IfErr result (λ fault. (fault ≡ Fault.LongAndOthers) × IsMixed task.now) }
@@ -495,7 +504,7 @@ fn check_long<'a>(task: &Task<'a>) -> Result<(), Fault<'a>>
     }
 }
 
-// Whether the path is a name of standard output.
+// Whether the path is one of standard output's names.
 pub(crate) fn is_output(path: &str) -> bool
     ensures yes { result ≡ true → ¬ IsNoOutput path.now }
     ensures no { result ≡ false → IsNoOutput path.now }
@@ -503,7 +512,7 @@ pub(crate) fn is_output(path: &str) -> bool
     matches!(path, "-" | "/dev/stdout" | "/dev/fd/1" | "/proc/self/fd/1")
 }
 
-// Whether what the task writes to a file goes elsewhere than its line.
+// Whether OUT, if there is one, isn't a name of standard output, where the line goes.
 fn writes_apart(task: &Task<'_>) -> bool
     ensures yes { result ≡ true → WritesApart task.now }
     ensures no { result ≡ false → ¬ WritesApart task.now }
@@ -516,7 +525,7 @@ fn writes_apart(task: &Task<'_>) -> bool
     !is_output(path)
 }
 
-// Prints what `clap` has to say: help and the version on `out`, whose reader may have read enough, a refusal on `err`.
+// Prints `clap`'s message: help and the version on `out`, whose reader may close the pipe early, a refusal on `err`.
 fn answer_clap<O: Write, E: Write>(
     alloc: Global,
     error: &clap::Error,

@@ -11,65 +11,69 @@ use gather::GatherFault;
 use std::io::Write;
 use thiserror::Error;
 
-/// Why a command ended without its result. What is printed is `bao_gather: `, the text below and a
-/// line end.
+/// Why a command failed. What is printed is `bao_gather: `, the text below and a line end.
 #[derive(Clone, Copy, Debug, Error)]
 pub enum Fault<'a> {
     /// An argument is not UTF-8. Status 2.
     #[error("usage: a word is not UTF-8")]
     Word,
-    /// ROOT is no text of 64 hexadecimal digits. Status 2.
+    /// ROOT isn't 64 hexadecimal digits. Status 2.
     #[error("usage: root is not 64 hexadecimal digits")]
     Root,
-    /// `--key` is no text of 64 hexadecimal digits. Status 2.
+    /// `--key` isn't 64 hexadecimal digits. Status 2.
     #[error("usage: key is not 64 hexadecimal digits")]
     Key,
-    /// Both `--key` and `--context` are given. Status 2.
+    /// `--key` and `--context` are both given. Status 2.
     #[error("usage: key and context exclude each other")]
     KeyAndContext,
-    /// The file of `--key-file` has no 64 hexadecimal digits, or more beside them than a line end. Status 2.
+    /// The file of `--key-file` has anything but 64 hexadecimal digits and at most one line feed. Status 2.
     #[error("usage: key file is not 64 hexadecimal digits")]
     KeyFile,
-    /// `--key-file` is given, and `--key` or `--context` with it. Status 2.
+    /// `--key-file` is given with `--key` or `--context`. Status 2.
     #[error("usage: key file excludes key and context")]
     KeyFileAndOthers,
-    /// The bytes of output that are asked for end after 2^64 - 1. Status 2.
+    /// The bytes of output would end beyond byte 2^64 - 1. Status 2.
     #[error("usage: output range too large")]
     OutputRange,
     /// More than 64 files are given. Status 2.
     #[error("usage: too many files")]
     TooManyFiles,
-    /// OUT is a name of standard output, where the line with the hash or with `ok` goes. Status 2.
+    /// OUT is a name of standard output, where the line with the hash or `ok` goes. Status 2.
     #[error("usage: OUT is standard output")]
     OutIsOutput,
-    /// OUT leads to the file that standard output is open on, by another name. Status 2.
+    /// OUT leads to standard output by another name. Status 2.
     #[error("usage: OUT leads to standard output")]
     OutLeadsToOutput,
-    /// OUT leads to a file that is read, which isn't one of those that are gathered. Status 2.
+    /// OUT leads to a file that is read, except one of the FILEs of `gather`. Status 2.
     #[error("usage: OUT is a file that is read")]
     OutIsRead,
-    /// `--long` is given, and `--encode` or a `--capacity` other than 65536 with it. Status 2.
+    /// `--long` is given with `--encode`, or with a `--capacity` other than 65536. Status 2.
     #[error("usage: long excludes capacity and encode")]
     LongAndOthers,
-    /// LIST, the file of `--missing`, has the name of OUT, or is a name of standard output. Status 2.
+    /// LIST, the file of `--missing`, has OUT's name, or one of standard output's. Status 2.
     #[error("usage: LIST is OUT or standard output")]
     ListIsOut,
-    /// LIST has the name of a file that is read: of one of the files, of the outboard encoding, or of the key. Status 2.
+    /// LIST has the name of a file that is read: a FILE, the outboard encoding or the key file. Status 2.
     #[error("usage: LIST is a file that is read")]
     ListIsRead,
     /// LIST leads to OUT, to standard output or to a file that is read, by another name. Status 2.
     #[error("usage: LIST leads to another file of the command")]
     ListLeadsToOther,
-    /// A file or standard output was not read or written. Status 3, and 4 out of memory.
+    /// A file or standard output can't be read or written. Status 3, and 4 if out of memory.
     #[error("{0}")]
     File(FileFault<'a>),
-    /// A text was not decoded. Status 1, 3 for a file, and 4 out of memory.
+    /// An encoding or a plain copy wasn't decoded. Status 1 if it is refused, 3 for a file, and 4 if out of memory.
     #[error("{0}")]
     Decode(DecodeFault<'a>),
-    /// A blob was not gathered. Status 1, 3 for a file, and 4 out of memory.
-    #[error("{0}")]
-    Gather(GatheredFault<'a>),
-    /// A schedule was not run to its end. Status 1, 2 for a line without a form, 3 for a file, and 4 out of memory.
+    /// The blob wasn't gathered, for this fault. Status 1 if it isn't in the files, 2 for a capacity out of
+    /// range, 3 for a file, and 4 if out of memory. `unlisted` is why LIST couldn't be written, if it couldn't.
+    #[error("{fault}")]
+    Gather {
+        fault: GatheredFault<'a>,
+        unlisted: Option<FileFault<'a>>,
+    },
+    /// A schedule wasn't run to its end. Status 1 if a slice or a step is refused, 2 for a line with no valid form or a
+    /// capacity out of range, 3 for a file, and 4 if out of memory.
     #[error("{0}")]
     Replay(RerunFault<'a>),
 }
@@ -84,7 +88,7 @@ fn file_status(fault: FileFault<'_>) -> u8
     }
 }
 
-// The exit status of a text's fault.
+// The exit status of a check's fault.
 fn check_status(fault: CheckFault) -> u8
     ensures { result ≡ check_status_of fault }
 {
@@ -95,7 +99,7 @@ fn check_status(fault: CheckFault) -> u8
     }
 }
 
-// The exit status of a fault of decoding.
+// The exit status of a decoding fault.
 fn decode_status(fault: DecodeFault<'_>) -> u8
     ensures { result ≡ decode_status_of fault.entry }
 {
@@ -105,7 +109,7 @@ fn decode_status(fault: DecodeFault<'_>) -> u8
     }
 }
 
-// The exit status of a fault of workers.
+// The exit status of a fault of the workers.
 fn gather_status(fault: GatherFault) -> u8
     ensures { result ≡ gather_status_of fault }
 {
@@ -117,8 +121,8 @@ fn gather_status(fault: GatherFault) -> u8
     }
 }
 
-// The exit status of a fault of gathering.
-fn gathered_status(fault: GatheredFault<'_>) -> u8
+// The exit status of a gathering fault.
+pub(crate) fn gathered_status(fault: GatheredFault<'_>) -> u8
     ensures { result ≡ gathered_status_of fault.entry }
 {
     match fault {
@@ -128,7 +132,7 @@ fn gathered_status(fault: GatheredFault<'_>) -> u8
     }
 }
 
-// The exit status of a fault of a schedule's run.
+// The exit status of a fault in running a schedule.
 fn replay_status(fault: ReplayScriptFault) -> u8
     ensures { result ≡ replay_status_of fault }
 {
@@ -152,7 +156,7 @@ fn rerun_status(fault: RerunFault<'_>) -> u8
 }
 
 impl Fault<'_> {
-    /// The exit status.
+    /// Returns the exit status.
     pub fn status(self) -> u8
         ensures { result ≡ status_of self.entry }
     {
@@ -174,12 +178,12 @@ impl Fault<'_> {
             | Fault::ListLeadsToOther => 2,
             Fault::File(fault) => file_status(fault),
             Fault::Decode(fault) => decode_status(fault),
-            Fault::Gather(fault) => gathered_status(fault),
+            Fault::Gather { fault, .. } => gathered_status(fault),
             Fault::Replay(fault) => rerun_status(fault),
         }
     }
 
-    /// The fault's number, where its text has one.
+    /// Returns the number that the fault's text begins with, if it has one.
     pub fn code(&self) -> Option<u16>
         ensures { result ≡ number_of self.now }
     {
@@ -201,12 +205,12 @@ impl Fault<'_> {
             | Fault::ListLeadsToOther => None,
             Fault::File(fault) => fault.code(),
             Fault::Decode(fault) => fault.code(),
-            Fault::Gather(fault) => fault.code(),
+            Fault::Gather { fault, .. } => fault.code(),
             Fault::Replay(fault) => fault.code(),
         }
     }
 
-    /// Prints the fault on `err`, where a write that fails changes nothing, and answers its status.
+    /// Prints the fault on `err`, ignoring a write that fails, and returns its status.
     pub fn report<E: Write>(self, err: &mut E) -> u8
         ensures { result ≡ status_of self.entry }
     {

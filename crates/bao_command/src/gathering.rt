@@ -1,26 +1,24 @@
-// Gathering, as the program does it: what it tells beside its line, and the list of what is missing.
+// Gathering: what the program reports beside its line, and the list of what is missing.
 
-ghost use Rattle.std.specs.Prelude.{◌≡◌, ◌⊎◌, ⊤, if◌then◌else◌, ◌-◌, ◌<◌, ◌≤◌, ℕ, List, [], length, take, IfErr, IsErrAnd, OnErr, OnOk};
+ghost use Rattle.std.specs.Prelude.{◌≡◌, ◌≢◌, ◌⊎◌, ⊤, if◌then◌else◌, ◌-◌, ◌<◌, ◌≤◌, ℕ, List, Option, [], None, length, take, IfErr, IsErrAnd, OnErr, OnOk};
 ghost use Rattle.bao_command.specs.declared.fault.Fault.TheVariants as Fault;
 ghost use Rattle.gather.specs.declared.grain.Grain.TheVariants as Grain;
 ghost use Rattle.std.specs.Io.KnownBytes.{Appends};
 ghost use Rattle.bao_files.specs.Disks.{KeepsFiles};
 ghost use Rattle.bao_files.specs.Printed.{IsDigits, IsQuiet, ok_line};
 ghost use Rattle.bao_files.specs.declared.fault.FileFault.{FileFault};
-ghost use Rattle.bao_command.specs.Effects.{Lists};
+ghost use Rattle.bao_command.specs.Effects.{IsRelisted, Lists, parts_in};
 ghost use Rattle.bao_tasks.specs.Listed.{lines_of_parts};
-ghost use Rattle.bao_tasks.specs.declared.missing.Lack.TheVariants as Lack;
-ghost use Rattle.bao_tasks.specs.declared.missing.MissingParts.{MissingParts};
 ghost use Rattle.bao_command.specs.Printed.{CommandPrints, OnPrinted};
 ghost use Rattle.bao_command.specs.Refused.{IsEachBlob, IsRefusedGathering, OfRoot};
 ghost use Rattle.bao_command.specs.Status.{gathered_status_of, status_of};
 ghost use Rattle.bao_command.specs.Tasks.{IsBeside, IsNoCapacity, IsOfFile};
 ghost use Rattle.bao_tasks.specs.declared.gathered_fault.GatheredFault.{GatheredFault};
-ghost use Rattle.bao_command.specs.ReportLines.{part_line as missing_line, parts_line, unlooked_line, worth_line};
+ghost use Rattle.bao_command.specs.ReportLines.{claimed_line, part_line as missing_line, parts_line, unlooked_line, worth_line};
 ghost use Rattle.bao_command.specs.Works.{GathersRight, LeavesGathered};
 
 use crate::commands::{root_of, told};
-use crate::fault::Fault;
+use crate::fault::{Fault, gathered_status};
 use crate::refused::{is_no_encoding, tell_no_encoding, tell_outboard};
 use crate::unread::tell_left_out;
 use b3tree::Mode;
@@ -37,10 +35,10 @@ use std::thread::Threads;
 // The most files that a task takes.
 pub(crate) const MOST_FILES: usize = 64;
 
-// The most parts of what is missing that are told one by one.
+// The most missing ranges that are printed.
 const MOST_SHOWN: usize = 8;
 
-// Says what a file is worth.
+// Prints how many groups of a file are refused.
 fn tell_worth<W: Write>(file: &str, worth: Worth, out: &mut W) -> io::Result<()>
     ensures { OnOk result (Appends (W.contents out.old) (W.contents out.new) (worth_line file.now worth)) }
 {
@@ -51,7 +49,8 @@ fn tell_worth<W: Write>(file: &str, worth: Worth, out: &mut W) -> io::Result<()>
     )
 }
 
-// Says why a file was left out, or what it is worth, or that there was no memory to count that. Beside an outboard encoding it is a plain copy.
+// Prints why a file was left out, or how many of its groups are refused, or that there was no memory to count them. With an outboard encoding the file
+// is a plain copy.
 fn tell_fate<D: Disk, E: Write>(
     disk: &D,
     is_beside: bool,
@@ -71,14 +70,14 @@ fn tell_fate<D: Disk, E: Write>(
     }
 }
 
-// The number of the last byte of a part.
+// The offset of the last byte of a range.
 pub(crate) fn last_of(part: Span) -> u64
     ensures { result ≡ part.end - 1 }
 {
     part.end.saturating_sub(1)
 }
 
-// Says which bytes of the blob no file has.
+// Prints a range that no file has.
 fn tell_part<W: Write>(part: Span, out: &mut W) -> io::Result<()>
     ensures { OnOk result (Appends (W.contents out.old) (W.contents out.new) (missing_line part)) }
 {
@@ -86,18 +85,29 @@ fn tell_part<W: Write>(part: Span, out: &mut W) -> io::Result<()>
     writeln!(out, "bao_gather: missing: bytes {first} to {last}")
 }
 
-// Says how many they are, of how many, and in how many parts.
+// Prints how many bytes no file has, of how many, and in how many ranges.
 fn tell_parts<W: Write>(parts: &MissingParts, out: &mut W) -> io::Result<()>
     ensures { OnOk result (Appends (W.contents out.old) (W.contents out.new) (parts_line parts.now)) }
 {
     let (bytes, looked, count) = (parts.bytes, parts.looked, parts.count);
     writeln!(
         out,
-        "bao_gather: missing: {bytes} of {looked} bytes, parts: {count}"
+        "bao_gather: missing: {bytes} of {looked} bytes, ranges: {count}"
     )
 }
 
-// Says which bytes of the blob were not looked for.
+// Prints the length that is claimed, where no file certifies it.
+fn tell_claimed<W: Write>(parts: &MissingParts, out: &mut W) -> io::Result<()>
+    ensures { OnOk result (Appends (W.contents out.old) (W.contents out.new) (claimed_line parts.now)) }
+{
+    let total = parts.total;
+    writeln!(
+        out,
+        "bao_gather: missing: the length isn't certified yet: {total} bytes are claimed"
+    )
+}
+
+// Prints which bytes of the blob were not looked for.
 fn tell_unlooked<W: Write>(parts: &MissingParts, out: &mut W) -> io::Result<()>
     ensures { OnOk result (Appends (W.contents out.old) (W.contents out.new) (unlooked_line parts.now)) }
 {
@@ -108,14 +118,14 @@ fn tell_unlooked<W: Write>(parts: &MissingParts, out: &mut W) -> io::Result<()>
     )
 }
 
-// The parts that are told one by one.
+// The ranges that are printed.
 fn first_of(parts: &[Span]) -> &[Span]
     ensures { result.now ≡ take 8 parts.now }
 {
     &parts[..parts.len().min(MOST_SHOWN)]
 }
 
-// Whether there are files that were counted, and all groups of each of them are refused.
+// Whether some files were counted, and every group of each of them is refused.
 fn fits_none(fates: &[Fate]) -> bool {
     let mut some = false;
     for fate in fates {
@@ -128,22 +138,23 @@ fn fits_none(fates: &[Fate]) -> bool {
     some
 }
 
-// Says that no file has the end of the blob, and where none fits the root at all what that may come of. With `--salvage` chunks of refused groups may fit.
+// Prints that no file has the end of the blob, and, if nothing at all fits the root, what may be the cause. With `--salvage`, chunks of refused groups may
+// fit.
 fn tell_no_end<E: Write>(grain: Grain, fates: &[Fate], err: &mut E) -> io::Result<()> {
     writeln!(
         Once(err),
-        "bao_gather: missing: the end, so that the length isn't known"
+        "bao_gather: missing: the end of the blob, so its length isn't known"
     )?;
     if matches!(grain, Grain::Chunk) || !fits_none(fates) {
         return Ok(());
     }
     writeln!(
         Once(err),
-        "bao_gather: nothing fits ROOT: look at ROOT, the key and --context; plain copies go with --outboard, encodings without"
+        "bao_gather: nothing fits ROOT: check ROOT, the key and --context; plain copies need --outboard, encodings don't"
     )
 }
 
-// Says what no file has of a blob that stayed unfinished.
+// Prints what no file has of a blob that stayed unfinished.
 fn tell_lack<E: Write>(grain: Grain, notes: &Notes, err: &mut E) -> io::Result<()> {
     match &notes.lack {
         Lack::Unasked => Ok(()),
@@ -152,7 +163,7 @@ fn tell_lack<E: Write>(grain: Grain, notes: &Notes, err: &mut E) -> io::Result<(
         Lack::Missing(parts) if parts.count == 0 && parts.looked == parts.total => {
             writeln!(
                 Once(err),
-                "bao_gather: missing: nothing at a second look: a read failed before"
+                "bao_gather: missing: nothing at a second look: an earlier read failed"
             )
         }
         Lack::Missing(parts) => {
@@ -160,6 +171,9 @@ fn tell_lack<E: Write>(grain: Grain, notes: &Notes, err: &mut E) -> io::Result<(
                 tell_part(*part, &mut Once(err))?;
             }
             tell_parts(parts, &mut Once(err))?;
+            if !parts.certified {
+                tell_claimed(parts, &mut Once(err))?;
+            }
             if parts.looked < parts.total {
                 tell_unlooked(parts, &mut Once(err))?;
             }
@@ -168,7 +182,7 @@ fn tell_lack<E: Write>(grain: Grain, notes: &Notes, err: &mut E) -> io::Result<(
     }
 }
 
-// Says so of each file, and what none of them has. A write that fails is the last, and changes nothing.
+// Prints what is wrong with each file, and what none of them has. Stops at the first write that fails, which has no other effect.
 fn tell_files<D: Disk, E: Write>(
     disk: &D,
     how: Gathering,
@@ -185,7 +199,7 @@ fn tell_files<D: Disk, E: Write>(
     let _ = tell_lack(how.grain, notes, err);
 }
 
-// Says, where that is asked, what came of the files: of the outboard encoding where that was refused, so that none was opened, or of each.
+// With `--verbose`, prints what is wrong with the files: with the outboard encoding if it was refused, since no other file was opened then, or with each.
 fn tell<D: Disk, E: Write>(
     disk: &D,
     how: Gathering,
@@ -213,7 +227,7 @@ fn tell<D: Disk, E: Write>(
     }
 }
 
-// The files that a gathering names beside those that it gathers from.
+// The paths of a gathering, but for the files that it gathers from.
 #[derive(Clone, Copy)]
 pub(crate) struct Paths<'a> {
     pub(crate) out: &'a str,
@@ -221,14 +235,14 @@ pub(crate) struct Paths<'a> {
     pub(crate) list: Option<&'a str>,
 }
 
-// The smallest part that the files are asked for.
+// The smallest unit that the files are asked for.
 pub(crate) fn grain_of(salvage: bool) -> Grain
     ensures { result ≡ (if salvage then Grain.Chunk else Grain.Group) }
 {
     if salvage { Grain::Chunk } else { Grain::Group }
 }
 
-// How many parts of what is missing are asked for: all for the list, the first for what is told, or none.
+// How many of the missing ranges are wanted: all for the list, the first ones for `--verbose`, or none.
 pub(crate) fn parts_asked(verbose: bool, list: Option<&str>) -> usize {
     match (verbose, list) {
         (_, Some(_)) => usize::MAX,
@@ -237,7 +251,7 @@ pub(crate) fn parts_asked(verbose: bool, list: Option<&str>) -> usize {
     }
 }
 
-// Makes the list empty, where there is one: nothing is missing. A link may have led it to OUT, which is there now: then it can't be written.
+// Empties the list, if there is one: nothing is missing. A link that led nowhere may lead to OUT now; the list then can't be written.
 fn list_nothing<'a, D: Disk>(disk: &mut D, paths: Paths<'a>) -> Result<(), Fault<'a>>
     ensures lists { OnOk result (Lists (D.at disk.old) (D.at disk.new) paths.entry.list []) }
     ensures kept { OnErr result (KeepsFiles (D.at disk.old) (D.at disk.new)) }
@@ -255,31 +269,58 @@ fn list_nothing<'a, D: Disk>(disk: &mut D, paths: Paths<'a>) -> Result<(), Fault
     }
 }
 
-// Writes what no file has to the list, where there is one and that is known. It says why not, where it doesn't: what gathering met stands.
-fn list_lack<D: Disk, E: Write>(disk: &mut D, list: Option<&str>, lack: &Lack, err: &mut E)
-    ensures { KeepsFiles (D.at disk.old) (D.at disk.new)
-        ⊎ ((parts : MissingParts) × (lack.now ≡ Lack.Missing parts) × Lists (D.at disk.old) (D.at disk.new) list.entry (lines_of_parts parts.shown.items)) }
+// The ranges that are known to be missing: none, if they were not looked for or the length isn't known.
+fn known_parts(lack: &Lack) -> &[Span]
+    ensures { result.now ≡ parts_in lack.now }
+{
+    match lack {
+        Lack::Missing(parts) => parts.shown.as_slice(),
+        Lack::Unasked | Lack::Starved | Lack::End => &[],
+    }
+}
+
+// Writes the ranges that are known to be missing to the list, if there is one, and prints why if it can't: the fault, which is returned.
+fn list_lack<'a, D: Disk, E: Write>(
+    disk: &mut D,
+    list: Option<&'a str>,
+    lack: &Lack,
+    err: &mut E,
+) -> Option<FileFault<'a>>
+    ensures lists { result ≡ None → Lists (D.at disk.old) (D.at disk.new) list.entry (lines_of_parts (parts_in lack.now)) }
+    ensures kept { KeepsFiles (D.at disk.old) (D.at disk.new) ⊎ Lists (D.at disk.old) (D.at disk.new) list.entry (lines_of_parts (parts_in lack.now)) }
 {
     let Some(path) = list else {
-        return;
+        return None;
     };
-    let Lack::Missing(parts) = lack else {
-        let _ = writeln!(
-            Once(err),
-            "bao_gather: {path}: left as it is: what is missing isn't known"
-        );
-        return;
-    };
-    match list_parts(disk, parts.shown.as_slice(), path) {
-        Ok(()) => {}
+    match list_parts(disk, known_parts(lack), path) {
+        Ok(()) => None,
         Err(fault) => {
             let _ = writeln!(Once(err), "bao_gather: {path}: left as it is: {fault}");
+            Some(fault)
         }
     }
 }
 
-// Gathers the blob out of the files, which are plain copies where an outboard encoding is named. It says where it is
-// asked what each of them is worth, lists where it is asked what none of them has, and prints how many bytes the blob has.
+// The same after a fault. Wrong arguments leave the list as it is.
+fn relist<'a, D: Disk, E: Write>(
+    disk: &mut D,
+    list: Option<&'a str>,
+    lack: &Lack,
+    fault: GatheredFault<'_>,
+    err: &mut E,
+) -> Option<FileFault<'a>>
+    ensures usage { gathered_status_of fault.entry ≡ 2 → KeepsFiles (D.at disk.old) (D.at disk.new) }
+    ensures lists { gathered_status_of fault.entry ≢ 2 → result ≡ None → Lists (D.at disk.old) (D.at disk.new) list.entry (lines_of_parts (parts_in lack.now)) }
+    ensures kept { KeepsFiles (D.at disk.old) (D.at disk.new) ⊎ Lists (D.at disk.old) (D.at disk.new) list.entry (lines_of_parts (parts_in lack.now)) }
+{
+    if gathered_status(fault) == 2 {
+        return None;
+    }
+    list_lack(disk, list, lack, err)
+}
+
+// Gathers the blob from the files, which are plain copies if an outboard encoding is named, and prints the blob's length. With `--verbose`, prints what is
+// wrong with each of them. Makes the list of what none of them has anew, unless the arguments are wrong.
 pub(crate) fn gather<
     'a,
     R: AllocGlobal + Threads + Sync,
@@ -307,17 +348,23 @@ pub(crate) fn gather<
     ensures blob { OnOk result (OfRoot digits.now (IsEachBlob (D.faultless disk.old) (D.at disk.old) (D.at disk.new) mode.now how.encode how.capacity paths.entry.outboard files.now paths.entry.out.now
         paths.entry.list (O.contents out.old) (O.contents out.new))) }
     ensures usage { IfErr result (λ fault. status_of fault ≡ 2 → KeepsFiles (D.at disk.old) (D.at disk.new)) }
+    ensures listed { IfErr result (IsRelisted (D.at disk.old) (D.at disk.new) paths.entry.list) }
     ensures few { OnPrinted result (length files.now ≤ 64) }
     ensures many { 64 < length files.now → IsErrAnd result (λ fault. fault ≡ Fault.TooManyFiles) }
     ensures due { IfErr result (λ fault. IsOfFile fault ⊎ ((fault ≡ Fault.Root) × ¬ IsDigits digits.now) ⊎ ((fault ≡ Fault.TooManyFiles) × (64 < length files.now))
-        ⊎ ((cause : GatheredFault) × (fault ≡ Fault.Gather cause) × (gathered_status_of cause ≡ 2 → IsNoCapacity how.capacity))) }
+        ⊎ ((cause : GatheredFault) × (unlisted : Option FileFault) × (fault ≡ Fault.Gather cause unlisted) × (gathered_status_of cause ≡ 2 → IsNoCapacity how.capacity))) }
 {
     if files.len() > MOST_FILES {
         return Err(Fault::TooManyFiles);
     }
     let root = root_of(digits)?;
     let Ok(mut notes) = Notes::new(rt.alloc(), files.len()) else {
-        return Err(Fault::File(FileFault::Memory));
+        let fault = GatheredFault::File(FileFault::Memory);
+        let left = relist(disk, paths.list, &Lack::Unasked, fault, err);
+        return Err(Fault::Gather {
+            fault,
+            unlisted: left,
+        });
     };
     let kept = &mut notes;
     let gathered = match paths.outboard {
@@ -338,8 +385,8 @@ pub(crate) fn gather<
             told(print_count(rt.alloc(), count, out))
         }
         Err(fault) => {
-            list_lack(disk, paths.list, &notes.lack, err);
-            Err(Fault::Gather(fault))
+            let unlisted = relist(disk, paths.list, &notes.lack, fault, err);
+            Err(Fault::Gather { fault, unlisted })
         }
     }
 }

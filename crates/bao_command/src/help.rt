@@ -7,8 +7,7 @@ use bao_files::FileFault;
 use std::io;
 use std::io::{ErrorKind, Write};
 
-// Writes all of `text`, by as many writes as it takes. The first that answers a fault, of whatever kind, or takes no byte is
-// the last, and its fault is answered as it came.
+// Writes all of `text`. Stops at the first write that fails, for whatever reason, or takes no byte, and returns its error.
 fn write_once<W: Write>(text: &[u8], out: &mut W) -> io::Result<()>
     ensures { OnOk result (Appends (W.contents out.old) (W.contents out.new) text.now) }
 {
@@ -23,13 +22,13 @@ fn write_once<W: Write>(text: &[u8], out: &mut W) -> io::Result<()>
     Ok(())
 }
 
-/// Writes help or the version, and has it flushed. A fault is answered as it came.
+// Writes and flushes help or the version. Returns the first error.
 pub(crate) fn show<W: Write>(text: &[u8], out: &mut W) -> io::Result<()> {
     write_once(text, out)?;
     out.flush()
 }
 
-/// The status of help that was shown so: a reader that has read enough, and closed the pipe, is no fault.
+// The exit status then. It is no fault if the reader has closed the pipe.
 pub(crate) fn shown_status<E: Write>(shown: io::Result<()>, err: &mut E) -> u8
     ensures done { result ≡ 0 ↔ IsShown shown }
     ensures fault { result ≢ 0 → result ≡ 3 }

@@ -1,4 +1,4 @@
-// Where the list of what is missing goes: not to another file of the command, by its name.
+// Checks by names that LIST, the file of `--missing`, is no other file of the command.
 
 ghost use Rattle.std.specs.Prelude.{◌≡◌, ◌⊎◌, IfErr, OnOk, true, false};
 ghost use Rattle.bao_command.specs.declared.fault.Fault.TheVariants as Fault;
@@ -8,7 +8,7 @@ use crate::commands::is_output;
 use crate::fault::Fault;
 use bao_request::{Request, Task};
 
-// Whether the list goes to the file of OUT, by its name, or to standard output.
+// Whether the list has OUT's name, or one of standard output's.
 fn is_list_at(out: &str, list: Option<&str>) -> bool
     ensures yes { result ≡ true → IsListAt out.now list.entry }
     ensures no { result ≡ false → ¬ IsListAt out.now list.entry }
@@ -19,7 +19,7 @@ fn is_list_at(out: &str, list: Option<&str>) -> bool
     }
 }
 
-// Whether one of the files has this path.
+// Whether one of the files has this name.
 pub(crate) fn is_among(path: &str, files: &[&str]) -> bool
     ensures yes { result ≡ true → IsPathAmong path.now files.now }
     ensures no { result ≡ false → ¬ IsPathAmong path.now files.now }
@@ -27,7 +27,7 @@ pub(crate) fn is_among(path: &str, files: &[&str]) -> bool
     files.contains(&path)
 }
 
-// Whether this path is the one that is named, if one is.
+// Whether this path is the one that is given, if one is.
 fn is_named(path: &str, named: Option<&str>) -> bool
     ensures yes { result ≡ true → IsNamed path.now named.entry }
     ensures no { result ≡ false → ¬ IsNamed path.now named.entry }
@@ -38,7 +38,7 @@ fn is_named(path: &str, named: Option<&str>) -> bool
     }
 }
 
-// Whether the list goes to a file that is read, by its name.
+// Whether the list has the name of a file that is read.
 fn is_list_read(
     key_file: Option<&str>,
     outboard: Option<&str>,
@@ -56,7 +56,7 @@ fn is_list_read(
     }
 }
 
-// Whether the task's list goes to a file that is read, or to the one with the key.
+// Whether the task's list has the name of a file that is read, or of the key file.
 fn reads_list(key_file: Option<&str>, task: &Task<'_>) -> bool
     ensures yes { result ≡ true → ReadsListOf key_file.entry task.now }
     ensures no { result ≡ false → ¬ ReadsListOf key_file.entry task.now }
@@ -72,7 +72,7 @@ fn reads_list(key_file: Option<&str>, task: &Task<'_>) -> bool
     }
 }
 
-// Whether the task's list goes to the file of OUT, or to standard output.
+// Whether the task's list has OUT's name, or one of standard output's.
 fn clashes(task: &Task<'_>) -> bool
     ensures yes { result ≡ true → ListClashes task.now }
     ensures no { result ≡ false → ¬ ListClashes task.now }
@@ -83,7 +83,7 @@ fn clashes(task: &Task<'_>) -> bool
     }
 }
 
-/// What is missing goes to another file than OUT, not to standard output, and not to a file that is read.
+// Refuses a list with the name of OUT, of standard output, or of a file that is read.
 pub(crate) fn check_list<'a>(request: &Request<'a>) -> Result<(), Fault<'a>>
     ensures clash { OnOk result (¬ ListClashes request.now.task) }
     ensures read { OnOk result (¬ ReadsList request.now) }

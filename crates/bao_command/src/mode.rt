@@ -13,10 +13,9 @@ use bao_files::{Disk, bytes_of_digits, read_key};
 use bao_request::Request;
 use std::io::Read;
 
-/// The mode that `--key` and `--context` ask for: hash mode where neither is there.
+/// Returns the mode that `--key` and `--context` ask for: hash mode if neither is given.
 ///
-/// A key that is no text of 64 hexadecimal digits is `Key`, and that comes before `KeyAndContext`, which
-/// answers both arguments.
+/// Refuses with `Key` if the key isn't 64 hexadecimal digits, and else with `KeyAndContext` if both are given.
 pub fn mode_of<'a>(key: Option<&str>, context: Option<&str>) -> Result<Mode, Fault<'a>>
     ensures { GivesMode (option_copied key.entry) (option_copied context.entry) result }
 {
@@ -32,10 +31,10 @@ pub fn mode_of<'a>(key: Option<&str>, context: Option<&str>) -> Result<Mode, Fau
     }
 }
 
-/// The mode of the key that `input`, the file at `path`, has from where it stands on.
+/// Returns the mode of keyed hashing with the key in the rest of `input`, the file at `path`.
 ///
-/// Anything but 64 hexadecimal digits, and at most one line end behind them, is `KeyFile`. What can't be read is `File`
-/// with `Read`.
+/// Refuses with `KeyFile` if that is anything but 64 hexadecimal digits and at most one line feed, and with `File`
+/// and `Read` if it can't be read.
 pub fn mode_of_input<'a, I: Read>(input: &mut I, path: &'a str) -> Result<Mode, Fault<'a>>
     ensures known { IfSome (I.remaining input.old) (λ left. GivesFileMode path.entry left result) }
     ensures some { IfOk result (λ mode. (bytes : List ℕ) × AreBytes bytes × IsKeyedBy bytes mode) }
@@ -48,7 +47,7 @@ pub fn mode_of_input<'a, I: Read>(input: &mut I, path: &'a str) -> Result<Mode, 
     }
 }
 
-// The same of the file at `path` on the disk, which can't be read where it can't be opened.
+// The same for the file at `path` on the disk.
 fn mode_of_file<'a, D: Disk>(disk: &D, path: &'a str) -> Result<Mode, Fault<'a>>
     ensures some { IfOk result (IsKeyedIn (D.at disk.now path.now)) }
     ensures fault { IfErr result (λ fault. (fault ≡ Fault.KeyFile) ⊎ (fault ≡ Fault.File FileFault.Memory) ⊎ (fault ≡ Fault.File (FileFault.Read path.entry))) }
@@ -60,9 +59,8 @@ fn mode_of_file<'a, D: Disk>(disk: &D, path: &'a str) -> Result<Mode, Fault<'a>>
     }
 }
 
-/// The mode that a request asks for, by `--key` and `--context` as [`mode_of`], or by the file of `--key-file` on the disk as
-/// [`mode_of_input`]. That file beside one of the others is `KeyFileAndOthers`, whatever these are, and then it isn't
-/// opened.
+// The mode that a request asks for: by `--key` and `--context`, as in `mode_of`, or by the file of `--key-file`, as in
+// `mode_of_input`. Refuses with `KeyFileAndOthers` if that file is given with one of the others, and doesn't open it then.
 pub(crate) fn asked_mode<'a, D: Disk>(disk: &D, request: &Request<'a>) -> Result<Mode, Fault<'a>>
     ensures mode { IfOk result (HasMode (D.at disk.now) request.now) }
     ensures mixed { MixesKeys request.now → IsErrAnd result (λ fault. fault ≡ Fault.KeyFileAndOthers) }

@@ -1,4 +1,4 @@
-// Which names of a request lead to one file.
+// Checks on the disk that OUT and LIST are no other file of the command, under any name.
 
 ghost use Rattle.std.specs.Prelude.{◌≡◌, ◌⊎◌, ◌<◌, ℕ, HoldsAt, IfErr, IsSomeAnd, OnOk, codes, false, length, true};
 ghost use Rattle.bao_command.specs.declared.fault.Fault.TheVariants as Fault;
@@ -8,7 +8,7 @@ use crate::fault::Fault;
 use bao_files::Disk;
 use bao_request::{Request, Task};
 
-// A name of the file that standard output is open on.
+// A name of standard output.
 const OUTPUT: &str = "/dev/stdout";
 
 // Whether a path leads to the file that is named, if one is.
@@ -22,7 +22,7 @@ fn is_named_file<D: Disk>(disk: &D, path: &str, named: Option<&str>) -> bool
     }
 }
 
-// Whether it leads to one of the files.
+// Whether a path leads to one of the files.
 fn is_one_of<D: Disk>(disk: &D, path: &str, files: &[&str]) -> bool
     ensures { result ≡ true → (k : ℕ) × (k < length files.now) × HoldsAt (λ file. IsLedTo (D.at disk.now) path.now file.now) files.now k }
 {
@@ -34,7 +34,7 @@ fn is_one_of<D: Disk>(disk: &D, path: &str, files: &[&str]) -> bool
     false
 }
 
-// The file that a task writes to, if there is one.
+// The task's OUT, if it has one.
 fn out_of<'a>(task: &Task<'a>) -> Option<&'a str>
     ensures { result ≡ out_of task.now }
 {
@@ -75,7 +75,7 @@ fn leads_to_other<D: Disk>(
     is_one_of(disk, list, files)
 }
 
-// Whether the list of what is missing leads to another file of the request.
+// Whether the request's list leads to another of its files.
 fn is_list_other<D: Disk>(disk: &D, request: &Request<'_>) -> bool
     ensures { result ≡ true → LeadsListTo (D.at disk.now) request.now.key_file request.now.task }
 {
@@ -114,7 +114,7 @@ fn reads_one<D: Disk>(
     is_named_file(disk, out, file)
 }
 
-// Whether OUT leads to a file that is read, but for those that are gathered.
+// Whether OUT leads to a file that is read, except a FILE of `gather`.
 fn is_out_read<D: Disk>(disk: &D, key_file: Option<&str>, task: &Task<'_>) -> bool
     ensures yes { result ≡ true → ReadsOutAs (IsLedTo (D.at disk.now)) key_file.entry task.now }
     ensures no { result ≡ false → ¬ ReadsOutAs (λ ours theirs. ours ≡ theirs) key_file.entry task.now }
@@ -139,8 +139,8 @@ fn is_out_read<D: Disk>(disk: &D, key_file: Option<&str>, task: &Task<'_>) -> bo
     }
 }
 
-/// Refuses names that lead to one file where that would be lost, or get two things: OUT to the file that standard output is open on, or to one
-/// that is read and isn't among those that are gathered; and the list of what is missing to OUT, to standard output, or to a file that is read.
+// Refuses names that lead to one file, which would be overwritten or written twice: OUT and standard output, or a file that is read except a FILE of
+// `gather`; and LIST and OUT, standard output, or any file that is read.
 pub(crate) fn check_places<'a, D: Disk>(disk: &D, request: &Request<'a>) -> Result<(), Fault<'a>>
     ensures apart { OnOk result (¬ ReadsOut request.now) }
     ensures err { IfErr result (λ fault. ((fault ≡ Fault.OutLeadsToOutput) × IsSomeAnd (out_of request.now.task) (λ out. IsLedTo (D.at disk.now) out.now (codes "/dev/stdout")))

@@ -10,8 +10,8 @@ use std::process::ExitCode;
 use std::rt::{Clock, Files};
 use std::thread::Threads;
 
-/// Runs the program on `words`, its name first, as [`command`] does over the system's files, with `out` and `err` as its standard output and error, and
-/// answers the exit status. How far a long read has come is shown on `err` where that is a terminal.
+/// Runs the program on `words`, its name first, over the system's files, with `out` and `err` as its standard output and error, and returns the exit status:
+/// [`command`] says what it does. If `err` is a terminal, the progress of long reads is shown there.
 pub fn run<
     R: Files<File = File> + Clock + AllocGlobal + Threads + Sync,
     O: Write,

@@ -1,4 +1,4 @@
-// What is told of a file that is refused: where it is at fault, and which bytes of the blob that are.
+// What `--verbose` reports about a file that is refused: where it is damaged, and which bytes of the blob that affects.
 
 ghost use Rattle.std.specs.Prelude.{OnOk};
 ghost use Rattle.std.specs.Io.KnownBytes.{Appends};
@@ -15,7 +15,7 @@ use std::alloc::Global;
 use std::io;
 use std::io::{Read, Write};
 
-// Says that a file ends too early.
+// Prints that a file ends too early.
 fn tell_short<W: Write>(file: &str, at: u64, out: &mut W) -> io::Result<()>
     ensures { OnOk result (Appends (W.contents out.old) (W.contents out.new) (short_line file.now at)) }
 {
@@ -25,7 +25,7 @@ fn tell_short<W: Write>(file: &str, at: u64, out: &mut W) -> io::Result<()>
     )
 }
 
-// Says that it goes on after its end.
+// Prints that a file goes on past the end.
 fn tell_long<W: Write>(file: &str, at: u64, out: &mut W) -> io::Result<()>
     ensures { OnOk result (Appends (W.contents out.old) (W.contents out.new) (long_line file.now at)) }
 {
@@ -35,14 +35,14 @@ fn tell_long<W: Write>(file: &str, at: u64, out: &mut W) -> io::Result<()>
     )
 }
 
-// Says at which of its bytes something begins that isn't the root's.
+// Prints at which of its own bytes a file is damaged.
 fn tell_damage<W: Write>(file: &str, at: u64, out: &mut W) -> io::Result<()>
     ensures { OnOk result (Appends (W.contents out.old) (W.contents out.new) (damage_line file.now at)) }
 {
     writeln!(out, "bao_gather: {file}: damaged at its byte {at}")
 }
 
-// Says which bytes of the blob a chunk has that isn't the root's.
+// Prints which bytes of the blob a damaged chunk has.
 fn tell_chunk<W: Write>(file: &str, bytes: Span, out: &mut W) -> io::Result<()>
     ensures { OnOk result (Appends (W.contents out.old) (W.contents out.new) (chunk_line file.now bytes)) }
 {
@@ -53,7 +53,7 @@ fn tell_chunk<W: Write>(file: &str, bytes: Span, out: &mut W) -> io::Result<()>
     )
 }
 
-// Says which bytes of the blob are below a parent that isn't the root's.
+// Prints which bytes of the blob are below a damaged parent.
 fn tell_parent<W: Write>(file: &str, bytes: Span, out: &mut W) -> io::Result<()>
     ensures { OnOk result (Appends (W.contents out.old) (W.contents out.new) (parent_line file.now bytes)) }
 {
@@ -64,7 +64,7 @@ fn tell_parent<W: Write>(file: &str, bytes: Span, out: &mut W) -> io::Result<()>
     )
 }
 
-// Says where a file is damaged: in the blob, where that is known.
+// Prints where a file is damaged: in the blob, if that is known, else in the file.
 fn tell_spot<E: Write>(file: &str, at: u64, spot: Option<Spot>, err: &mut E) -> io::Result<()> {
     match spot {
         Some(spot) if spot.is_chunk => tell_chunk(file, spot.bytes, &mut Once(err)),
@@ -73,7 +73,7 @@ fn tell_spot<E: Write>(file: &str, at: u64, spot: Option<Spot>, err: &mut E) -> 
     }
 }
 
-// The length that an encoding in a regular file claims, which is read again for it.
+// The length that an encoding claims. It is read again, so the file has to be regular.
 fn claimed_again<D: Disk>(disk: &D, path: &str) -> Option<u64> {
     if !is_regular(disk, path) {
         return None;
@@ -84,7 +84,7 @@ fn claimed_again<D: Disk>(disk: &D, path: &str) -> Option<u64> {
     Some(u64::from_le_bytes(head))
 }
 
-// Whether a regular file is at the path, which can be read again.
+// Whether the file at the path is regular, so that it can be read again.
 fn is_regular<D: Disk>(disk: &D, path: &str) -> bool {
     match disk.look(path) {
         Some(extent) => extent.is_regular,
@@ -92,7 +92,7 @@ fn is_regular<D: Disk>(disk: &D, path: &str) -> bool {
     }
 }
 
-// What is at a place of the encoding of a part, in the file of this path.
+// What is at an offset of a combined encoding or a slice, in the file at this path.
 fn spot_of_part<D: Disk>(disk: &D, part: &Part, path: &str, at: u64) -> Option<Spot> {
     let total = claimed_again(disk, path)?;
     match part {
@@ -101,12 +101,12 @@ fn spot_of_part<D: Disk>(disk: &D, part: &Part, path: &str, at: u64) -> Option<S
     }
 }
 
-// What is at a place of an outboard encoding, in the file of this path.
+// What is at an offset of an outboard encoding, in the file at this path.
 fn spot_of_outboard<D: Disk>(disk: &D, path: &str, at: u64) -> Option<Spot> {
     spot_in_outboard(claimed_again(disk, path)?, at)
 }
 
-// The chunk that begins at a place of a plain copy of a blob of `total` bytes.
+// The chunk that begins at an offset of a plain copy of a blob of `total` bytes.
 fn spot_of_copy(total: u64, at: u64) -> Spot {
     let end = at.saturating_add(CHUNK_LEN as u64).min(total);
     Spot {
@@ -115,7 +115,7 @@ fn spot_of_copy(total: u64, at: u64) -> Spot {
     }
 }
 
-// Says where a file is at fault, of which what is damaged is this.
+// Prints what is wrong with a file. `spot` is what is damaged, if it is known.
 fn tell_fault<E: Write>(
     file: &str,
     fault: CheckFault,
@@ -130,7 +130,7 @@ fn tell_fault<E: Write>(
     }
 }
 
-// Where a file is damaged, if it is.
+// At which offset a file is damaged, if it is.
 fn damaged_at(fault: CheckFault) -> Option<u64> {
     match fault {
         CheckFault::Mismatch { at } => Some(at),
@@ -138,10 +138,10 @@ fn damaged_at(fault: CheckFault) -> Option<u64> {
     }
 }
 
-// Where the first node of an encoding begins, after the length.
+// The offset of an encoding's first node, after the length.
 const FIRST_NODE: u64 = 8;
 
-// Whether a regular file is no combined encoding, whatever the root: one of the length that it claims has another size.
+// Whether a regular file can't be a combined encoding, whatever the root, since one of the length that it claims has another size.
 pub(crate) fn is_no_encoding<D: Disk>(disk: &D, path: &str) -> bool {
     let Some(total) = claimed_again(disk, path) else {
         return false;
@@ -152,15 +152,15 @@ pub(crate) fn is_no_encoding<D: Disk>(disk: &D, path: &str) -> bool {
     }
 }
 
-// Says so of it.
+// Prints that.
 pub(crate) fn tell_no_encoding<E: Write>(file: &str, err: &mut E) -> io::Result<()> {
     writeln!(
         Once(err),
-        "bao_gather: {file}: no combined encoding of ROOT; a plain copy goes with --outboard"
+        "bao_gather: {file}: not a combined encoding of ROOT; for a plain copy, use --outboard"
     )
 }
 
-// Says where the encoding of a part is at fault. A write that fails changes nothing.
+// Prints what is wrong with a combined encoding or a slice. A write that fails has no effect.
 pub(crate) fn tell_encoding<D: Disk, E: Write>(
     disk: &D,
     part: &Part,
@@ -179,7 +179,7 @@ pub(crate) fn tell_encoding<D: Disk, E: Write>(
     let _ = tell_fault(file, fault, spot, err);
 }
 
-// Says where an outboard encoding is at fault.
+// Prints what is wrong with an outboard encoding.
 pub(crate) fn tell_outboard<D: Disk, E: Write>(
     disk: &D,
     file: &str,
@@ -190,7 +190,7 @@ pub(crate) fn tell_outboard<D: Disk, E: Write>(
         Some(FIRST_NODE) => {
             let _ = writeln!(
                 Once(err),
-                "bao_gather: {file}: no outboard encoding of ROOT: look at ROOT, the key and --context"
+                "bao_gather: {file}: not the outboard encoding of ROOT: check ROOT, the key and --context"
             );
             return;
         }
@@ -200,8 +200,8 @@ pub(crate) fn tell_outboard<D: Disk, E: Write>(
     let _ = tell_fault(file, fault, spot, err);
 }
 
-// Says which file is at fault of an outboard encoding and a copy, and where. The first is read again for it. A write that fails changes
-// nothing.
+// Prints which of an outboard encoding and a copy is damaged, and where. The outboard encoding is read again for it. A write that fails has no
+// effect.
 pub(crate) fn tell_beside<D: Disk, E: Write>(
     alloc: Global,
     disk: &D,
@@ -229,8 +229,8 @@ pub(crate) fn tell_beside<D: Disk, E: Write>(
     }
 }
 
-// Says what is at fault of that which a slice was cut out of, an encoding or an outboard encoding and a copy, and at which bytes of the blob. The
-// length is read again for it. A write that fails changes nothing.
+// Prints what is damaged of the files that a slice was cut out of, an encoding or an outboard encoding and a copy, and at which bytes of the blob. The
+// length is read again for it. A write that fails has no effect.
 pub(crate) fn tell_cut<D: Disk, E: Write>(
     disk: &D,
     start: u64,

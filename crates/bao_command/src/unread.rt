@@ -1,4 +1,4 @@
-// Why a file can't be read, as the disk says it where it is asked once more.
+// Why a file can't be read: what the disk answers when the file is tried again.
 
 use crate::fault::Fault;
 use crate::lists::is_among;
@@ -9,14 +9,14 @@ use bao_tasks::GatheredFault;
 use std::io;
 use std::io::Write;
 
-// Says why the file can't be read, if that can be told. A write that fails changes nothing.
+// Prints why the file can't be read, if the disk knows. A write that fails has no effect.
 fn tell_unread<D: Disk, E: Write>(disk: &D, path: &str, err: &mut E) {
     if let Some(error) = disk.why(path) {
         let _ = writeln!(Once(err), "bao_gather: {path}: {error}");
     }
 }
 
-/// Says that the file was left out since it can't be read, and why, if that can be told.
+// Prints that the file was left out since it can't be read, and why, if the disk knows.
 pub(crate) fn tell_left_out<D: Disk, E: Write>(
     disk: &D,
     path: &str,
@@ -29,17 +29,20 @@ pub(crate) fn tell_left_out<D: Disk, E: Write>(
     }
 }
 
-// The path of a file that can't be read, where this is the fault.
+// The file that can't be read, if this is the fault.
 fn unread_by<'a>(fault: Fault<'a>) -> Option<&'a str> {
     match fault {
         Fault::File(FileFault::Read(path)) => Some(path),
         Fault::Decode(DecodeFault::File(FileFault::Read(path))) => Some(path),
-        Fault::Gather(GatheredFault::File(FileFault::Read(path))) => Some(path),
+        Fault::Gather {
+            fault: GatheredFault::File(FileFault::Read(path)),
+            ..
+        } => Some(path),
         _ => None,
     }
 }
 
-// Whether the task says why this file can't be read. Of the files that are gathered from it has been said where they were left out.
+// Whether the task reports why this file can't be read. For the FILEs of `gather` that was reported when they were left out.
 fn says_why(task: &Task<'_>, path: &str) -> bool {
     match task {
         Task::CutSlice { verbose, .. } => *verbose,
@@ -49,7 +52,7 @@ fn says_why(task: &Task<'_>, path: &str) -> bool {
     }
 }
 
-/// Says, where that is asked, why a file can't be read, where this is the fault.
+// With `--verbose`, prints why a file can't be read, if this is the fault.
 pub(crate) fn tell_why<D: Disk, E: Write>(
     disk: &D,
     task: &Task<'_>,

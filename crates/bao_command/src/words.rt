@@ -7,9 +7,9 @@ use std::env;
 use std::io::ErrorKind;
 use std::rt::Env;
 
-/// The arguments that the process was given, its name first.
+/// Returns the arguments of the process, its name first.
 ///
-/// One that is not UTF-8 is `Word`, and `File` with `Memory` comes only where a growth was refused.
+/// Refuses with `Word` if one isn't UTF-8, and with `File` and `Memory` only if out of memory.
 pub fn own_words<R: Env + AllocGlobal>(rt: &R) -> Result<Vec<String>, Fault<'static>>
     ensures { IfErr result (λ fault. (fault ≡ Fault.Word) ⊎ (fault ≡ Fault.File FileFault.Memory)) }
 {

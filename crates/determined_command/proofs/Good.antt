@@ -77,7 +77,7 @@ module _ (at : List ℕ → FileState) (known : (path : List ℕ) → IsKnown (a
   list_apart key_file (DecodeCopy root outboard verbose copy out) clash reads leads = absurd leads
   list_apart key_file (Replay root capacity script files) clash reads leads = absurd leads
 
-  not_due : (request : Request) → IsGood at request → (f : Fault) → status_of f ≡ 2 → IsDue at request f → ⊥
+  pub not_due : (request : Request) → IsGood at request → (f : Fault) → status_of f ≡ 2 → IsDue at request f → ⊥
   not_due request good fault.Word two due = due
   not_due request good fault.Root two due = due good.root
   not_due request good fault.Key two due = good.key due
@@ -95,7 +95,7 @@ module _ (at : List ℕ → FileState) (known : (path : List ℕ) → IsKnown (a
   not_due request good fault.ListLeadsToOther two due = list_apart request.key_file request.task good.apart.1 good.apart.2 due
   not_due request good (fault.File cause) two due = file_is_no_usage cause two
   not_due request good (fault.Decode cause) two due = decode_is_no_usage cause two
-  not_due request good (fault.Gather cause) two due = good.capacity (due.1 two)
+  not_due request good (fault.Gather cause unlisted) two due = good.capacity (due.1 two)
   not_due request good (fault.Replay cause) two due = elim (due.1 two) [ inl none ↦ good.capacity none | inr bad ↦ good.script bad ]
 
   pub not_usage : (words : List Text) → ((request : Request) → AsksFor words request → IsGood at request) → (request : Request) × AsksFor words request → fault_of program_app words ≡ []

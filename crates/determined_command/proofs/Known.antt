@@ -58,7 +58,7 @@ path_at (x ∷ xs) (y ∷ ys) (suc i) q same there =
     let tail : map (λ text. text.now) xs ≡ map (λ text. text.now) ys = cc in
     path_at xs ys i q tail there
 
-as_many : (xs ys : List (Bor (List ℕ))) → map (λ text. text.now) xs ≡ map (λ text. text.now) ys → length xs ≡ length ys
+pub as_many : (xs ys : List (Bor (List ℕ))) → map (λ text. text.now) xs ≡ map (λ text. text.now) ys → length xs ≡ length ys
 as_many [] [] same = refl
 as_many [] (y ∷ ys) same = absurd (let no = same in cc)
 as_many (x ∷ xs) [] same = absurd (let no = same in cc)

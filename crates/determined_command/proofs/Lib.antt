@@ -7,3 +7,4 @@ pub mod Absent
 pub mod Below
 pub mod Outcomes
 pub mod Good
+pub mod Verdicts

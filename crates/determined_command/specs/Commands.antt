@@ -1,11 +1,13 @@
 -- What two runs of one command line have in common.
-use Rattle.std.specs.Prelude.{◌≡◌, ◌≢◌, ◌⊎◌, ℕ, ◌^◌, ◌<◌, true, List, length, Option, None, Some, IfSome, IsSomeAnd}
+use Rattle.std.specs.Prelude.{◌≡◌, ◌≢◌, ◌⊎◌, ℕ, ◌^◌, ◌<◌, true, List, length, Option, None, Some, Ok, IfSome, IsSomeAnd}
 use Rattle.std.specs.Io.KnownBytes.{Appends}
 use Rattle.std.specs.Option.{option_copied}
 use Rattle.b3tree.specs.declared.mode.Mode.{Mode}
 use Rattle.b3tree.specs.Hashing.{hash}
 use Rattle.b3tree.specs.Valid.{AreBytes}
 use Rattle.clap.specs.Words.{Text}
+use Rattle.bao_check.specs.Accepted.{IsAccepted, outboard_nodes}
+use Rattle.hex.specs.Hex.{decode_of}
 use Rattle.bao_text.specs.Cut.{claimed}
 use Rattle.bao_decode.specs.Weaving.{are_whole}
 use Rattle.bao_files.specs.Disks.{Absent, FileState, IsKnown, Stored}
@@ -67,8 +69,20 @@ IsJudged at (Gather root workers capacity long outboard salvage encode verbose m
 IsJudged at (Replay root capacity script files) = Unit {0}
 
 -- where the one is done the other refuses nothing, and so it is the other way round
+abbrev pub SameRefusal : ℕ → ℕ → Type 0
+SameRefusal a b = (a ≡ 0 → b ≢ 1) × (a ≡ 1 → b ≢ 0)
+
+-- a file wasn't read or written, or memory ran out
+abbrev pub IsOpen : ℕ → Type 0
+IsOpen status = (status ≡ 3) ⊎ (status ≡ 4)
+
+-- Both end alike, done, refused or with wrong arguments, unless a file wasn't read or written, or memory ran out.
 abbrev pub SameVerdict : ℕ → ℕ → Type 0
-SameVerdict a b = (a ≡ 0 → b ≢ 1) × (a ≡ 1 → b ≢ 0)
+SameVerdict a b = (a ≡ b) ⊎ IsOpen a ⊎ IsOpen b
+
+-- a store has the task's capacity, and each line of its script has a form
+abbrev pub IsFair : (List ℕ → FileState) → Task → Type 0
+IsFair at task = (¬ HasNoCapacity task) × ¬ HasBadScript at task
 
 -- the task gathers, and the blob has its root in the mode; and what is at OUT is known
 abbrev pub IsGatheredUnder : (List ℕ → FileState) → Mode → Task → List ℕ → Type 0
@@ -115,16 +129,21 @@ pub record PutTwo (words : List Text) (at a b : List ℕ → FileState) (old one
   pub our_line : Appends old one (line_of mode request.task ours)
   pub their_line : Appends old other (line_of mode also.task theirs)
 
--- A file isn't there that the task reads: the one that is hashed, encoded, decoded or cut out of, the outboard encoding that it is so beside, or the schedule.
-abbrev pub LacksFile : (List ℕ → FileState) → Task → Type 0
-LacksFile at (Hash from count file) = at file.now ≡ Absent
-LacksFile at (Encode encoding file out) = at file.now ≡ Absent
-LacksFile at (CutSlice root start len None verbose file out) = at file.now ≡ Absent
-LacksFile at (CutSlice root start len (Some outboard) verbose file out) = at outboard.now ≡ Absent
-LacksFile at (Decode root part verbose file out) = at file.now ≡ Absent
-LacksFile at (DecodeCopy root outboard verbose copy out) = at outboard.now ≡ Absent
-LacksFile at (Gather root workers capacity long outboard salvage encode verbose missing files out) = ⊥
-LacksFile at (Replay root capacity script files) = at script.now ≡ Absent
+-- the file has an outboard encoding that is accepted under the root with these hexadecimal digits
+abbrev pub HasOutline : FileState → Mode → List ℕ → Type 0
+HasOutline state mode root = (outline : List ℕ) × (state ≡ Stored outline) × ((key : List ℕ) → decode_of root ≡ Ok key → IsAccepted mode key outline (outboard_nodes outline))
+
+-- A file that the task reads in this mode doesn't exist: the one that is hashed, encoded, decoded or cut out of, its outboard encoding, the copy if the
+-- outboard encoding is accepted, or the schedule.
+abbrev pub LacksFile : (List ℕ → FileState) → Mode → Task → Type 0
+LacksFile at mode (Hash from count file) = at file.now ≡ Absent
+LacksFile at mode (Encode encoding file out) = at file.now ≡ Absent
+LacksFile at mode (CutSlice root start len None verbose file out) = at file.now ≡ Absent
+LacksFile at mode (CutSlice root start len (Some outboard) verbose file out) = (at outboard.now ≡ Absent) ⊎ (at file.now ≡ Absent)
+LacksFile at mode (Decode root part verbose file out) = at file.now ≡ Absent
+LacksFile at mode (DecodeCopy root outboard verbose copy out) = (at outboard.now ≡ Absent) ⊎ ((at copy.now ≡ Absent) × HasOutline (at outboard.now) mode root.now)
+LacksFile at mode (Gather root workers capacity long outboard salvage encode verbose missing files out) = ⊥
+LacksFile at mode (Replay root capacity script files) = at script.now ≡ Absent
 
 -- what is written would take the place of a file that is read, by its name
 abbrev pub WritesOverRead : Request → Type 0

@@ -12,7 +12,7 @@ ghost use Rattle.bao_request.specs.declared.tasks.Task.{Task};
 ghost use Rattle.bao_request.specs.CommandLine.{AsksFor, AsksForHelp, program_app};
 ghost use Rattle.clap.specs.Words.{fault_of};
 ghost use Rattle.bao_files.specs.Disks.{FileState, IsKnown, KeepsFiles, Unknown};
-ghost use Rattle.determined_command.specs.Commands.{BothKeep, CollidesAsked, IsGatheredUnder, IsGood, IsJudged, IsKeyKnown, IsOfKnown, IsShort, LacksFile, PutTwo, SamePrinted, SameStatus, SameVerdict, WritesOverRead};
+ghost use Rattle.determined_command.specs.Commands.{BothKeep, CollidesAsked, IsFair, IsGatheredUnder, IsGood, IsJudged, IsKeyKnown, IsOfKnown, IsShort, LacksFile, PutTwo, SamePrinted, SameRefusal, SameStatus, SameVerdict, WritesOverRead};
 ghost use Rattle.determined_command.specs.Outcomes.{IsOfOne, Outcome, OutcomeOf, Ran};
 ghost use Rattle.determined_files.specs.Agreeing.{SameWhereKnown};
 
@@ -68,7 +68,8 @@ pub fn command_determined<
 
 // The files that are hashed, encoded, decoded or cut out of, also beside an outboard encoding, and those of a schedule, decide what is printed and
 // written, where both runs are done. And they decide whether a text, or a schedule, is refused: where the one run is done, the other doesn't end with 1.
-// 3 and 4 may come at any time, since memory may run out and writing may fail.
+// Where all files are known, so is whether the arguments are wrong: both runs end alike. 3 and 4 may come at any time, since memory may run out and
+// writing may fail.
 pub fn known_files_decide<
     R: AllocGlobal + Threads + Sync,
     D: Disk,
@@ -91,7 +92,9 @@ pub fn known_files_decide<
     requires work { ¬ AsksForHelp (map string_bytes words.now) }
     ensures done { result.0 ≡ 0 → result.1 ≡ 0 → SamePrinted (O.contents ours.old) (O.contents ours.new) (O.contents theirs.new)
         × SameWhereKnown (D.at our_disk.old) (D.at our_disk.new) (D.at their_disk.new) }
-    ensures status { ((request : Request) → AsksFor (map string_bytes words.now) request → IsJudged (D.at our_disk.old) request.task) → SameVerdict result.0 result.1 }
+    ensures refusal { ((request : Request) → AsksFor (map string_bytes words.now) request → IsJudged (D.at our_disk.old) request.task) → SameRefusal result.0 result.1 }
+    ensures status { ((request : Request) → AsksFor (map string_bytes words.now) request → IsJudged (D.at our_disk.old) request.task × IsFair (D.at our_disk.old) request.task)
+        → ((path : List ℕ) → IsKnown (D.at our_disk.old path)) → SameVerdict result.0 result.1 }
 {
     (
         command(rt, our_disk, words, ours, err, progress),
@@ -136,7 +139,7 @@ pub fn known_holders_decide<
     )
 }
 
-// Of a file that isn't there nothing is printed or written, and nothing is refused with 1.
+// Of a file that isn't there nothing is printed or written, and nothing is refused with 1: also of a copy beside an outboard encoding.
 pub fn absent_file_unread<
     R: AllocGlobal + Threads + Sync,
     D: Disk,
@@ -144,7 +147,7 @@ pub fn absent_file_unread<
     E: Write,
     P: Progress + Sync,
 >(rt: &R, disk: &mut D, words: &[String], out: &mut O, err: &mut E, progress: &P) -> u8
-    requires asked { (request : Request) → AsksFor (map string_bytes words.now) request → LacksFile (D.at disk.old) request.task }
+    requires asked { (request : Request) (mode : Mode) → AsksFor (map string_bytes words.now) request → HasMode (D.at disk.old) request mode → LacksFile (D.at disk.old) mode request.task }
     requires work { ¬ AsksForHelp (map string_bytes words.now) }
     ensures status { (result ≢ 0) × (result ≢ 1) }
     ensures files { KeepsFiles (D.at disk.old) (D.at disk.new) }

@@ -36,7 +36,7 @@ begun words request at after old new (File file.Output) asks leaves = inr (inr (
 begun words request at after old new (File file.Encoding) asks leaves = inl leaves
 begun words request at after old new (File file.Memory) asks leaves = inl leaves
 begun words request at after old new (Decode fault) asks leaves = inl leaves
-begun words request at after old new (Gather fault) asks leaves = inl leaves
+begun words request at after old new (Gather fault unlisted) asks leaves = inl leaves
 begun words request at after old new (Replay fault) asks leaves = inl leaves
 
 pub returns-in-Ok-clause-file_fault : goal.returns-in-Ok-clause-file_fault
@@ -65,3 +65,6 @@ returns-in-Ok-clause-usage g c = λ is. inr (inr (c.in-Ok.request, c.in-Ok.ensur
 
 pub returns-in-Ok-clause-refusal : goal.returns-in-Ok-clause-refusal
 returns-in-Ok-clause-refusal g c = λ is. (c.in-Ok.request, c.in-Ok.ensures.request, c.in-Err-serve.ensures.refused (sym c.report.ensures ∙ is))
+
+pub returns-in-Ok-clause-judged : goal.returns-in-Ok-clause-judged
+returns-in-Ok-clause-judged g c = λ is. inr (c.in-Ok.request, c.in-Ok.ensures.request, c.in-Err-serve.ensures.passed (sym c.report.ensures ∙ is))

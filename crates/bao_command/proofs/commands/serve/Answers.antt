@@ -12,10 +12,10 @@ use Rattle.bao_command.specs.Printed.{CommandPrints, OnPrinted}
 use Rattle.bao_command.specs.ModeWords.{HasMode}
 use Rattle.bao_command.specs.Refused.{IsBlobFor, IsBlobOf, IsRefused, IsRefusedFor}
 use Rattle.bao_command.specs.Status.{status_of}
-use Rattle.bao_command.specs.Tasks.{Answers, GoesApart, IsRight, LeavesFiles, LeavesFilesOf, line_of}
+use Rattle.bao_command.specs.Tasks.{Answers, GoesApart, IsPassed, IsRight, LeavesFiles, LeavesFilesOf, line_of}
 use Rattle.bao_command.proofs.Due.{mode_due, task_due}
-use Rattle.bao_command.proofs.Modes.{mode_answer, mode_refuses_none}
-use Rattle.bao_command.proofs.Telling.{other_status}
+use Rattle.bao_command.proofs.Modes.{mode_answer, mode_refuses_none, mode_relists_none}
+use Rattle.bao_command.proofs.Telling.{never_passed, other_status, passed_of}
 use Rattle.bao_command.proofs.commands.serve.Goals as goal
 
 is_or_not : (b : Bool) (P : Type 0) → Decides b P → P ⊎ (¬ P)
@@ -49,7 +49,7 @@ module _ (request : Request) (at after : List ℕ → FileState) (mode : Mode) (
   answers bytes old new (Err (File file.Encoding)) apart right prints = prints
   answers bytes old new (Err (File file.Memory)) apart right prints = prints
   answers bytes old new (Err (Decode fault)) apart right prints = prints
-  answers bytes old new (Err (Gather fault)) apart right prints = prints
+  answers bytes old new (Err (Gather fault unlisted)) apart right prints = prints
   answers bytes old new (Err (Replay fault)) apart right prints = prints
 
   -- what the task's fault leaves and refuses is the request's
@@ -110,3 +110,23 @@ returns-in_err-mode-clause-due g c = mode_due (g.D.Disk.at c.args.disk.now) c.ar
 
 pub returns-in_ok-check_places-clause-due : goal.returns-in_ok-check_places-clause-due
 returns-in_ok-check_places-clause-due g c = task_due (g.D.Disk.at c.args.disk.now) c.args.request.now c.serve_task.result c.serve_task.ensures.due
+
+pub returns-in_ok-check_places-clause-passed : goal.returns-in_ok-check_places-clause-passed
+returns-in_ok-check_places-clause-passed g c =
+    passed_of _ (IsPassed (g.D.Disk.at c.args.disk.now) c.args.request.now) c.serve_task.result (λ rest. record {
+      root = c.in_ok-check_root.ensures.ok;
+      mixed = c.in_ok-check_long.ensures.ok;
+      mode = (c.in_ok-mode.mode, c.in_ok-mode.ensures.mode);
+      apart = (c.writes_apart.ensures.yes c.if-writes_apart.true, c.in_ok-check_list.ensures.clash, c.in_ok-check_list.ensures.read, c.in_ok-check_places.ensures.apart);
+      past = rest.0;
+      few = rest.1;
+    }) c.serve_task.ensures.passed
+
+pub returns-in_err-mode-clause-passed : goal.returns-in_err-mode-clause-passed
+returns-in_err-mode-clause-passed g c =
+    never_passed _ c.from_residual-in_err-mode.result _ c.from_residual-in_err-mode.ensures.1 (mode_refuses_none c.args.request.now.key_file _ c.in_err-mode.ensures.fault)
+
+pub returns-in_err-mode-clause-listed : goal.returns-in_err-mode-clause-listed
+returns-in_err-mode-clause-listed g c =
+    mode_relists_none (g.D.Disk.at c.args.disk.now) (g.D.Disk.at c.args.disk.now) (list_of c.args.request.now.task) c.args.request.now.key_file c.from_residual-in_err-mode.result _
+    c.from_residual-in_err-mode.ensures.1 c.in_err-mode.ensures.fault

@@ -6,16 +6,16 @@ use Rattle.bao_request.specs.declared.tasks.Task.{Task}
 use Rattle.bao_request.specs.declared.tasks.Task.TheVariants.{CutSlice, Decode, DecodeCopy, Encode}
 use Rattle.bao_tasks.specs.declared.gathering.Gathering.{Gathering}
 use Rattle.bao_command.specs.declared.fault.Fault.{Fault}
-use Rattle.bao_command.specs.Effects.{Writes, list_of}
+use Rattle.bao_command.specs.Effects.{IsRelisted, Writes, list_of}
 use Rattle.bao_command.specs.Printed.{CommandPrints, OnPrinted}
 use Rattle.gather.specs.declared.grain.Grain.{Grain}
 use Rattle.gather.specs.declared.grain.Grain.TheVariants.{Group as ByGroup, Chunk as ByChunk}
 use Rattle.bao_command.specs.Refused.{IsBlobOf, IsEachBlob, IsRefused, IsRefusedGathering, IsRefusedReplay, OfRoot}
 use Rattle.bao_command.specs.Status.{status_of}
-use Rattle.bao_command.specs.Tasks.{Decodes, Gathers, HasBadLine, HasBadScript, HasManyFiles, HasNoCapacity, HasRoot, IsNoCapacity, IsPastOutput, IsReplay, IsRight, LeavesFiles, Replays, line_of}
+use Rattle.bao_command.specs.Tasks.{Decodes, Gathers, HasBadLine, HasBadScript, HasManyFiles, HasNoCapacity, HasRoot, IfPassed, IsNoCapacity, IsPastOutput, IsReplay, IsRight, LeavesFiles, Replays, line_of}
 use Rattle.bao_command.specs.Works.{CopiesRight, CutsRight, DecodesRight, EncodesRight, Leaves, LeavesGathered}
-use Rattle.bao_command.proofs.Due.{decode_due, file_due, gather_due, hash_due, replay_due}
-use Rattle.bao_command.proofs.Telling.{both_printed, no_refusal, no_usage, on_ok, on_printed, usage_keeps}
+use Rattle.bao_command.proofs.Due.{decode_due, file_due, gather_due, hash_due, lists_none, replay_due}
+use Rattle.bao_command.proofs.Telling.{always_passed, both_printed, few_passed, no_refusal, no_usage, on_ok, on_printed, range_passed, usage_keeps}
 use Rattle.bao_command.proofs.commands.serve_task.Goals as goal
 
 -- what a task's fault leaves, where it has no list
@@ -338,3 +338,72 @@ returns-in-Decode-clause-usage g c = usage_keeps (g.D.Disk.at c.args.disk.now) (
 
 pub returns-in-DecodeCopy-clause-usage : goal.returns-in-DecodeCopy-clause-usage
 returns-in-DecodeCopy-clause-usage g c = usage_keeps (g.D.Disk.at c.args.disk.now) (g.D.Disk.at c.decode_beside.new.disk) _ c.decode_beside.result c.decode_beside.ensures.files
+
+pub returns-in-Hash-clause-listed : goal.returns-in-Hash-clause-listed
+returns-in-Hash-clause-listed g c =
+    let at = g.D.Disk.at c.args.disk.now in
+    lists_none at at c.args.task.now (list_of c.args.task.now) c.hash.result (subst (λ (task : Task). ¬ Gathers task) (sym c.in-Hash.is) (λ no. no)) (returns-in-Hash-clause-due g c)
+
+pub returns-in-Encode-clause-listed : goal.returns-in-Encode-clause-listed
+returns-in-Encode-clause-listed g c =
+    let at = g.D.Disk.at c.args.disk.now in
+    lists_none at (g.D.Disk.at c.encode.new.disk) c.args.task.now (list_of c.args.task.now) c.encode.result (subst (λ (task : Task). ¬ Gathers task) (sym c.in-Encode.is) (λ no. no)) (returns-in-Encode-clause-due g c)
+
+pub returns-in-CutSlice-clause-listed : goal.returns-in-CutSlice-clause-listed
+returns-in-CutSlice-clause-listed g c =
+    let at = g.D.Disk.at c.args.disk.now in
+    lists_none at (g.D.Disk.at c.cut_slice.new.disk) c.args.task.now (list_of c.args.task.now) c.cut_slice.result (subst (λ (task : Task). ¬ Gathers task) (sym c.in-CutSlice.is) (λ no. no)) (returns-in-CutSlice-clause-due g c)
+
+pub returns-in-Decode-clause-listed : goal.returns-in-Decode-clause-listed
+returns-in-Decode-clause-listed g c =
+    let at = g.D.Disk.at c.args.disk.now in
+    lists_none at (g.D.Disk.at c.decode.new.disk) c.args.task.now (list_of c.args.task.now) c.decode.result (subst (λ (task : Task). ¬ Gathers task) (sym c.in-Decode.is) (λ no. no)) (returns-in-Decode-clause-due g c)
+
+pub returns-in-DecodeCopy-clause-listed : goal.returns-in-DecodeCopy-clause-listed
+returns-in-DecodeCopy-clause-listed g c =
+    let at = g.D.Disk.at c.args.disk.now in
+    lists_none at (g.D.Disk.at c.decode_beside.new.disk) c.args.task.now (list_of c.args.task.now) c.decode_beside.result (subst (λ (task : Task). ¬ Gathers task) (sym c.in-DecodeCopy.is) (λ no. no)) (returns-in-DecodeCopy-clause-due g c)
+
+pub returns-in-Replay-clause-listed : goal.returns-in-Replay-clause-listed
+returns-in-Replay-clause-listed g c =
+    let at = g.D.Disk.at c.args.disk.now in
+    lists_none at at c.args.task.now (list_of c.args.task.now) c.replay.result (subst (λ (task : Task). ¬ Gathers task) (sym c.in-Replay.is) (λ no. no)) (returns-in-Replay-clause-due g c)
+
+pub returns-in-Gather-clause-listed : goal.returns-in-Gather-clause-listed
+returns-in-Gather-clause-listed g c =
+    let at = g.D.Disk.at c.args.disk.now in
+    let after = g.D.Disk.at c.gather.new.disk in
+    subst (λ (task : Task). IfErr c.gather.result (IsRelisted at after (list_of task))) (sym c.in-Gather.is) c.gather.ensures.listed
+
+pub returns-in-Encode-clause-passed : goal.returns-in-Encode-clause-passed
+returns-in-Encode-clause-passed g c =
+    subst (λ (task : Task). IfPassed c.encode.result ((¬ IsPastOutput task) × ¬ HasManyFiles task)) (sym c.in-Encode.is) (always_passed _ c.encode.result (λ no. no, λ no. no))
+
+pub returns-in-CutSlice-clause-passed : goal.returns-in-CutSlice-clause-passed
+returns-in-CutSlice-clause-passed g c =
+    subst (λ (task : Task). IfPassed c.cut_slice.result ((¬ IsPastOutput task) × ¬ HasManyFiles task)) (sym c.in-CutSlice.is) (always_passed _ c.cut_slice.result (λ no. no, λ no. no))
+
+pub returns-in-Decode-clause-passed : goal.returns-in-Decode-clause-passed
+returns-in-Decode-clause-passed g c =
+    subst (λ (task : Task). IfPassed c.decode.result ((¬ IsPastOutput task) × ¬ HasManyFiles task)) (sym c.in-Decode.is) (always_passed _ c.decode.result (λ no. no, λ no. no))
+
+pub returns-in-DecodeCopy-clause-passed : goal.returns-in-DecodeCopy-clause-passed
+returns-in-DecodeCopy-clause-passed g c =
+    subst (λ (task : Task). IfPassed c.decode_beside.result ((¬ IsPastOutput task) × ¬ HasManyFiles task)) (sym c.in-DecodeCopy.is) (always_passed _ c.decode_beside.result (λ no. no, λ no. no))
+
+pub returns-in-Hash-clause-passed : goal.returns-in-Hash-clause-passed
+returns-in-Hash-clause-passed g c =
+    subst (λ (task : Task). IfPassed c.hash.result ((¬ IsPastOutput task) × ¬ HasManyFiles task)) (sym c.in-Hash.is)
+    (range_passed (¬ (c.in-Hash.at + c.in-Hash.length ≤ 2 ^ 64 - 1)) ⊥ (c.in-Hash.at + c.in-Hash.length ≤ 2 ^ 64 - 1) c.hash.result (λ no. no) (λ fits past. past fits) c.hash.ensures.refused c.hash.ensures.fits)
+
+pub returns-in-Gather-clause-passed : goal.returns-in-Gather-clause-passed
+returns-in-Gather-clause-passed g c =
+    subst (λ (task : Task). IfPassed c.gather.result ((¬ IsPastOutput task) × ¬ HasManyFiles task)) (sym c.in-Gather.is)
+    (subst (λ (files : List (Bor (List ℕ))). IfPassed c.gather.result ((¬ ⊥) × ¬ (64 < length files))) c.as_slice-files.ensures.value
+    (few_passed ⊥ (64 < length c.as_slice-files.result.now) c.gather.result (λ no. no) c.gather.ensures.many))
+
+pub returns-in-Replay-clause-passed : goal.returns-in-Replay-clause-passed
+returns-in-Replay-clause-passed g c =
+    subst (λ (task : Task). IfPassed c.replay.result ((¬ IsPastOutput task) × ¬ HasManyFiles task)) (sym c.in-Replay.is)
+    (subst (λ (files : List (Bor (List ℕ))). IfPassed c.replay.result ((¬ ⊥) × ¬ (64 < length files))) c.as_slice-files-in-Replay.ensures.value
+    (few_passed ⊥ (64 < length c.as_slice-files-in-Replay.result.now) c.replay.result (λ no. no) c.replay.ensures.many))

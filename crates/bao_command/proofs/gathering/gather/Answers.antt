@@ -12,25 +12,23 @@ use Rattle.bao_tasks.specs.declared.gathered_fault.GatheredFault.{GatheredFault}
 use Rattle.bao_tasks.specs.declared.gathered_fault.GatheredFault.TheVariants.{File, Gather, Outboard}
 use Rattle.bao_tasks.specs.declared.gathering.Gathering.{Gathering}
 use Rattle.bao_command.specs.declared.fault.Fault.{Fault}
-use Rattle.bao_tasks.specs.GatheredFaults.{LooksUnfinished}
+use Rattle.bao_command.specs.declared.fault.Fault.TheVariants.{Gather as Ungathered}
+use Rattle.bao_files.specs.declared.fault.FileFault.{FileFault}
+use Rattle.bao_files.specs.declared.fault.FileFault.TheVariants as files
 use Rattle.bao_tasks.specs.Listed.{lines_of_parts}
 use Rattle.bao_tasks.specs.declared.missing.Lack.{Lack}
-use Rattle.bao_tasks.specs.declared.missing.Lack.TheVariants.{Missing, Unasked}
-use Rattle.bao_tasks.specs.declared.missing.MissingParts.{MissingParts}
-use Rattle.bao_tasks.specs.declared.notes.Notes.{Notes}
-use Rattle.bao_command.specs.Effects.{KeepsButList, Lists, PutsBoth}
+use Rattle.bao_command.specs.Effects.{IsRelisted, KeepsButList, Lists, PutsBoth, parts_in}
 use Rattle.bao_command.specs.Printed.{CommandPrints}
 use Rattle.bao_command.specs.Refused.{IsEachBlob, IsRefusedGathering}
 use Rattle.bao_command.specs.Status.{gathered_status_of}
 use Rattle.bao_command.specs.Tasks.{IsBeside, IsNoCapacity, IsOfFile}
 use Rattle.bao_command.specs.Works.{IsRightBlob, LeavesGathered}
-use Rattle.bao_command.proofs.Telling.{file_is_no_usage, file_refuses_none, no_refusal, no_usage, of_file_or, on_line, on_printed, told_prints}
+use Rattle.bao_command.proofs.Telling.{file_is_no_usage, file_refuses_none, no_refusal, no_usage, not_relisted, of_file_or, on_line, on_printed, told_prints}
 use Rattle.bao_command.proofs.Refusals.{check_is_no_usage}
 use Rattle.bao_command.proofs.gathering.gather.Goals as goal
 use Rattle.bao_command.proofs.gathering.gather.Goals.{in-None, in-Some}
 
--- a fault that isn't one of the files has another status than 1
--- of what gathering answers 802 alone is one of the arguments
+-- of the faults of gathering 802 alone is one of the arguments
 gathered_usage : (fault : GatheredFault) → gathered_status_of fault ≡ 2 → fault ≡ Gather gather.Capacity
 gathered_usage (File cause) is = absurd (file_is_no_usage cause is)
 gathered_usage (Outboard cause) is = absurd (check_is_no_usage cause is)
@@ -43,14 +41,7 @@ gathered_usage (Gather gather.NotTheRoot) is = let bad : 1 ≡ 2 = is in absurd 
 gathered_usage (Gather gather.Memory) is = let bad : 4 ≡ 2 = is in absurd (omega arith)
 gathered_usage (Gather gather.Starved) is = let bad : 4 ≡ 2 = is in absurd (omega arith)
 
-unfinished_is_no_usage : gathered_status_of (Gather gather.Unfinished) ≢ 2
-unfinished_is_no_usage is = let bad : 1 ≡ 2 = is in omega arith
-
-no_two : (fault : GatheredFault) (result : Result ℕ GatheredFault) → result ≡ Err fault → gathered_status_of fault ≡ 2 → IsErrOf result (Gather gather.Unfinished) → ⊥
-no_two fault result is two unfinished =
-    let same : fault ≡ Gather gather.Unfinished = cc in
-    unfinished_is_no_usage (subst (λ (f : GatheredFault). gathered_status_of f ≡ 2) same two)
-
+-- a fault that isn't one of the files has another status than 1
 excused_status : (fault : GatheredFault) → IsExcusedGathering fault → gathered_status_of fault ≢ 1
 excused_status (File cause) excused is = file_refuses_none cause is
 excused_status (Outboard cause) excused is = absurd excused
@@ -91,24 +82,18 @@ but_list : (at between after : List ℕ → FileState) (list : Option (Bor (List
 but_list at between after list kept (inl also) = inl (before_put at between after kept also)
 but_list at between after list kept (inr parts) = inr (parts.0, lists_after at between after list (lines_of_parts parts.0) kept parts.1)
 
--- the lines are of some parts
-some_list : (at after : List ℕ → FileState) (list : Option (Bor (List ℕ))) (lack : Lack)
-    → KeepsFiles at after ⊎ ((parts : MissingParts) × (lack ≡ Missing parts) × Lists at after list (lines_of_parts parts.shown.items)) → KeepsButList at after list
+-- the list is of the ranges that are known, or all files are as they were
+some_list : (at after : List ℕ → FileState) (list : Option (Bor (List ℕ))) (lack : Lack) → KeepsFiles at after ⊎ Lists at after list (lines_of_parts (parts_in lack)) → KeepsButList at after list
 some_list at after list lack (inl kept) = inl kept
-some_list at after list lack (inr listed) = inr (listed.0.shown.items, listed.2)
+some_list at after list lack (inr listed) = inr (parts_in lack, listed)
 
--- wrong arguments leave the blob unlooked for
-lack_unasked : (fault : GatheredFault) (result : Result ℕ GatheredFault) (old new : Lack) → result ≡ Err fault → gathered_status_of fault ≡ 2 → old ≡ Unasked
-    → LooksUnfinished result old new → new ≡ Unasked
-lack_unasked fault result old new is two unasked (inl unfinished) = absurd (no_two fault result is two unfinished)
-lack_unasked fault result old new is two unasked (inr (inl same)) = same ∙ unasked
-lack_unasked fault result old new is two unasked (inr (inr none)) = none
-
--- so that nothing is listed
-unlisted : (at after : List ℕ → FileState) (list : Option (Bor (List ℕ))) (lack : Lack) → lack ≡ Unasked
-    → KeepsFiles at after ⊎ ((parts : MissingParts) × (lack ≡ Missing parts) × Lists at after list (lines_of_parts parts.shown.items)) → KeepsFiles at after
-unlisted at after list lack none (inl kept) = kept
-unlisted at after list lack none (inr listed) = let no : Unasked ≡ Missing listed.0 = sym none ∙ listed.1 in absurd cc
+-- it is so after the fault
+relists : (at between after : List ℕ → FileState) (list : Option (Bor (List ℕ))) (lack : Lack) (cause : GatheredFault) (unlisted : Option FileFault) → KeepsFiles at between
+    → (gathered_status_of cause ≢ 2 → unlisted ≡ None → Lists between after list (lines_of_parts (parts_in lack))) → IsRelisted at after list (Ungathered cause unlisted)
+relists at between after list lack cause unlisted kept listed = λ other is apart.
+    let same : cause ≡ other = cc in
+    let none : unlisted ≡ None = cc in
+    (parts_in lack, lists_after at between after list (lines_of_parts (parts_in lack)) kept (listed (subst (λ (f : GatheredFault). gathered_status_of f ≢ 2) (sym same) apart) none))
 
 of_residual : (result : Result Unit Fault) (fault : Fault) → IsErrAnd result (λ e. e ≡ fault) → IsOfFile fault → IfErr result IsOfFile
 of_residual (Ok done) fault is of = tt
@@ -278,7 +263,8 @@ returns-clause-files g c =
           (subst (λ (r : Result ℕ GatheredFault). OnErr r (KeepsFiles at (g.D.Disk.at w.gather_beside_on-gathered.new.disk))) (sym w.gathered-is ∙ c.in-Err.is)
           w.gather_beside_on-gathered.ensures.kept)
     ] in
-    inl (but_list at between (g.D.Disk.at c.list_lack.new.disk) c.args.paths.list kept (some_list between (g.D.Disk.at c.list_lack.new.disk) c.args.paths.list _ c.list_lack.ensures))
+    let after = g.D.Disk.at c.relist-unlisted.new.disk in
+    inl (but_list at between after c.args.paths.list kept (some_list between after c.args.paths.list c.match-paths.notes.lack c.relist-unlisted.ensures.kept))
 
 pub returns-clause-refused : goal.returns-clause-refused
 returns-clause-refused g c = λ one.
@@ -315,7 +301,7 @@ pub returns-clause-usage : goal.returns-clause-usage
 returns-clause-usage g c = λ two.
     let at = g.D.Disk.at c.args.disk.now in
     let between = g.D.Disk.at c.match-paths.disk in
-    let after = g.D.Disk.at c.list_lack.new.disk in
+    let after = g.D.Disk.at c.relist-unlisted.new.disk in
     let kept : KeepsFiles at between = elim c.match-paths.branch [
       | in-None w ↦
           subst (λ d. KeepsFiles at (g.D.Disk.at d)) (sym w.disk-is)
@@ -325,15 +311,33 @@ returns-clause-usage g c = λ two.
           (subst (λ (r : Result ℕ GatheredFault). OnErr r (KeepsFiles at (g.D.Disk.at w.gather_beside_on-gathered.new.disk))) (sym w.gathered-is ∙ c.in-Err.is)
           w.gather_beside_on-gathered.ensures.kept)
     ] in
-    let unasked : c.match-paths.notes.lack ≡ Unasked = elim c.match-paths.branch [
+    before_put at between after kept (c.relist-unlisted.ensures.usage two)
+
+pub returns-clause-listed : goal.returns-clause-listed
+returns-clause-listed g c =
+    let at = g.D.Disk.at c.args.disk.now in
+    let between = g.D.Disk.at c.match-paths.disk in
+    let kept : KeepsFiles at between = elim c.match-paths.branch [
       | in-None w ↦
-          subst (λ (n : Notes). n.lack ≡ Unasked) (sym w.notes-is)
-          (lack_unasked c.in-Err.fault w.gather_on-gathered.result _ _ (sym w.gathered-is ∙ c.in-Err.is) two c.in-Ok.ensures.lack w.gather_on-gathered.ensures.looked)
+          subst (λ d. KeepsFiles at (g.D.Disk.at d)) (sym w.disk-is)
+          (subst (λ (r : Result ℕ GatheredFault). OnErr r (KeepsFiles at (g.D.Disk.at w.gather_on-gathered.new.disk))) (sym w.gathered-is ∙ c.in-Err.is) w.gather_on-gathered.ensures.kept)
       | in-Some w ↦
-          subst (λ (n : Notes). n.lack ≡ Unasked) (sym w.notes-is)
-          (lack_unasked c.in-Err.fault w.gather_beside_on-gathered.result _ _ (sym w.gathered-is ∙ c.in-Err.is) two c.in-Ok.ensures.lack w.gather_beside_on-gathered.ensures.looked)
+          subst (λ d. KeepsFiles at (g.D.Disk.at d)) (sym w.disk-is)
+          (subst (λ (r : Result ℕ GatheredFault). OnErr r (KeepsFiles at (g.D.Disk.at w.gather_beside_on-gathered.new.disk))) (sym w.gathered-is ∙ c.in-Err.is)
+          w.gather_beside_on-gathered.ensures.kept)
     ] in
-    before_put at between after kept (unlisted between after c.args.paths.list c.match-paths.notes.lack unasked c.list_lack.ensures)
+    relists at between (g.D.Disk.at c.relist-unlisted.new.disk) c.args.paths.list c.match-paths.notes.lack c.in-Err.fault c.relist-unlisted.result kept c.relist-unlisted.ensures.lists
+
+pub returns-in-Ok-gathered-clause-listed : goal.returns-in-Ok-gathered-clause-listed
+returns-in-Ok-gathered-clause-listed g c =
+    not_relisted (g.D.Disk.at c.args.disk.now) (g.D.Disk.at c.list_nothing.new.disk) c.args.paths.list c.told.result c.told.ensures.file
+
+pub returns-in_err-list_nothing-in-Ok-gathered-clause-listed : goal.returns-in_err-list_nothing-in-Ok-gathered-clause-listed
+returns-in_err-list_nothing-in-Ok-gathered-clause-listed g c =
+    let quiet = c.in_err-list_nothing-in-Ok-gathered.ensures.quiet in
+    let result : Result Unit Fault = c.from_residual-in_err-list_nothing-in-Ok-gathered.result in
+    not_relisted (g.D.Disk.at c.args.disk.now) (g.D.Disk.at c.list_nothing.new.disk) c.args.paths.list result
+    (of_residual result _ c.from_residual-in_err-list_nothing-in-Ok-gathered.ensures.1 (quiet.0, quiet.1))
 
 pub returns-in-Ok-gathered-clause-due : goal.returns-in-Ok-gathered-clause-due
 returns-in-Ok-gathered-clause-due g c = of_file_or _ c.told.result c.told.ensures.file
@@ -347,6 +351,7 @@ returns-in_err-list_nothing-in-Ok-gathered-clause-due g c =
 pub returns-clause-due : goal.returns-clause-due
 returns-clause-due g c = inr (inr (inr (
   c.in-Err.fault,
+  c.relist-unlisted.result,
   refl,
   λ two.
       let capacity : Err c.in-Err.fault ≡ Err (Gather gather.Capacity) = ap (λ (f : GatheredFault). Err f) (gathered_usage c.in-Err.fault two) in
