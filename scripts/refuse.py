@@ -255,8 +255,8 @@ class Case:
         if ended.beside:
             return False
         if fault.call == "malloc":
-            if is_told_for_less(whole.complaint, ended.complaint):
-                return dataclasses.replace(ended, complaint=whole.complaint) == whole
+            if is_told_for_less(whole.complaint, ended.complaint) and dataclasses.replace(ended, complaint=whole.complaint) == whole:
+                return True
             return self.is_of_memory(ended) or is_unlisted(whole, ended)
         if fault.call == "pthread_create" or fault.how in HARMLESS:
             return ended == whole
@@ -268,9 +268,12 @@ class Case:
         gone = lambda file: file in self.files and file not in WRITTEN and file not in unformed
         changes = frozenset((file, int(byte) if ends_early else None) for byte, file in met if gone(file) and not is_end(byte, file))
         is_again = self.is_placed and fault.call == "open" and all(file in self.files and file not in WRITTEN for _, file in met)
-        if unreasoned(ended) == unreasoned(whole) and (is_again or fault.call in AVOIDABLE_CALLS or fault.how in AVOIDABLE):
-            return True
         places = {file for _, file in met}
+        # What is asked of a FILE may not matter, or matter for its form alone.
+        avoided = [whole, self.ending(unformed=frozenset(self.formless() & places))] if fault.call == "statx" else [whole]
+        is_avoidable = is_again or fault.call in AVOIDABLE_CALLS or fault.how in AVOIDABLE
+        if is_avoidable and any(unreasoned(ended) == unreasoned(it) for it in avoided):
+            return True
         if self.is_placed and fault.call == "pread":
             # A FILE that could be opened and read gives nothing where a read of it fails, and by that it is counted.
             emptied = frozenset((file, 0) for file, _ in changes)
@@ -278,11 +281,10 @@ class Case:
             is_more = is_list_of_more(whole.listed, ended.listed)
             wanted = [dataclasses.replace(it, listed=ended.listed) if is_more and it.status == 1 else it for it in (whole, self.ending(changes), self.ending(emptied))]
             return any(self.is_ending(it, places, ended, TOLD) for it in wanted)
-        # What is asked of a FILE may not matter, where it does for OUT, or matter for its form alone.
-        wanted = [self.ending(changes, unformed), *([whole] if fault.call in AVOIDABLE_CALLS else [])]
-        wanted += [self.ending(unformed=frozenset(self.formless() & {file for _, file in met}))] if fault.call == "statx" else []
+        # What is asked of a FILE may not matter, where it does for OUT.
+        wanted = [self.ending(changes, unformed), *(avoided if fault.call in AVOIDABLE_CALLS else [])]
         told = TOLD if LIST in places else None
-        return self.is_changed(fault, met, ended) or any(self.is_ending(it, places, ended, told) for it in wanted)
+        return self.is_changed(fault, met, ended) or any(self.is_ending(it, places, ended, told, fault.call in AVOIDABLE_CALLS) for it in wanted)
 
     def is_changed(self, fault, met, ended):
         """A file couldn't be read again, or had changed. Of the two that a slice is cut out of together the copy is told."""
@@ -302,20 +304,21 @@ class Case:
         listed = [KEPT, b""] if "--missing" in self.words else [KEPT]
         return ended.status == 4 and not ended.printed and complaint in self.memory and ended.out in left and ended.listed in listed
 
-    def is_ending(self, wanted, places, ended, apart=None):
-        """It ended so, but for what a call on one of these places took away, for the system's reasons, and for what is told apart from that."""
+    def is_ending(self, wanted, places, ended, apart=None, is_avoidable=False):
+        """It ended so, but for what a call on one of these places took away, for the system's reasons, and for what is told apart from that. A call that can be
+        avoided may have taken nothing from the list."""
         if STDERR not in places:
             wanted, ended = unreasoned(wanted), unreasoned(ended)
         if apart:
             wanted, ended = (dataclasses.replace(it, complaint=apart.sub(b"", it.complaint)) for it in (wanted, ended))
         status, printed, complaint, out = wanted.status, [wanted.printed], wanted.complaint, ended.out == wanted.out
         # What can't be written is as it was. OUT is in place before the list is made; where it can't be, the list is empty, as after a success.
-        listed = KEPT if LIST in places else wanted.listed
-        out = out and ended.listed == listed
+        is_listed = ended.listed == (KEPT if LIST in places else wanted.listed) or is_avoidable and ended.listed == wanted.listed
+        out = out and is_listed
         if status == 0 and places & {*WRITTEN}:
             place = OUT if OUT in places else LIST
             status, printed, complaint = 3, [b""], complaint + f"bao_gather: cannot write {place}\n".encode()
-            out = (ended.out, ended.listed) == (KEPT if place == OUT else wanted.out, listed)
+            out = ended.out == (KEPT if place == OUT else wanted.out) and is_listed
         elif status == 0 and STDOUT in places:
             printed = [wanted.printed[:k] for k in range(len(wanted.printed))]
             status, complaint = 3, complaint + b"bao_gather: cannot write output\n"
@@ -329,9 +332,10 @@ def unreasoned(ended):
 
 
 def is_unlisted(wanted, got):
-    """Whether this is the wanted ending, but for a list that isn't written for want of memory."""
+    """Whether this is the wanted ending, but for a list that isn't written for want of memory, or is empty, since without memory it isn't known what is missing."""
     told = UNLISTED.sub(b"", got.complaint)
-    return told != got.complaint and dataclasses.replace(got, complaint=told) == dataclasses.replace(wanted, listed=KEPT)
+    listed = b"" if told == got.complaint else KEPT
+    return wanted.listed != KEPT and dataclasses.replace(got, complaint=told) == dataclasses.replace(wanted, listed=listed)
 
 
 def is_list_of_more(wanted, got):

@@ -15,6 +15,7 @@ command, by whatever name: then all stays as it was.
 Prints a line for each row and task, with what was wrong, and last 'N passed, M failed'. The exit status is 1 where one failed.
 """
 import argparse
+import errno
 import os
 import shutil
 import subprocess
@@ -98,6 +99,8 @@ class Row:
     written: tuple = ("out",)
     removed: tuple = ()
     mode: int = 0o644
+    # The error of the system that `--verbose` tells, with the path of OUT.
+    reason: int = 0
 
 
 # The names beside OUT, and files that killed runs left there.
@@ -120,12 +123,12 @@ ROWS = [
     Row("a download beside it", "out", {"out": KEPT, "out.part": b"somebody's"}),
     Row("a link beside it", "out", {"out": KEPT, "other": OTHER}, {BESIDE[0]: "other"}),
     Row("what was left is a FILE", "out", {"out": KEPT, BESIDE[0]: ENCODED}, tasks=(f"gather {ROOT} OUT {BESIDE[0]}",)),
-    Row("all names beside it are taken", "out", {"out": KEPT}, folders=BESIDE, fault=CANNOT, written=()),
+    Row("all names beside it are taken", "out", {"out": KEPT}, folders=BESIDE, fault=CANNOT, written=(), reason=errno.EEXIST),
     Row("the longest name", LONGEST, {LONGEST: KEPT}, written=(LONGEST,)),
-    Row("a name that is too long", LONGEST + "o", fault=CANNOT, written=()),
-    Row("a folder", "out", folders=("out",), fault=CANNOT, written=()),
-    Row("in no folder", "nowhere/out", fault=CANNOT, written=()),
-    Row("a full device", "/dev/full", fault=CANNOT, written=()),
+    Row("a name that is too long", LONGEST + "o", fault=CANNOT, written=(), reason=errno.ENAMETOOLONG),
+    Row("a folder", "out", folders=("out",), fault=CANNOT, written=(), reason=errno.EISDIR),
+    Row("in no folder", "nowhere/out", fault=CANNOT, written=(), reason=errno.ENOENT),
+    Row("a full device", "/dev/full", fault=CANNOT, written=(), reason=errno.ENOSPC),
     Row("a device", "/dev/null", written=()),
     Row("one of the files, to gather", "blob.bao", tasks=(GATHER,), written=("blob.bao",)),
     Row("one of the files, to gather, under another name", "out", links={"out": "blob.bao"}, tasks=(GATHER,), written=("blob.bao",)),
@@ -185,16 +188,21 @@ def run(program, folder, words, out, **how):
     return subprocess.run([program, *given], cwd=folder, stdin=subprocess.DEVNULL, capture_output=True, text=True, timeout=HELD, **how)
 
 
-def tried(program, row, words):
+def tried(program, row, words, is_verbose=False):
     """Does a task with this OUT, and answers what was wrong."""
     with tempfile.TemporaryDirectory(prefix="replaced-") as folder:
         lay_out(folder, row)
         before = found(folder)
-        ran = run(program, folder, words, row.out)
+        ran = run(program, folder, words.replace(" ", " --verbose ", 1) if is_verbose else words, row.out)
         wrong = differences(before, found(folder), row, words)
     fault = f"bao_gather: {row.fault.format(out=row.out)}\n" if row.fault else ""
     status = 0 if not fault else 3 if row.fault == CANNOT else 2 if row.fault == IS_READ else 1
-    got, wanted = (ran.returncode, ran.stderr), (status, fault)
+    told = ran.stderr
+    if is_verbose:
+        # What is told of each FILE comes before.
+        fault = f"bao_gather: {row.out}: {os.strerror(row.reason)} (os error {row.reason})\n{fault}"
+        told = "".join(told.splitlines(True)[-2:])
+    got, wanted = (ran.returncode, told), (status, fault)
     return wrong + ([f"{got} in place of {wanted}"] if got != wanted else [])
 
 
@@ -398,13 +406,14 @@ def owned(program):
             os.chown(f"{folder}/out", owner, owner)
             shutil.copy(program, f"{folder}/program")
             os.chmod(f"{folder}/program", 0o755)
-            ran = run("./program", folder, GATHER, "out", user=runs_as, group=runs_as, extra_groups=[])
+            ran = run("./program", folder, GATHER.replace(" ", " --verbose ", 1), "out", user=runs_as, group=runs_as, extra_groups=[])
             after = os.stat(f"{folder}/out")
             with open(f"{folder}/out", "rb") as it:
                 got = (ran.returncode, after.st_uid, after.st_gid, after.st_mode & 0o7777, it.read() == BLOB, any(".part" in it for it in os.listdir(folder)))
             done = wanted is not None
-            if got != (0 if done else 3, wanted if done else owner, wanted if done else owner, mode, done, False):
-                wrong.append(f"{owner}, {mode:o}, as {runs_as}: {got}")
+            told = "" if done else f"bao_gather: out: {os.strerror(errno.EACCES)} (os error {errno.EACCES})\nbao_gather: cannot write out\n"
+            if got != (0 if done else 3, wanted if done else owner, wanted if done else owner, mode, done, False) or not ran.stderr.endswith(told):
+                wrong.append(f"{owner}, {mode:o}, as {runs_as}: {got}, {ran.stderr!r}")
     return wrong
 
 
@@ -414,7 +423,8 @@ def main():
     asked.add_argument("program", nargs="?", default="out/bao_gather", metavar="PROGRAM", help="the built bao_gather (out/bao_gather)")
     asked = asked.parse_args()
     program = os.path.abspath(asked.program)
-    trials = [(f"{row.name}: {words.replace(ROOT, 'ROOT')}", lambda row=row, words=words: tried(program, row, words)) for row in ROWS for words in row.tasks]
+    rows = [(row, words, is_verbose) for row in ROWS for words in row.tasks for is_verbose in ((False, True) if row.reason else (False,))]
+    trials = [(f"{row.name}: {words.replace(ROOT, 'ROOT')}{' --verbose' * more}", lambda it=(row, words, more): tried(program, *it)) for row, words, more in rows]
     trials += [("an open file", lambda: through_descriptor(program)), ("a pipe", lambda: into_pipe(program))]
     trials += [("standard output", lambda: onto_output(program)), ("a file that is read", lambda: onto_read(program)), ("the list", lambda: onto_list(program))]
     trials += [("killed runs", lambda: killed(program)), ("owner and group", lambda: owned(program)), ("two runs at a time", lambda: two_at_a_time(program))]

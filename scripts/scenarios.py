@@ -711,11 +711,18 @@ class Programs:
         number = errno.EISDIR if file in self.FOLDERS else errno.ENOENT
         return f"{os.strerror(number)} (os error {number})"
 
+    def unwritten(self, options, file):
+        """What --verbose reports of a file that can't be written."""
+        number = errno.ENOSPC if file == "/dev/full" else errno.ENOENT
+        return [f"{file}: {os.strerror(number)} (os error {number})"] if "--verbose" in options else []
+
     def why(self, name, options, given, fault):
-        """What is told with --verbose of a file that can't be read. Of the files of a gathering it is told where they are left out."""
-        file = fault.removeprefix("cannot read ")
-        is_told = name == "gather" and file in given[2:] or name not in ("cut-slice", "decode", "decode-slice", "gather")
-        return [f"{file}: {self.reason_of(file)}"] if "--verbose" in options and file != fault and not is_told else []
+        """What --verbose reports of a file that can't be read or written. For the FILEs of gather and its OUT that is reported before."""
+        did, _, file = fault.rpartition(" ")
+        if did == "cannot write" and not (name == "gather" and file == given[1]):
+            return self.unwritten(options, file)
+        is_told = did != "cannot read" or name == "gather" and file in given[2:]
+        return [f"{file}: {self.reason_of(file)}"] if "--verbose" in options and not is_told else []
 
     def check_out(self, name, options, given):
         """Refuses an OUT that is read, but for the files that are gathered."""
@@ -966,7 +973,7 @@ class Programs:
         try:
             self.write(out, bao.combined(mode, answer) if "--encode" in options else answer)
         except Refused:
-            self.told += self.listed(options, [])
+            self.told += [*self.unwritten(options, out), *self.listed(options, [])]
             raise
         if "--missing" in options:
             self.write(options["--missing"], b"")
@@ -979,7 +986,7 @@ class Programs:
                 self.write(options["--missing"], b"".join(b"%d %d\n" % (first, after - first) for first, after in parts))
             return []
         except Refused as fault:
-            return [f"{options['--missing']}: left as it is: {fault}"]
+            return [*self.unwritten(options, options["--missing"]), f"{options['--missing']}: left as it is: {fault}"]
 
     # The most parts that are shown of what is missing, and what is told where none has the end, and where nothing is under the root.
     MOST_SHOWN = 8
@@ -1453,7 +1460,7 @@ def examples():
     part = text("slice", bao.slice_text(mode, blob, 70_000, 1_000))
     encoding = bao.combined(mode, blob)
     first_copy = bytes(byte ^ (at == 10_000) for at, byte in enumerate(encoding))
-    _, lacking = Programs().lack(mode, root, None, [first_copy], GROUP_LEN)
+    *_, lacking = Programs().lack(mode, root, None, [first_copy], GROUP_LEN)
     schedule = b"claim 1 0 1\nhash 1 0 0 1000\nfill 1 0\npublish 1 0\nload 2 1000 5\n"
     return [
         f"hash: {root.hex()}",

@@ -12,7 +12,7 @@ HEADER = "c/berylwool.h"
 NEVER = ("802 capacity", "505 reader", "line N: 504 memory", "line N: 505 reader")
 FAULT = re.compile(r"^pub (?:enum|struct) (\w+)(?:<[^>]*>)?[^\n]*?(?:\{\n(.*?)^\}|;)", re.M | re.S)
 VARIANT = re.compile(r'((?:^ *///[^\n]*\n)+)(?:^ *#\[error\("((?:[^"\\]|\\.)*)"\)\]\n)?^ *(?:pub )?(\w+)(?:[({:]([^\n]*))?', re.M)
-STATUS = re.compile(r"^ *(?:pub )?fn (\w*status)\((?:self|fault: (\w+)[^)]*)\) -> u8.*?^ *match \w+ \{\n(.*?)^ *\}$", re.M | re.S)
+STATUS = re.compile(r"^ *(?:pub(?:\(crate\))? )?fn (\w*status)\((?:self|fault: (\w+)[^)]*)\) -> u8.*?^ *match \w+ \{\n(.*?)^ *\}$", re.M | re.S)
 ARM = re.compile(r"((?:\s*\|?\s*\w+::\w+(?: \{[^}]*\}|\([^)]*\))?)+) => (\w+)")
 BW = re.compile(r"^\s*(BW_\w+) = (\d+),?\s*(?:/\*+<? ?(.*?) ?\*/)?$", re.M | re.S)
 

@@ -1,5 +1,5 @@
 -- Why a fault is due.
-use Rattle.std.proofs.Common.{◌≡◌, ◌⊎◌, ◌≤◌, ◌<◌, ◌+◌, ◌-◌, ◌^◌, ◌∙◌, ℕ, List, Bor, Option, None, IfErr, IsErrAnd, Result, Ok, Err, inl, inr, refl, sym, subst}
+use Rattle.std.proofs.Common.{◌≡◌, ◌⊎◌, ◌≤◌, ◌<◌, ◌+◌, ◌-◌, ◌^◌, ◌∙◌, ℕ, List, Bor, Option, None, false, IfErr, IsErrAnd, Result, Ok, Err, inl, inr, refl, sym, subst}
 use Rattle.bao_decode.specs.declared.decode_fault.DecodeFault.{DecodeFault}
 use Rattle.bao_files.specs.Disks.{FileState}
 use Rattle.bao_files.specs.Printed.{IsDigits}
@@ -72,7 +72,7 @@ replay_due at task NoRoot Many Bad (Err fault) root many replays bad (inr (inr (
 
 -- no fault of another task is one of gathering
 abbrev asked : Task → Request
-asked task = record { key = None; key_file = None; context = None; task = task }
+asked task = record { key = None; key_file = None; context = None; verbose = false; task = task }
 
 pub lists_none : (at after : List ℕ → FileState) (task : Task) (list : Option (Bor (List ℕ))) (result : Result Unit Fault) → ¬ Gathers task → IfErr result (IsDueFor at task)
     → IfErr result (IsRelisted at after list)

@@ -85,6 +85,7 @@ HaveCopy at files grain blob = IsInFile at files blob ⊎ HaveBytes (IsInFile at
 
 -- No blob came together: on a disk without faults, where it is known what is at OUT, the files don't have the combined encoding of a blob with this root
 -- that has room; or where an outboard encoding is named that is such a blob's own, they don't have its bytes. Or a collision is exhibited, from one of the files.
+-- This is about files that are all known: what comes from a file whose bytes aren't known may be any slice, so also one that collides.
 abbrev pub IsRefusedGathering : Type 0 → (List ℕ → FileState) → Mode → Grain → Bool → Bool → ℕ → Option (Bor (List ℕ)) → List (Bor (List ℕ)) → List ℕ → Root32 → Type 0
 IsRefusedGathering sure at mode grain encode long capacity None files out root =
     sure → IsKnown (at out) → (blob : List ℕ) → IsBlob (fixed_as root mode capacity) blob → HasPlace encode long capacity (length blob)
@@ -103,10 +104,10 @@ IsRefusedReplay at mode digits capacity script files =
 abbrev pub IsRefused : Type 0 → (List ℕ → FileState) → Mode → Task → Type 0
 IsRefused sure at mode (Hash from length file) = ⊥
 IsRefused sure at mode (Encode encoding file out) = ⊥
-IsRefused sure at mode (CutSlice root start len outboard verbose file out) = OfDigits root.now (IsRefusedCut at mode start len outboard file.now out.now)
-IsRefused sure at mode (Decode root part verbose file out) = OfDigits root.now (IsRefusedText at mode part file.now out.now)
-IsRefused sure at mode (DecodeCopy root outboard verbose copy out) = OfDigits root.now (IsRefusedCopy at mode outboard.now copy.now out.now)
-IsRefused sure at mode (Gather root workers capacity long outboard salvage encode verbose missing files out) =
+IsRefused sure at mode (CutSlice root start len outboard file out) = OfDigits root.now (IsRefusedCut at mode start len outboard file.now out.now)
+IsRefused sure at mode (Decode root part file out) = OfDigits root.now (IsRefusedText at mode part file.now out.now)
+IsRefused sure at mode (DecodeCopy root outboard copy out) = OfDigits root.now (IsRefusedCopy at mode outboard.now copy.now out.now)
+IsRefused sure at mode (Gather root workers capacity long outboard salvage encode missing files out) =
     OfRoot root.now (IsRefusedGathering sure at mode (if salvage then ByChunk else ByGroup) encode long capacity outboard files.items out.now)
 IsRefused sure at mode (Replay root capacity script files) = IsRefusedReplay at mode root.now capacity script.now files.items
 
@@ -114,7 +115,7 @@ IsRefused sure at mode (Replay root capacity script files) = IsRefusedReplay at 
 abbrev pub IsRefusedFor : Type 0 → (List ℕ → FileState) → Request → Type 0
 IsRefusedFor sure at request = (mode : Mode) × HasMode at request mode × IsRefused sure at mode request.task
 
--- A collision is exhibited, from one of the files; or beside the outboard encoding that is named.
+-- A collision is exhibited, from one of the files; or beside the outboard encoding that is named. This, too, is about files that are all known.
 abbrev pub Collides : Fixed → ℕ → (List ℕ → FileState) → Option (Bor (List ℕ)) → List (Bor (List ℕ)) → List ℕ → Type 0
 Collides fixed capacity at None files blob = HasCollision (IsFromFile Slices capacity at files) fixed blob
 Collides fixed capacity at (Some outboard) files blob = CollidesBesideOutline fixed capacity at outboard.now files blob
@@ -131,10 +132,10 @@ IsEachBlob sure at after mode encode capacity outboard files out list old new ro
 abbrev pub IsBlobOf : Type 0 → (List ℕ → FileState) → (List ℕ → FileState) → Mode → Task → Option (List ℕ) → Option (List ℕ) → Type 0
 IsBlobOf sure at after mode (Hash from length file) old new = Unit {0}
 IsBlobOf sure at after mode (Encode encoding file out) old new = Unit {0}
-IsBlobOf sure at after mode (CutSlice root start len outboard verbose file out) old new = Unit {0}
-IsBlobOf sure at after mode (Decode root part verbose file out) old new = Unit {0}
-IsBlobOf sure at after mode (DecodeCopy root outboard verbose copy out) old new = Unit {0}
-IsBlobOf sure at after mode (Gather root workers capacity long outboard salvage encode verbose missing files out) old new =
+IsBlobOf sure at after mode (CutSlice root start len outboard file out) old new = Unit {0}
+IsBlobOf sure at after mode (Decode root part file out) old new = Unit {0}
+IsBlobOf sure at after mode (DecodeCopy root outboard copy out) old new = Unit {0}
+IsBlobOf sure at after mode (Gather root workers capacity long outboard salvage encode missing files out) old new =
     OfRoot root.now (IsEachBlob sure at after mode encode capacity outboard files.items out.now missing old new)
 IsBlobOf sure at after mode (Replay root capacity script files) old new = Unit {0}
 

@@ -38,18 +38,18 @@ part_line part bytes = ok_line (written_count part bytes)
 abbrev pub line_of : Mode → Task → List ℕ → List ℕ
 line_of mode (Hash at length file) bytes = digits_line (stream mode bytes at length)
 line_of mode (Encode encoding file out) bytes = digits_line (hash mode bytes)
-line_of mode (CutSlice root start len outboard verbose file out) bytes = part_line (Slice start len) bytes
-line_of mode (Decode root part verbose file out) bytes = part_line part bytes
-line_of mode (DecodeCopy root outboard verbose copy out) bytes = ok_line (length bytes)
-line_of mode (Gather root workers capacity long outboard salvage encode verbose missing files out) bytes = ok_line (length bytes)
+line_of mode (CutSlice root start len outboard file out) bytes = part_line (Slice start len) bytes
+line_of mode (Decode root part file out) bytes = part_line part bytes
+line_of mode (DecodeCopy root outboard copy out) bytes = ok_line (length bytes)
+line_of mode (Gather root workers capacity long outboard salvage encode missing files out) bytes = ok_line (length bytes)
 line_of mode (Replay root capacity script files) bytes = bytes
 
 -- the task's root, where it has one, is 64 hexadecimal digits
 abbrev pub HasRoot : Task → Type 0
-HasRoot (CutSlice root start len outboard verbose file out) = IsDigits root.now
-HasRoot (Decode root part verbose file out) = IsDigits root.now
-HasRoot (DecodeCopy root outboard verbose copy out) = IsDigits root.now
-HasRoot (Gather root workers capacity long outboard salvage encode verbose missing files out) = IsDigits root.now
+HasRoot (CutSlice root start len outboard file out) = IsDigits root.now
+HasRoot (Decode root part file out) = IsDigits root.now
+HasRoot (DecodeCopy root outboard copy out) = IsDigits root.now
+HasRoot (Gather root workers capacity long outboard salvage encode missing files out) = IsDigits root.now
 HasRoot (Replay root capacity script files) = IsDigits root.now
 HasRoot task = Unit {0}
 
@@ -63,7 +63,7 @@ IsListAt out None = ⊥
 IsListAt out (Some list) = (list.now ≡ out) ⊎ (¬ IsNoOutput list.now)
 
 abbrev pub ListClashes : Task → Type 0
-ListClashes (Gather root workers capacity long outboard salvage encode verbose missing files out) = IsListAt out.now missing
+ListClashes (Gather root workers capacity long outboard salvage encode missing files out) = IsListAt out.now missing
 ListClashes task = ⊥
 
 -- a file is named, by this path
@@ -81,7 +81,7 @@ IsListRead key_file outboard files None = ⊥
 IsListRead key_file outboard files (Some list) = IsPathAmong list.now files ⊎ IsNamed list.now outboard ⊎ IsNamed list.now key_file
 
 abbrev pub ReadsListOf : Option (Bor (List ℕ)) → Task → Type 0
-ReadsListOf key_file (Gather root workers capacity long outboard salvage encode verbose missing files out) = IsListRead key_file outboard files.items missing
+ReadsListOf key_file (Gather root workers capacity long outboard salvage encode missing files out) = IsListRead key_file outboard files.items missing
 ReadsListOf key_file task = ⊥
 
 abbrev pub ReadsList : Request → Type 0
@@ -95,10 +95,10 @@ ReadsOne such key_file outboard file =
 -- OUT is so related to a file that the task reads, but for the files that are gathered: one of them may be repaired.
 abbrev pub ReadsOutAs : (List ℕ → List ℕ → Type 0) → Option (Bor (List ℕ)) → Task → Type 0
 ReadsOutAs related key_file (Encode encoding file out) = ReadsOne (related out.now) key_file None (Some file)
-ReadsOutAs related key_file (CutSlice root start len outboard verbose file out) = ReadsOne (related out.now) key_file outboard (Some file)
-ReadsOutAs related key_file (Decode root part verbose file out) = ReadsOne (related out.now) key_file None (Some file)
-ReadsOutAs related key_file (DecodeCopy root outboard verbose copy out) = ReadsOne (related out.now) key_file (Some outboard) (Some copy)
-ReadsOutAs related key_file (Gather root workers capacity long outboard salvage encode verbose missing files out) = ReadsOne (related out.now) key_file outboard None
+ReadsOutAs related key_file (CutSlice root start len outboard file out) = ReadsOne (related out.now) key_file outboard (Some file)
+ReadsOutAs related key_file (Decode root part file out) = ReadsOne (related out.now) key_file None (Some file)
+ReadsOutAs related key_file (DecodeCopy root outboard copy out) = ReadsOne (related out.now) key_file (Some outboard) (Some copy)
+ReadsOutAs related key_file (Gather root workers capacity long outboard salvage encode missing files out) = ReadsOne (related out.now) key_file outboard None
 ReadsOutAs related key_file task = ⊥
 
 -- OUT has the name of such a file
@@ -108,10 +108,10 @@ ReadsOut request = ReadsOutAs (λ ours theirs. ours ≡ theirs) request.key_file
 -- what the task writes to a file doesn't go where its line is printed
 abbrev pub WritesApart : Task → Type 0
 WritesApart (Encode encoding file out) = IsNoOutput out.now
-WritesApart (CutSlice root start len outboard verbose file out) = IsNoOutput out.now
-WritesApart (Decode root part verbose file out) = IsNoOutput out.now
-WritesApart (DecodeCopy root outboard verbose copy out) = IsNoOutput out.now
-WritesApart (Gather root workers capacity long outboard salvage encode verbose missing files out) = IsNoOutput out.now
+WritesApart (CutSlice root start len outboard file out) = IsNoOutput out.now
+WritesApart (Decode root part file out) = IsNoOutput out.now
+WritesApart (DecodeCopy root outboard copy out) = IsNoOutput out.now
+WritesApart (Gather root workers capacity long outboard salvage encode missing files out) = IsNoOutput out.now
 WritesApart task = Unit {0}
 
 -- nor to the file that the list goes to, which isn't where the line is printed either, and isn't read; nor to one that is read
@@ -125,22 +125,22 @@ IsPastOutput task = ⊥
 
 -- A blob of any length is asked for, and a capacity that isn't the one that counts where none is given, or an encoding in its place.
 abbrev pub IsMixed : Task → Type 0
-IsMixed (Gather root workers capacity long outboard salvage encode verbose missing files out) = (long ≡ true) × ((capacity ≢ 65536) ⊎ (encode ≡ true))
+IsMixed (Gather root workers capacity long outboard salvage encode missing files out) = (long ≡ true) × ((capacity ≢ 65536) ⊎ (encode ≡ true))
 IsMixed task = ⊥
 
 -- the task has more than 64 files
 abbrev pub HasManyFiles : Task → Type 0
-HasManyFiles (Gather root workers capacity long outboard salvage encode verbose missing files out) = 64 < length files.items
+HasManyFiles (Gather root workers capacity long outboard salvage encode missing files out) = 64 < length files.items
 HasManyFiles (Replay root capacity script files) = 64 < length files.items
 HasManyFiles task = ⊥
 
 -- the file OUT that a task writes to, if it has one
 abbrev pub out_of : Task → Option (Bor (List ℕ))
 out_of (Encode encoding file out) = Some out
-out_of (CutSlice root start len outboard verbose file out) = Some out
-out_of (Decode root part verbose file out) = Some out
-out_of (DecodeCopy root outboard verbose copy out) = Some out
-out_of (Gather root workers capacity long outboard salvage encode verbose missing files out) = Some out
+out_of (CutSlice root start len outboard file out) = Some out
+out_of (Decode root part file out) = Some out
+out_of (DecodeCopy root outboard copy out) = Some out
+out_of (Gather root workers capacity long outboard salvage encode missing files out) = Some out
 out_of task = None
 
 -- two names lead to one file: where it is known what is at both, they are the same
@@ -155,7 +155,7 @@ LeadsToOther at out outboard key_file files (Some list) =
     ⊎ IsSomeAnd key_file (λ named. IsLedTo at list.now named.now) ⊎ ((k : ℕ) × (k < length files) × HoldsAt (λ file. IsLedTo at list.now file.now) files k)
 
 abbrev pub LeadsListTo : (List ℕ → FileState) → Option (Bor (List ℕ)) → Task → Type 0
-LeadsListTo at key_file (Gather root workers capacity long outboard salvage encode verbose missing files out) =
+LeadsListTo at key_file (Gather root workers capacity long outboard salvage encode missing files out) =
     LeadsToOther at out.now outboard key_file files.items missing
 LeadsListTo at key_file task = ⊥
 
@@ -165,7 +165,7 @@ IsNoCapacity capacity = (capacity ≡ 0) ⊎ (65536 < capacity)
 
 -- the task's capacity is such a one
 abbrev pub HasNoCapacity : Task → Type 0
-HasNoCapacity (Gather root workers capacity long outboard salvage encode verbose missing files out) = IsNoCapacity capacity
+HasNoCapacity (Gather root workers capacity long outboard salvage encode missing files out) = IsNoCapacity capacity
 HasNoCapacity (Replay root capacity script files) = IsNoCapacity capacity
 HasNoCapacity task = ⊥
 
@@ -180,14 +180,14 @@ HasBadScript at task = ⊥
 
 -- it decodes an encoding, a slice of one, or a plain copy
 abbrev pub Decodes : Task → Type 0
-Decodes (CutSlice root start len outboard verbose file out) = Unit {0}
-Decodes (Decode root part verbose file out) = Unit {0}
-Decodes (DecodeCopy root outboard verbose copy out) = Unit {0}
+Decodes (CutSlice root start len outboard file out) = Unit {0}
+Decodes (Decode root part file out) = Unit {0}
+Decodes (DecodeCopy root outboard copy out) = Unit {0}
 Decodes task = ⊥
 
 -- it gathers
 abbrev pub Gathers : Task → Type 0
-Gathers (Gather root workers capacity long outboard salvage encode verbose missing files out) = Unit {0}
+Gathers (Gather root workers capacity long outboard salvage encode missing files out) = Unit {0}
 Gathers task = ⊥
 
 -- it runs a schedule
@@ -253,11 +253,11 @@ IsCutFrom at start len (Some outboard) file text = IsCutBeside (at outboard.now)
 abbrev pub IsRight : (List ℕ → FileState) → Mode → Task → List ℕ → Type 0
 IsRight at mode (Hash from length file) bytes = AreOf (at file.now) bytes
 IsRight at mode (Encode encoding file out) bytes = AreOf (at file.now) bytes
-IsRight at mode (CutSlice root start len outboard verbose file out) bytes =
+IsRight at mode (CutSlice root start len outboard file out) bytes =
     IsRightPart mode root.now (Slice start len) bytes × IsCutFrom at start len outboard file.now bytes
-IsRight at mode (Decode root part verbose file out) bytes = IsRightPart mode root.now part bytes × AreOf (at file.now) bytes
-IsRight at mode (DecodeCopy root outboard verbose copy out) bytes = IsRightCopy at mode root.now outboard.now copy.now bytes
-IsRight at mode (Gather root workers capacity long outboard salvage encode verbose missing files out) bytes =
+IsRight at mode (Decode root part file out) bytes = IsRightPart mode root.now part bytes × AreOf (at file.now) bytes
+IsRight at mode (DecodeCopy root outboard copy out) bytes = IsRightCopy at mode root.now outboard.now copy.now bytes
+IsRight at mode (Gather root workers capacity long outboard salvage encode missing files out) bytes =
     (length files.items ≤ 64) × ((HasHash mode root.now bytes × Fits long capacity (length bytes)) × IsBeside at mode root.now outboard)
 IsRight at mode (Replay root capacity script files) bytes = (length files.items ≤ 64) × IsReplay at mode root.now capacity script.now files.items bytes
 

@@ -67,8 +67,9 @@ const MOST_CHUNKS: u32 = 65_536;
 /// All files are unchanged, too, and the status isn't 0, if OUT or LIST has a name of standard output or of a file that is
 /// read, or both have one name. But OUT may be one of the FILEs that are gathered from.
 ///
-/// On a disk without faults where the contents of OUT are known, a gathering has put there at 0 each blob with ROOT, or its
-/// encoding; or two different inputs with one chaining value are exhibited, one from the blob and one made of a FILE.
+/// On a disk without faults where the contents of OUT and of all FILEs are known, a gathering has put at OUT at 0 each blob
+/// with ROOT, or its encoding; or two different inputs with one chaining value are exhibited, one from the blob and one made
+/// of a FILE.
 ///
 /// Arguments that `clap` refuses give 2, or 4 if out of memory. 2 comes only if there is a reason to refuse the arguments, the
 /// key file or the script, as far as the files are known: two names with known contents lead to one file only if they are
@@ -103,7 +104,7 @@ pub fn command<R: AllocGlobal + Threads + Sync, D: Disk, O: Write, E: Write, P: 
         Ok(request) => match serve(rt, disk, &request, out, err, progress) {
             Ok(()) => 0,
             Err(fault) => {
-                tell_why(disk, &request.task, fault, err);
+                tell_why(disk, &request, fault, err);
                 fault.report(err)
             }
         },
@@ -140,7 +141,8 @@ fn serve<'a, R: AllocGlobal + Threads + Sync, D: Disk, O: Write, E: Write, P: Pr
     if writes_apart(&request.task) {
         check_list(request)?;
         check_places(disk, request)?;
-        serve_task(rt, disk, &mode, &request.task, out, err, progress)
+        let verbose = request.verbose;
+        serve_task(rt, disk, &mode, &request.task, verbose, out, err, progress)
     } else {
         Err(Fault::OutIsOutput)
     }
@@ -378,6 +380,7 @@ fn serve_task<'a, R: AllocGlobal + Threads + Sync, D: Disk, O: Write, E: Write, 
     disk: &mut D,
     mode: &Mode,
     task: &Task<'a>,
+    verbose: bool,
     out: &mut O,
     err: &mut E,
     progress: &P,
@@ -405,29 +408,26 @@ fn serve_task<'a, R: AllocGlobal + Threads + Sync, D: Disk, O: Write, E: Write, 
             start,
             len,
             outboard,
-            verbose,
             file,
             out: path,
         } => cut_slice(
-            alloc, disk, mode, root, *start, *len, *outboard, *verbose, file, path, out, err,
+            alloc, disk, mode, root, *start, *len, *outboard, verbose, file, path, out, err,
         ),
         Task::Decode {
             root,
             part,
-            verbose,
             file,
             out: path,
         } => decode(
-            alloc, disk, mode, root, part, *verbose, file, path, out, err, progress,
+            alloc, disk, mode, root, part, verbose, file, path, out, err, progress,
         ),
         Task::DecodeCopy {
             root,
             outboard,
-            verbose,
             copy,
             out: path,
         } => decode_beside(
-            alloc, disk, mode, root, outboard, *verbose, copy, path, out, err, progress,
+            alloc, disk, mode, root, outboard, verbose, copy, path, out, err, progress,
         ),
         Task::Gather {
             root,
@@ -437,7 +437,6 @@ fn serve_task<'a, R: AllocGlobal + Threads + Sync, D: Disk, O: Write, E: Write, 
             outboard,
             salvage,
             encode,
-            verbose,
             missing,
             files,
             out: path,
@@ -447,8 +446,8 @@ fn serve_task<'a, R: AllocGlobal + Threads + Sync, D: Disk, O: Write, E: Write, 
                 capacity: *capacity,
                 long: *long,
                 encode: *encode,
-                count: *verbose,
-                parts: parts_asked(*verbose, *missing),
+                count: verbose,
+                parts: parts_asked(verbose, *missing),
                 grain: grain_of(*salvage),
             };
             let paths = Paths {

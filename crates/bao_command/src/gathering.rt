@@ -20,7 +20,7 @@ ghost use Rattle.bao_command.specs.Works.{GathersRight, LeavesGathered};
 use crate::commands::{root_of, told};
 use crate::fault::{Fault, gathered_status};
 use crate::refused::{is_no_encoding, tell_no_encoding, tell_outboard};
-use crate::unread::tell_left_out;
+use crate::unread::{tell_file, tell_left_out};
 use b3tree::Mode;
 use bao_files::{Disk, FileFault, Once, Progress, print_count};
 use bao_tasks::{
@@ -216,6 +216,10 @@ fn tell<D: Disk, E: Write>(
         (Err(GatheredFault::Outboard(fault)), Some(outboard)) => {
             tell_outboard(disk, outboard, *fault, err);
         }
+        (Err(GatheredFault::File(fault @ FileFault::Write(_))), _) => {
+            tell_files(disk, how, outboard.is_some(), files, notes, err);
+            tell_file(disk, *fault, err);
+        }
         (Err(GatheredFault::Gather(GatherFault::TooLarge)), _) if !how.long => {
             tell_files(disk, how, outboard.is_some(), files, notes, err);
             let _ = writeln!(
@@ -284,6 +288,7 @@ fn list_lack<'a, D: Disk, E: Write>(
     disk: &mut D,
     list: Option<&'a str>,
     lack: &Lack,
+    verbose: bool,
     err: &mut E,
 ) -> Option<FileFault<'a>>
     ensures lists { result ≡ None → Lists (D.at disk.old) (D.at disk.new) list.entry (lines_of_parts (parts_in lack.now)) }
@@ -295,6 +300,9 @@ fn list_lack<'a, D: Disk, E: Write>(
     match list_parts(disk, known_parts(lack), path) {
         Ok(()) => None,
         Err(fault) => {
+            if verbose {
+                tell_file(disk, fault, err);
+            }
             let _ = writeln!(Once(err), "bao_gather: {path}: left as it is: {fault}");
             Some(fault)
         }
@@ -307,6 +315,7 @@ fn relist<'a, D: Disk, E: Write>(
     list: Option<&'a str>,
     lack: &Lack,
     fault: GatheredFault<'_>,
+    verbose: bool,
     err: &mut E,
 ) -> Option<FileFault<'a>>
     ensures usage { gathered_status_of fault.entry ≡ 2 → KeepsFiles (D.at disk.old) (D.at disk.new) }
@@ -316,7 +325,7 @@ fn relist<'a, D: Disk, E: Write>(
     if gathered_status(fault) == 2 {
         return None;
     }
-    list_lack(disk, list, lack, err)
+    list_lack(disk, list, lack, verbose, err)
 }
 
 // Gathers the blob from the files, which are plain copies if an outboard encoding is named, and prints the blob's length. With `--verbose`, prints what is
@@ -360,7 +369,7 @@ pub(crate) fn gather<
     let root = root_of(digits)?;
     let Ok(mut notes) = Notes::new(rt.alloc(), files.len()) else {
         let fault = GatheredFault::File(FileFault::Memory);
-        let left = relist(disk, paths.list, &Lack::Unasked, fault, err);
+        let left = relist(disk, paths.list, &Lack::Unasked, fault, how.count, err);
         return Err(Fault::Gather {
             fault,
             unlisted: left,
@@ -385,7 +394,7 @@ pub(crate) fn gather<
             told(print_count(rt.alloc(), count, out))
         }
         Err(fault) => {
-            let unlisted = relist(disk, paths.list, &notes.lack, fault, err);
+            let unlisted = relist(disk, paths.list, &notes.lack, fault, how.count, err);
             Err(Fault::Gather { fault, unlisted })
         }
     }

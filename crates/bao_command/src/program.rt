@@ -4,6 +4,7 @@ ghost use Rattle.bao_command.specs.Outcome.{Ends};
 
 use crate::commands::command;
 use bao_files::{Meter, System};
+use std::cell::Cell;
 use std::fs::File;
 use std::io::{IsTerminal, Write};
 use std::process::ExitCode;
@@ -25,6 +26,7 @@ pub fn run<
     } else {
         None
     };
-    let mut system = System::new(rt);
+    let failed = Cell::new(0);
+    let mut system = System::new(rt, &failed);
     ExitCode::from(command(rt, &mut system, words, out, err, &meter))
 }

@@ -1,18 +1,27 @@
-// Why a file can't be read: what the disk answers when the file is tried again.
+// Why a file can't be read or written, in the system's words.
 
 use crate::fault::Fault;
 use crate::lists::is_among;
 use bao_decode::DecodeFault;
 use bao_files::{Disk, FileFault, Once};
-use bao_request::Task;
-use bao_tasks::GatheredFault;
+use bao_request::{Request, Task};
+use bao_tasks::{GatheredFault, RerunFault};
 use std::io;
 use std::io::Write;
 
-// Prints why the file can't be read, if the disk knows. A write that fails has no effect.
-fn tell_unread<D: Disk, E: Write>(disk: &D, path: &str, err: &mut E) {
-    if let Some(error) = disk.why(path) {
+// Prints the system's reason, if it is known. A write that fails has no effect.
+fn tell_reason<E: Write>(path: &str, reason: Option<io::Error>, err: &mut E) {
+    if let Some(error) = reason {
         let _ = writeln!(Once(err), "bao_gather: {path}: {error}");
+    }
+}
+
+// Prints why the file can't be read or written, if this is the fault and the disk knows.
+pub(crate) fn tell_file<D: Disk, E: Write>(disk: &D, fault: FileFault<'_>, err: &mut E) {
+    match fault {
+        FileFault::Read(path) => tell_reason(path, disk.why(path), err),
+        FileFault::Write(path) => tell_reason(path, disk.why_unwritten(), err),
+        FileFault::Output | FileFault::Encoding | FileFault::Memory => {}
     }
 }
 
@@ -29,38 +38,40 @@ pub(crate) fn tell_left_out<D: Disk, E: Write>(
     }
 }
 
-// The file that can't be read, if this is the fault.
-fn unread_by<'a>(fault: Fault<'a>) -> Option<&'a str> {
+// The fault of a file, if this is one.
+fn file_fault<'a>(fault: Fault<'a>) -> Option<FileFault<'a>> {
     match fault {
-        Fault::File(FileFault::Read(path)) => Some(path),
-        Fault::Decode(DecodeFault::File(FileFault::Read(path))) => Some(path),
+        Fault::File(fault) => Some(fault),
+        Fault::Decode(DecodeFault::File(fault)) => Some(fault),
+        Fault::Replay(RerunFault::File(fault)) => Some(fault),
         Fault::Gather {
-            fault: GatheredFault::File(FileFault::Read(path)),
+            fault: GatheredFault::File(fault),
             ..
-        } => Some(path),
+        } => Some(fault),
         _ => None,
     }
 }
 
-// Whether the task reports why this file can't be read. For the FILEs of `gather` that was reported when they were left out.
-fn says_why(task: &Task<'_>, path: &str) -> bool {
-    match task {
-        Task::CutSlice { verbose, .. } => *verbose,
-        Task::Decode { verbose, .. } | Task::DecodeCopy { verbose, .. } => *verbose,
-        Task::Gather { verbose, files, .. } => *verbose && !is_among(path, files.as_slice()),
-        Task::Hash { .. } | Task::Encode { .. } | Task::Replay { .. } => false,
+// Whether it has been reported before why this file can't be read or written: a FILE of `gather` where it was left out, and OUT before LIST was tried.
+fn is_told(task: &Task<'_>, fault: FileFault<'_>) -> bool {
+    match (task, fault) {
+        (Task::Gather { files, .. }, FileFault::Read(path)) => is_among(path, files.as_slice()),
+        (Task::Gather { out, .. }, FileFault::Write(path)) => path == *out,
+        _ => false,
     }
 }
 
-// With `--verbose`, prints why a file can't be read, if this is the fault.
+// With `--verbose`, prints why a file can't be read or written, if this is the fault.
 pub(crate) fn tell_why<D: Disk, E: Write>(
     disk: &D,
-    task: &Task<'_>,
+    request: &Request<'_>,
     fault: Fault<'_>,
     err: &mut E,
 ) {
-    match unread_by(fault) {
-        Some(path) if says_why(task, path) => tell_unread(disk, path, err),
+    match file_fault(fault) {
+        Some(fault) if request.verbose && !is_told(&request.task, fault) => {
+            tell_file(disk, fault, err);
+        }
         _ => {}
     }
 }

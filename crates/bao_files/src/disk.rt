@@ -58,6 +58,9 @@ pub trait Disk {
     /// told.
     fn why(&self, path: &str) -> Option<io::Error>;
 
+    /// Returns why the last draft that couldn't be written or finished couldn't be, if it can be told.
+    fn why_unwritten(&self) -> Option<io::Error>;
+
     /// Returns an empty draft of the file at `path`.
     fn draft(&self, path: &str) -> Result<Self::Draft, AllocError>
         ensures { IfOk result (λ draft. IsKnown (at self.now path.now) → Self.Draft.contents draft ≡ Some []) };

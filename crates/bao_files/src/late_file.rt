@@ -1,6 +1,7 @@
-ghost use Rattle.std.specs.Prelude.{◌≡◌, IfOk, None, string_bytes};
+ghost use Rattle.std.specs.Prelude.{◌≡◌, ◌≤◌, IfOk, None, length, string_bytes};
 
 use std::alloc::{AllocError, Global};
+use std::cell::Cell;
 use std::fs::{File, Metadata, OpenFile, OpenOptions, TryLockError};
 use std::io::{ErrorKind, Write};
 use std::os::unix::fs::{MetadataExt, OpenOptionsExt, fchown};
@@ -152,6 +153,7 @@ impl DraftPlace {
     // Makes the new file, under the first name that no other run has.
     fn create<R: Files<File = File>>(&mut self, rt: &R, mode: u32) -> io::Result<File> {
         self.clear(rt)?;
+        let mut taken = io::Error::from(ErrorKind::AlreadyExists);
         for suffix in SUFFIXES {
             self.name(suffix)?;
             let mut how = OpenOptions::new();
@@ -163,11 +165,11 @@ impl DraftPlace {
             {
                 Ok(file) if is_held(&file) => return Ok(file),
                 Ok(_) => {}
-                Err(error) if error.kind() == ErrorKind::AlreadyExists => {}
+                Err(error) if error.kind() == ErrorKind::AlreadyExists => taken = error,
                 Err(error) => return Err(error),
             }
         }
-        Err(io::Error::from(ErrorKind::AlreadyExists))
+        Err(taken)
     }
 }
 
@@ -185,6 +187,8 @@ impl DraftPlace {
 /// the names of open files (`/dev/stdout`, `/dev/fd/3`, below `/proc`); and the target of a link to nothing.
 pub struct LateFile<'a, R: Files> {
     rt: &'a R,
+    // Gets the system's number of each error.
+    failed: &'a Cell<i32>,
     path: String,
     place: Option<DraftPlace>,
     file: Option<R::File>,
@@ -195,6 +199,7 @@ impl<R: Files> Drop for LateFile<'_, R> {
     fn drop(self) {
         let LateFile {
             rt,
+            failed: _,
             path: _,
             place,
             file: _,
@@ -210,14 +215,16 @@ impl<R: Files> Drop for LateFile<'_, R> {
 }
 
 impl<'a, R: Files + AllocGlobal> LateFile<'a, R> {
-    /// Returns the file at `path`, with nothing written. Refuses if there is no memory for its names.
-    pub fn new(rt: &'a R, path: &str) -> Result<LateFile<'a, R>, AllocError>
+    /// Returns the file at `path`, with nothing written. `failed` gets the system's number of each error. Refuses if
+    /// there is no memory for its names.
+    pub fn new(rt: &'a R, failed: &'a Cell<i32>, path: &str) -> Result<LateFile<'a, R>, AllocError>
         ensures rt { IfOk result (λ it. it.rt ≡ rt.entry) }
         ensures path { IfOk result (λ it. string_bytes it.path ≡ path.now) }
         ensures unmade { IfOk result (λ it. it.file ≡ None) }
     {
         Ok(LateFile {
             rt,
+            failed,
             path: String::from_str(rt.alloc(), path)?,
             place: place_of(rt, path)?,
             file: None,
@@ -250,9 +257,17 @@ impl<R: Files<File = File>> LateFile<'_, R> {
         Ok(())
     }
 
-    /// Puts what was written in its place, if it is replaced, once the device has it. Nothing can be written
-    /// after that.
-    pub fn finish(&mut self) -> io::Result<()> {
+    // Notes the system's number of an error, or 0 where it has none.
+    fn noted<T: Drop>(&self, answer: io::Result<T>) -> io::Result<T>
+        ensures { result ≡ answer }
+    {
+        if let Err(error) = &answer {
+            self.failed.set(error.raw_os_error().unwrap_or(0));
+        }
+        answer
+    }
+
+    fn put(&mut self) -> io::Result<()> {
         self.flush()?;
         let (Some(place), Some(file)) = (&self.place, &self.file) else {
             return Ok(());
@@ -262,10 +277,10 @@ impl<R: Files<File = File>> LateFile<'_, R> {
         self.is_drafted = false;
         Ok(())
     }
-}
 
-impl<R: Files<File = File>> Write for LateFile<'_, R> {
-    fn write(&mut self, buf: &[u8]) -> io::Result<usize> {
+    fn put_bytes(&mut self, buf: &[u8]) -> io::Result<usize>
+        ensures { IfOk result (λ count. count ≤ length buf.now) }
+    {
         if self.file.is_none() {
             self.make()?;
         }
@@ -275,7 +290,7 @@ impl<R: Files<File = File>> Write for LateFile<'_, R> {
         }
     }
 
-    fn flush(&mut self) -> io::Result<()> {
+    fn put_through(&mut self) -> io::Result<()> {
         if self.file.is_none() {
             self.make()?;
         }
@@ -283,5 +298,24 @@ impl<R: Files<File = File>> Write for LateFile<'_, R> {
             Some(file) => file.flush(),
             None => Ok(()),
         }
+    }
+
+    /// Puts what was written in its place, if it is replaced, once the device has it. Nothing can be written
+    /// after that.
+    pub fn finish(&mut self) -> io::Result<()> {
+        let put = self.put();
+        self.noted(put)
+    }
+}
+
+impl<R: Files<File = File>> Write for LateFile<'_, R> {
+    fn write(&mut self, buf: &[u8]) -> io::Result<usize> {
+        let written = self.put_bytes(buf);
+        self.noted(written)
+    }
+
+    fn flush(&mut self) -> io::Result<()> {
+        let flushed = self.put_through();
+        self.noted(flushed)
     }
 }

@@ -145,6 +145,10 @@ impl Disk for MemoryFiles {
         None
     }
 
+    fn why_unwritten(&self) -> Option<io::Error> {
+        None
+    }
+
     fn draft(&self, _path: &str) -> Result<Vec<u8>, AllocError> {
         Ok(Vec::new(self.alloc))
     }

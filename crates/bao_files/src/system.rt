@@ -5,6 +5,7 @@ use crate::input::{STANDARD_INPUT, is_same_file, open_file};
 use crate::late_file::LateFile;
 use crate::places::is_one_file;
 use std::alloc::AllocError;
+use std::cell::Cell;
 use std::fs::{File, OpenFile};
 use std::io::Read;
 use std::rt::Files;
@@ -13,18 +14,20 @@ use std::{fs, io};
 /// The system's own files. Their contents aren't known.
 pub struct System<'a, R> {
     rt: &'a R,
+    // The system's number of the error of the last draft that failed, or 0.
+    failed: &'a Cell<i32>,
 }
 
 impl<R> Drop for System<'_, R> {
     fn drop(self) {
-        let System { rt: _ } = self;
+        let System { rt: _, failed: _ } = self;
     }
 }
 
 impl<'a, R> System<'a, R> {
-    /// Returns the files that `rt` gives access to.
-    pub fn new(rt: &'a R) -> System<'a, R> {
-        System { rt }
+    /// Returns the files that `rt` gives access to. `failed` gets the system's number of each error of a draft.
+    pub fn new(rt: &'a R, failed: &'a Cell<i32>) -> System<'a, R> {
+        System { rt, failed }
     }
 }
 
@@ -99,8 +102,15 @@ impl<'a, R: Files<File = File> + AllocGlobal> Disk for System<'a, R> {
         ask_again(self.rt, path).err()
     }
 
+    fn why_unwritten(&self) -> Option<io::Error> {
+        match self.failed.get() {
+            0 => None,
+            number => Some(io::Error::from_raw_os_error(number)),
+        }
+    }
+
     fn draft(&self, path: &str) -> Result<LateFile<'a, R>, AllocError> {
-        LateFile::new(self.rt, path)
+        LateFile::new(self.rt, self.failed, path)
     }
 
     fn is_replaced(&self, draft: &LateFile<'a, R>) -> bool {

@@ -37,22 +37,22 @@ no_slice rows without task a = let e = class_is (codes "slice") rows task a in a
 pub no_cut_slice : (rows : List Row)
     → ((start len : ℕ) (root file out : Bor Text) → GivesRange rows start len → GivesText rows (codes "ROOT") root.now → GivesText rows (codes "ENC") file.now → ¬ GivesText rows (codes "OUT") out.now)
     → (task : Task) → ¬ GivesTask (codes "cut-slice") rows task
-no_cut_slice rows without (CutSlice root start len outboard verbose file out) a = without start len root file out a.1 a.4 a.5 a.6
+no_cut_slice rows without (CutSlice root start len outboard file out) a = without start len root file out a.1 a.3 a.4 a.5
 no_cut_slice rows without task a = let e = class_is (codes "cut-slice") rows task a in absurd (omega (arith, e))
 
 pub no_decode_slice : (rows : List Row)
     → ((start len : ℕ) (root slice out : Bor Text) → GivesRange rows start len → GivesText rows (codes "ROOT") root.now → GivesText rows (codes "SLICE") slice.now → ¬ GivesText rows (codes "OUT") out.now)
     → (task : Task) → ¬ GivesTask (codes "decode-slice") rows task
-no_decode_slice rows without (Decode root part.Whole verbose file out) a = absurd (omega (arith, ap letters a.0.0))
-no_decode_slice rows without (Decode root (part.Slice start len) verbose file out) a = without start len root file out a.0.1 a.1 a.0.2 a.2
-no_decode_slice rows without (DecodeCopy root outboard verbose copy out) a = absurd (omega (arith, ap letters a.0))
+no_decode_slice rows without (Decode root part.Whole file out) a = absurd (omega (arith, ap letters a.0.0))
+no_decode_slice rows without (Decode root (part.Slice start len) file out) a = without start len root file out a.0.1 a.1 a.0.2 a.2
+no_decode_slice rows without (DecodeCopy root outboard copy out) a = absurd (omega (arith, ap letters a.0))
 no_decode_slice rows without task a = let e = class_is (codes "decode-slice") rows task a in absurd (omega (arith, e))
 
 pub no_gather : (rows : List Row)
     → ((root out : Bor Text) (workers capacity : ℕ) (files : List (Bor Text)) → GivesText rows (codes "ROOT") root.now → GivesNumber 32 rows (codes "workers") workers → GivesNumber 32 rows (codes "capacity") capacity
     → GivesTexts rows (codes "FILE") files → ¬ GivesText rows (codes "OUT") out.now)
     → (task : Task) → ¬ GivesTask (codes "gather") rows task
-no_gather rows without (Gather root workers capacity long outboard salvage encode verbose missing files out) a = without root out workers capacity files.items a.9 a.1 a.2 a.10 a.11
+no_gather rows without (Gather root workers capacity long outboard salvage encode missing files out) a = without root out workers capacity files.items a.8 a.1 a.2 a.9 a.10
 no_gather rows without task a = let e = class_is (codes "gather") rows task a in absurd (omega (arith, e))
 
 pub no_replay : (rows : List Row)

@@ -34,6 +34,10 @@ key_file_rule = option_rule (codes "key-file")
 abbrev pub context_rule : Rule
 context_rule = option_rule (codes "context")
 
+-- whether it is reported what is wrong with the files: a flag `--verbose`
+abbrev pub verbose_rule : Rule
+verbose_rule = record (new_rule (codes "verbose")) { long = Some (codes "verbose"); action = Some SetTrue }
+
 abbrev pub at_rule : Rule
 at_rule = record (option_rule (codes "at")) { parser = Some any_number; defaults = codes "0" ∷ [] }
 
@@ -52,9 +56,12 @@ start_rule = record (place_rule (codes "START")) { parser = Some any_number }
 abbrev pub len_rule : Rule
 len_rule = record (place_rule (codes "LEN")) { parser = Some any_number }
 
--- the subcommands; each has the options of the mode last
+abbrev pub with_key_rules : App → App
+with_key_rules app = with_rule (with_rule (with_rule app key_rule) key_file_rule) context_rule
+
+-- the subcommands; each has the options of the mode, and `--verbose`, last
 abbrev pub with_mode_rules : App → App
-with_mode_rules app = with_rule (with_rule (with_rule app key_rule) key_file_rule) context_rule
+with_mode_rules app = with_rule (with_key_rules app) verbose_rule
 
 abbrev pub with_file_rules : App → App
 with_file_rules app = with_mode_rules (with_rule (with_rule app file_rule) out_rule)
@@ -84,15 +91,11 @@ slice_rule = place_rule (codes "SLICE")
 abbrev pub outboard_rule : Rule
 outboard_rule = option_rule (codes "outboard")
 
--- whether it is reported what is wrong with the files: a flag `--verbose`
-abbrev pub verbose_rule : Rule
-verbose_rule = record (new_rule (codes "verbose")) { long = Some (codes "verbose"); action = Some SetTrue }
-
 abbrev pub with_encoding_rules : App → App
 with_encoding_rules app = with_mode_rules (with_rule (with_rule (with_rule app root_rule) enc_rule) out_rule)
 
 abbrev pub decode_app : App
-decode_app = with_encoding_rules (with_rule (with_rule (new_app (codes "decode")) outboard_rule) verbose_rule)
+decode_app = with_encoding_rules (with_rule (new_app (codes "decode")) outboard_rule)
 
 abbrev pub with_range_rules : App → App
 with_range_rules app = with_rule (with_rule (with_rule app root_rule) start_rule) len_rule
@@ -101,13 +104,13 @@ abbrev pub with_slice_rules : App → App
 with_slice_rules app = with_mode_rules (with_rule (with_rule app slice_rule) out_rule)
 
 abbrev pub decode_slice_app : App
-decode_slice_app = with_slice_rules (with_range_rules (with_rule (new_app (codes "decode-slice")) verbose_rule))
+decode_slice_app = with_slice_rules (with_range_rules (new_app (codes "decode-slice")))
 
 abbrev pub with_cut_rules : App → App
 with_cut_rules app = with_mode_rules (with_rule (with_rule app enc_rule) out_rule)
 
 abbrev pub cut_slice_app : App
-cut_slice_app = with_cut_rules (with_range_rules (with_rule (with_rule (new_app (codes "cut-slice")) outboard_rule) verbose_rule))
+cut_slice_app = with_cut_rules (with_range_rules (with_rule (new_app (codes "cut-slice")) outboard_rule))
 
 -- the number of worker threads
 abbrev pub workers_rule : Rule
@@ -141,7 +144,7 @@ abbrev pub with_holders_rules : App → App
 with_holders_rules app = with_mode_rules (with_rule (with_rule (with_rule app root_rule) out_rule) files_rule)
 
 abbrev pub gather_app : App
-gather_app = with_holders_rules (with_rule (with_rule (with_rule (with_rule (with_rule (with_rule (with_rule (with_rule (new_app (codes "gather")) workers_rule) capacity_rule) long_rule) outboard_rule) salvage_rule) encode_rule) verbose_rule) missing_rule)
+gather_app = with_holders_rules (with_rule (with_rule (with_rule (with_rule (with_rule (with_rule (with_rule (new_app (codes "gather")) workers_rule) capacity_rule) long_rule) outboard_rule) salvage_rule) encode_rule) missing_rule)
 
 abbrev pub script_rule : Rule
 script_rule = place_rule (codes "SCRIPT")

@@ -57,15 +57,15 @@ GivesTask name rows (Hash at length file) =
     (name ≡ codes "hash") × GivesNumber 64 rows (codes "at") at × GivesNumber 32 rows (codes "length") length × GivesText rows (codes "FILE") file.now
 GivesTask name rows (Encode encoding file out) =
     GivesEncoding name rows encoding × GivesText rows (codes "FILE") file.now × GivesText rows (codes "OUT") out.now
-GivesTask name rows (CutSlice root start len outboard verbose file out) =
-    (name ≡ codes "cut-slice") × GivesRange rows start len × (option_copied outboard ≡ first_of (codes "outboard") rows) × GivesFlag rows (codes "verbose") verbose
+GivesTask name rows (CutSlice root start len outboard file out) =
+    (name ≡ codes "cut-slice") × GivesRange rows start len × (option_copied outboard ≡ first_of (codes "outboard") rows)
     × GivesText rows (codes "ROOT") root.now × GivesText rows (codes "ENC") file.now × GivesText rows (codes "OUT") out.now
-GivesTask name rows (Decode root part verbose file out) =
-    GivesPart name rows part file.now × GivesText rows (codes "ROOT") root.now × GivesText rows (codes "OUT") out.now × GivesFlag rows (codes "verbose") verbose
-GivesTask name rows (DecodeCopy root outboard verbose copy out) =
-    (name ≡ codes "decode") × GivesText rows (codes "outboard") outboard.now × GivesText rows (codes "ENC") copy.now × GivesText rows (codes "ROOT") root.now × GivesText rows (codes "OUT") out.now × GivesFlag rows (codes "verbose") verbose
-GivesTask name rows (Gather root workers capacity long outboard salvage encode verbose missing files out) =
-    (name ≡ codes "gather") × GivesNumber 32 rows (codes "workers") workers × GivesNumber 32 rows (codes "capacity") capacity × GivesFlag rows (codes "long") long × (option_copied outboard ≡ first_of (codes "outboard") rows) × GivesFlag rows (codes "salvage") salvage × GivesFlag rows (codes "encode") encode × GivesFlag rows (codes "verbose") verbose × (option_copied missing ≡ first_of (codes "missing") rows) × GivesText rows (codes "ROOT") root.now × GivesTexts rows (codes "FILE") files.items × GivesText rows (codes "OUT") out.now
+GivesTask name rows (Decode root part file out) =
+    GivesPart name rows part file.now × GivesText rows (codes "ROOT") root.now × GivesText rows (codes "OUT") out.now
+GivesTask name rows (DecodeCopy root outboard copy out) =
+    (name ≡ codes "decode") × GivesText rows (codes "outboard") outboard.now × GivesText rows (codes "ENC") copy.now × GivesText rows (codes "ROOT") root.now × GivesText rows (codes "OUT") out.now
+GivesTask name rows (Gather root workers capacity long outboard salvage encode missing files out) =
+    (name ≡ codes "gather") × GivesNumber 32 rows (codes "workers") workers × GivesNumber 32 rows (codes "capacity") capacity × GivesFlag rows (codes "long") long × (option_copied outboard ≡ first_of (codes "outboard") rows) × GivesFlag rows (codes "salvage") salvage × GivesFlag rows (codes "encode") encode × (option_copied missing ≡ first_of (codes "missing") rows) × GivesText rows (codes "ROOT") root.now × GivesTexts rows (codes "FILE") files.items × GivesText rows (codes "OUT") out.now
 GivesTask name rows (Replay root capacity script files) =
     (name ≡ codes "replay") × GivesNumber 32 rows (codes "capacity") capacity × GivesText rows (codes "ROOT") root.now × GivesText rows (codes "SCRIPT") script.now × GivesTexts rows (codes "FILE") files.items
 
@@ -74,4 +74,4 @@ abbrev pub GivesRequest : Option (Text × List Row) → Request → Type 0
 GivesRequest None request = ⊥
 GivesRequest (Some (name, rows)) request =
     GivesTask name rows request.task × (option_copied request.key ≡ first_of (codes "key") rows) × (option_copied request.key_file ≡ first_of (codes "key-file") rows)
-    × (option_copied request.context ≡ first_of (codes "context") rows)
+    × (option_copied request.context ≡ first_of (codes "context") rows) × GivesFlag rows (codes "verbose") request.verbose

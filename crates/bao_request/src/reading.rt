@@ -88,7 +88,6 @@ fn cut_slice_of<'a>(words: &ArgMatches<'a>) -> Option<Task<'a>>
         start,
         len,
         outboard: text(words, "outboard"),
-        verbose: flag(words, "verbose"),
         file: text(words, "ENC")?,
         out: text(words, "OUT")?,
     })
@@ -101,19 +100,16 @@ fn decode_of<'a>(words: &ArgMatches<'a>) -> Option<Task<'a>>
     let root = text(words, "ROOT")?;
     let file = text(words, "ENC")?;
     let out = text(words, "OUT")?;
-    let verbose = flag(words, "verbose");
     match text(words, "outboard") {
         Some(outboard) => Some(Task::DecodeCopy {
             root,
             outboard,
-            verbose,
             copy: file,
             out,
         }),
         None => Some(Task::Decode {
             root,
             part: Part::Whole,
-            verbose,
             file,
             out,
         }),
@@ -128,7 +124,6 @@ fn decode_slice_of<'a>(words: &ArgMatches<'a>) -> Option<Task<'a>>
     Some(Task::Decode {
         root: text(words, "ROOT")?,
         part: Part::Slice { start, len },
-        verbose: flag(words, "verbose"),
         file: text(words, "SLICE")?,
         out: text(words, "OUT")?,
     })
@@ -162,7 +157,6 @@ fn gather_of<'a>(alloc: Global, words: &ArgMatches<'a>) -> Result<Option<Task<'a
         outboard: text(words, "outboard"),
         salvage: flag(words, "salvage"),
         encode: flag(words, "encode"),
-        verbose: flag(words, "verbose"),
         missing: text(words, "missing"),
         files: files.to_vec(alloc)?,
         out,
@@ -230,6 +224,7 @@ fn request_of<'a>(
         key: text(words, "key"),
         key_file: text(words, "key-file"),
         context: text(words, "context"),
+        verbose: flag(words, "verbose"),
         task,
     }))
 }

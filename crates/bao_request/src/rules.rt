@@ -1,7 +1,7 @@
 ghost use Rattle.std.specs.Prelude.{◌≡◌, IfOk, Some, false};
 ghost use Rattle.clap.specs.Words.{app_of, rule_of, with_rule};
 ghost use Rattle.clap.specs.declared.builder.command.Command.TheViews.{out-Command};
-ghost use Rattle.bao_request.specs.CommandLine.{IsApp, any_number, at_rule, capacity_rule, checkers_app, cut_slice_app, decode_app, decode_slice_app, encode_app, encode_rule, files_rule, gather_app, hash_app, length_rule, long_rule, missing_rule, option_rule, outboard_app, outboard_rule, place_rule, program_app, replay_app, salvage_rule, slice_app, verbose_rule, with_cut_rules, with_encoding_rules, with_file_rules, with_holders_rules, with_mode_rules, with_range_rules, with_script_rules, with_slice_rules, workers_rule, writers_app};
+ghost use Rattle.bao_request.specs.CommandLine.{IsApp, any_number, at_rule, capacity_rule, checkers_app, cut_slice_app, decode_app, decode_slice_app, encode_app, encode_rule, files_rule, gather_app, hash_app, length_rule, long_rule, missing_rule, option_rule, outboard_app, outboard_rule, place_rule, program_app, replay_app, salvage_rule, slice_app, verbose_rule, with_cut_rules, with_encoding_rules, with_file_rules, with_holders_rules, with_key_rules, with_mode_rules, with_range_rules, with_script_rules, with_slice_rules, workers_rule, writers_app};
 
 use clap::{Arg, ArgAction, Command, value_parser};
 use std::alloc::{AllocError, Global};
@@ -30,8 +30,9 @@ const OF_START: &str = "First byte of the range, counted from 0";
 // The help of OUT.
 const OF_OUT: &str = "File to write; an existing file is replaced";
 
-// The help of `--verbose`, but for `gather`.
-const OF_VERBOSE: &str = "Report on standard error which file is at fault, and where";
+// The help of `--verbose`.
+const OF_VERBOSE: &str =
+    "Report on standard error what is wrong with each file, and the system's reason";
 
 // What `--help` prints below the options.
 const OF_PROGRAM: &str =
@@ -100,14 +101,14 @@ fn outboard_option<'a>(alloc: Global, help: &'a str) -> Arg<'a>
 }
 
 // The flag `--verbose`.
-fn verbose_flag<'a>(alloc: Global, help: &'a str) -> Arg<'a>
+fn verbose_flag<'a>(alloc: Global) -> Arg<'a>
     ensures rule { rule_of result ≡ verbose_rule }
     ensures global { result.global ≡ false }
 {
     Arg::new(alloc, "verbose")
         .long("verbose")
         .action(ArgAction::SetTrue)
-        .help(help)
+        .help(OF_VERBOSE)
 }
 
 // The required argument `id`, a number of 64 bits.
@@ -118,15 +119,24 @@ fn number_place<'a>(alloc: Global, id: &'a str, help: &'a str) -> Arg<'a>
     place(alloc, id, help).value_parser(value_parser!(u64))
 }
 
-fn with_mode<'a>(alloc: Global, command: Command<'a>) -> Result<Command<'a>, AllocError>
+// The command with the options that choose a mode.
+fn with_keys<'a>(alloc: Global, command: Command<'a>) -> Result<Command<'a>, AllocError>
     requires { (out-Command command).has_globals ≡ false }
-    ensures { IfOk result (IsApp (with_mode_rules (app_of command.entry))) }
+    ensures { IfOk result (IsApp (with_key_rules (app_of command.entry))) }
 {
     let command = command.arg(option(alloc, "key", "HEX").help(OF_KEY))?;
     let command = command.arg(option(alloc, "key-file", "FILE").help(OF_KEY_FILE))?;
     command.arg(option(alloc, "context", "TEXT").help(
         "Use key derivation with this context string",
     ))
+}
+
+// The command with the options that all have.
+fn with_mode<'a>(alloc: Global, command: Command<'a>) -> Result<Command<'a>, AllocError>
+    requires { (out-Command command).has_globals ≡ false }
+    ensures { IfOk result (IsApp (with_mode_rules (app_of command.entry))) }
+{
+    with_keys(alloc, command)?.arg(verbose_flag(alloc))
 }
 
 fn hash_command<'a>(alloc: Global) -> Result<Command<'a>, AllocError>
@@ -199,7 +209,6 @@ fn decode_command<'a>(alloc: Global) -> Result<Command<'a>, AllocError>
         .about("Check a combined Bao encoding, or a plain copy, under ROOT, and write the blob")
         .after_help(OF_DECODE)
         .arg(outboard)?;
-    let command = command.arg(verbose_flag(alloc, OF_VERBOSE))?;
     with_encoding(alloc, command)
 }
 
@@ -229,8 +238,7 @@ fn decode_slice_command<'a>(alloc: Global) -> Result<Command<'a>, AllocError>
     let about = "Check a Bao slice under ROOT, and write its bytes";
     let command = Command::new(alloc, "decode-slice")
         .about(about)
-        .after_help(OF_DECODE_SLICE)
-        .arg(verbose_flag(alloc, OF_VERBOSE))?;
+        .after_help(OF_DECODE_SLICE);
     let command = with_range(alloc, command)?;
     with_slice(alloc, command)
 }
@@ -257,7 +265,6 @@ fn cut_slice_command<'a>(alloc: Global) -> Result<Command<'a>, AllocError>
         .about("Cut the Bao slice for a range out of an encoding, and check it under ROOT")
         .after_help(OF_CUT_SLICE)
         .arg(outboard)?;
-    let command = command.arg(verbose_flag(alloc, OF_VERBOSE))?;
     let command = with_range(alloc, command)?;
     with_cut(alloc, command)
 }
@@ -361,18 +368,6 @@ fn with_forms<'a>(alloc: Global, command: Command<'a>) -> Result<Command<'a>, Al
     command.arg(encode_flag(alloc))
 }
 
-// The command with the options `--verbose` and `--missing`.
-fn with_reports<'a>(alloc: Global, command: Command<'a>) -> Result<Command<'a>, AllocError>
-    requires { (out-Command command).has_globals ≡ false }
-    ensures { IfOk result (IsApp (with_rule (with_rule (app_of command.entry) verbose_rule) missing_rule)) }
-{
-    let verbose = verbose_flag(
-        alloc,
-        "Report on standard error what is wrong with each FILE, and what none of them has",
-    );
-    command.arg(verbose)?.arg(missing_option(alloc))
-}
-
 fn gather_command<'a>(alloc: Global) -> Result<Command<'a>, AllocError>
     ensures { IfOk result (IsApp gather_app) }
 {
@@ -383,7 +378,7 @@ fn gather_command<'a>(alloc: Global) -> Result<Command<'a>, AllocError>
         .after_help(OF_GATHER);
     let command = with_sizes(alloc, command)?;
     let command = with_forms(alloc, command)?;
-    let command = with_reports(alloc, command)?;
+    let command = command.arg(missing_option(alloc))?;
     with_holders(alloc, command)
 }
 

@@ -9,6 +9,8 @@ pub struct Request<'a> {
     pub key_file: Option<&'a str>,
     /// The value of `--context`.
     pub context: Option<&'a str>,
+    /// Whether `--verbose` is given: what is wrong with the files is reported, with the system's reasons.
+    pub verbose: bool,
     /// The command.
     pub task: Task<'a>,
 }
@@ -30,32 +32,28 @@ pub enum Task<'a> {
     },
     /// `cut-slice`: cuts the slice for the `len` bytes from byte `start` on out of a combined encoding, checks
     /// it under a root and writes it to the file `out`. With `outboard`, the path of the outboard encoding, it is
-    /// cut out of a plain copy. With `verbose`, the fault of what is refused is located.
+    /// cut out of a plain copy.
     CutSlice {
         root: &'a str,
         start: u64,
         len: u64,
         outboard: Option<&'a str>,
-        verbose: bool,
         file: &'a str,
         out: &'a str,
     },
     /// `decode` or `decode-slice`: checks an encoding under a root, and writes the bytes that it certifies to the
-    /// file `out`. With `verbose`, the fault of an encoding that is refused is located.
+    /// file `out`.
     Decode {
         root: &'a str,
         part: Part,
-        verbose: bool,
         file: &'a str,
         out: &'a str,
     },
     /// `decode --outboard`: checks a plain copy under a root, beside the outboard encoding in the file
-    /// `outboard`, and writes it to the file `out`. With `verbose`, the fault of the file that is refused is
-    /// located.
+    /// `outboard`, and writes it to the file `out`.
     DecodeCopy {
         root: &'a str,
         outboard: &'a str,
-        verbose: bool,
         copy: &'a str,
         out: &'a str,
     },
@@ -64,8 +62,8 @@ pub enum Task<'a> {
     /// encoding, to the file `out`.
     ///
     /// The files are combined encodings, or with `outboard`, the path of the outboard encoding, plain copies. With
-    /// `salvage`, missing chunks are asked for one at a time as a last resort. With `verbose`, what is wrong with
-    /// each file is reported. The ranges that no file has are written to the file `missing`, if it is given.
+    /// `salvage`, missing chunks are asked for one at a time as a last resort. The ranges that no file has are written
+    /// to the file `missing`, if it is given.
     Gather {
         root: &'a str,
         workers: u32,
@@ -74,7 +72,6 @@ pub enum Task<'a> {
         outboard: Option<&'a str>,
         salvage: bool,
         encode: bool,
-        verbose: bool,
         missing: Option<&'a str>,
         files: Vec<&'a str>,
         out: &'a str,

@@ -27,13 +27,13 @@ module _ (at : List ℕ → FileState) (m : Mode) where
   not_right : (task : Task) (bytes : List ℕ) → LacksFile at m task → IsRight at m task bytes → ⊥
   not_right (Hash from count file) bytes lacks right = none_of (at file.now) bytes lacks right
   not_right (Encode encoding file out) bytes lacks right = none_of (at file.now) bytes lacks right
-  not_right (CutSlice root start len None verbose file out) bytes lacks right = none_of (at file.now) right.1.0 lacks right.1.1
-  not_right (CutSlice root start len (Some outboard) verbose file out) bytes (inl lacks) right = none_of (at outboard.now) right.1.0 lacks right.1.2
-  not_right (CutSlice root start len (Some outboard) verbose file out) bytes (inr lacks) right = none_of (at file.now) right.1.1 lacks right.1.3
-  not_right (Decode root part verbose file out) bytes lacks right = none_of (at file.now) bytes lacks right.1
-  not_right (DecodeCopy root outboard verbose copy out) bytes (inl lacks) right = none_of (at outboard.now) right.1.1.0 lacks right.1.1.1
-  not_right (DecodeCopy root outboard verbose copy out) bytes (inr lacks) right = none_of (at copy.now) bytes lacks.0 right.1.1.2
-  not_right (Gather root workers capacity long outboard salvage encode verbose missing files out) bytes lacks right = absurd lacks
+  not_right (CutSlice root start len None file out) bytes lacks right = none_of (at file.now) right.1.0 lacks right.1.1
+  not_right (CutSlice root start len (Some outboard) file out) bytes (inl lacks) right = none_of (at outboard.now) right.1.0 lacks right.1.2
+  not_right (CutSlice root start len (Some outboard) file out) bytes (inr lacks) right = none_of (at file.now) right.1.1 lacks right.1.3
+  not_right (Decode root part file out) bytes lacks right = none_of (at file.now) bytes lacks right.1
+  not_right (DecodeCopy root outboard copy out) bytes (inl lacks) right = none_of (at outboard.now) right.1.1.0 lacks right.1.1.1
+  not_right (DecodeCopy root outboard copy out) bytes (inr lacks) right = none_of (at copy.now) bytes lacks.0 right.1.1.2
+  not_right (Gather root workers capacity long outboard salvage encode missing files out) bytes lacks right = absurd lacks
   not_right (Replay root capacity script files) bytes lacks right = none_of (at script.now) right.1.1.1.0 lacks right.1.1.1.2
 
   -- an encoding that is accepted has no fault
@@ -43,14 +43,14 @@ module _ (at : List ℕ → FileState) (m : Mode) where
   not_refused : (sure : Type 0) (task : Task) → LacksFile at m task → IsRefused sure at m task → ⊥
   not_refused sure (Hash from count file) lacks refused = absurd refused
   not_refused sure (Encode encoding file out) lacks refused = absurd refused
-  not_refused sure (CutSlice root start len None verbose file out) lacks refused = refused.1.1.0 lacks
-  not_refused sure (CutSlice root start len (Some outboard) verbose file out) (inl lacks) refused = refused.1.1.0 lacks
-  not_refused sure (CutSlice root start len (Some outboard) verbose file out) (inr lacks) refused = refused.1.1.2 lacks
-  not_refused sure (Decode root part verbose file out) lacks refused = refused.1.1.0 lacks
-  not_refused sure (DecodeCopy root outboard verbose copy out) (inl lacks) refused = refused.1.1.0 lacks
-  not_refused sure (DecodeCopy root outboard verbose copy out) (inr lacks) refused =
+  not_refused sure (CutSlice root start len None file out) lacks refused = refused.1.1.0 lacks
+  not_refused sure (CutSlice root start len (Some outboard) file out) (inl lacks) refused = refused.1.1.0 lacks
+  not_refused sure (CutSlice root start len (Some outboard) file out) (inr lacks) refused = refused.1.1.2 lacks
+  not_refused sure (Decode root part file out) lacks refused = refused.1.1.0 lacks
+  not_refused sure (DecodeCopy root outboard copy out) (inl lacks) refused = refused.1.1.0 lacks
+  not_refused sure (DecodeCopy root outboard copy out) (inr lacks) refused =
       no_fault refused.0 lacks.1.0 (lacks.1.2 refused.0 refused.1.0) (refused.1.1.2 lacks.0 lacks.1.0 lacks.1.1)
-  not_refused sure (Gather root workers capacity long outboard salvage encode verbose missing files out) lacks refused = absurd lacks
+  not_refused sure (Gather root workers capacity long outboard salvage encode missing files out) lacks refused = absurd lacks
   not_refused sure (Replay root capacity script files) lacks refused = elim refused.1.1.1 [
     | inl stopped ↦ none_of (at script.now) stopped.0 lacks stopped.2
     | inr fault ↦ none_of (at script.now) fault.2.0 lacks fault.2.2
@@ -64,10 +64,10 @@ module _ (at : List ℕ → FileState) (m : Mode) where
   no_list : (task : Task) → LacksFile at m task → list_of task ≡ None
   no_list (Hash from count file) lacks = refl
   no_list (Encode encoding file out) lacks = refl
-  no_list (CutSlice root start len outboard verbose file out) lacks = refl
-  no_list (Decode root part verbose file out) lacks = refl
-  no_list (DecodeCopy root outboard verbose copy out) lacks = refl
-  no_list (Gather root workers capacity long outboard salvage encode verbose missing files out) lacks = absurd lacks
+  no_list (CutSlice root start len outboard file out) lacks = refl
+  no_list (Decode root part file out) lacks = refl
+  no_list (DecodeCopy root outboard copy out) lacks = refl
+  no_list (Gather root workers capacity long outboard salvage encode missing files out) lacks = absurd lacks
   no_list (Replay root capacity script files) lacks = refl
 
   left_in : (after : List ℕ → FileState) (task : Task) (fault : Fault) → LacksFile at m task → LeavesFiles at after m task fault → KeepsFiles at after

@@ -11,8 +11,8 @@ use Rattle.bao_request.specs.declared.tasks.Task.TheVariants.{Hash, Encode, CutS
 pub right_bytes : (mode : Mode) (task : Task) (bytes : List ℕ) → IsRight (λ _. Unknown) mode task bytes → ¬ Replays task → AreBytes bytes
 right_bytes mode (Hash from length file) bytes right other = right
 right_bytes mode (Encode encoding file out) bytes right other = right
-right_bytes mode (CutSlice root start len outboard verbose file out) bytes right other = right.0.1.1.1
-right_bytes mode (Decode root part verbose file out) bytes right other = right.1
-right_bytes mode (DecodeCopy root outboard verbose copy out) bytes right other = right.1.1.2
-right_bytes mode (Gather root workers capacity long outboard salvage encode verbose missing files out) bytes right other = right.1.0.0.1.2
+right_bytes mode (CutSlice root start len outboard file out) bytes right other = right.0.1.1.1
+right_bytes mode (Decode root part file out) bytes right other = right.1
+right_bytes mode (DecodeCopy root outboard copy out) bytes right other = right.1.1.2
+right_bytes mode (Gather root workers capacity long outboard salvage encode missing files out) bytes right other = right.1.0.0.1.2
 right_bytes mode (Replay root capacity script files) bytes right other = absurd (other tt)

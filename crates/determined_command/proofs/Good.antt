@@ -32,10 +32,10 @@ module _ (at : List ℕ → FileState) (known : (path : List ℕ) → IsKnown (a
   out_apart : (task : Task) → WritesApart task → IsSomeAnd (out_of task) (λ out. IsLedTo at out.now (codes "/dev/stdout")) → ⊥
   out_apart (Hash from count file) apart leads = absurd leads
   out_apart (Encode encoding file out) apart leads = apart.1 (one_name out.now (codes "/dev/stdout") leads)
-  out_apart (CutSlice root start len outboard verbose file out) apart leads = apart.1 (one_name out.now (codes "/dev/stdout") leads)
-  out_apart (Decode root part verbose file out) apart leads = apart.1 (one_name out.now (codes "/dev/stdout") leads)
-  out_apart (DecodeCopy root outboard verbose copy out) apart leads = apart.1 (one_name out.now (codes "/dev/stdout") leads)
-  out_apart (Gather root workers capacity long outboard salvage encode verbose missing files out) apart leads = apart.1 (one_name out.now (codes "/dev/stdout") leads)
+  out_apart (CutSlice root start len outboard file out) apart leads = apart.1 (one_name out.now (codes "/dev/stdout") leads)
+  out_apart (Decode root part file out) apart leads = apart.1 (one_name out.now (codes "/dev/stdout") leads)
+  out_apart (DecodeCopy root outboard copy out) apart leads = apart.1 (one_name out.now (codes "/dev/stdout") leads)
+  out_apart (Gather root workers capacity long outboard salvage encode missing files out) apart leads = apart.1 (one_name out.now (codes "/dev/stdout") leads)
   out_apart (Replay root capacity script files) apart leads = absurd leads
 
   -- so it is of a file that is read
@@ -51,10 +51,10 @@ module _ (at : List ℕ → FileState) (known : (path : List ℕ) → IsKnown (a
   out_read : (key_file : Option (Bor (List ℕ))) (task : Task) → ReadsOutAs (IsLedTo at) key_file task → ReadsOutAs (λ ours theirs. ours ≡ theirs) key_file task
   out_read key_file (Hash from count file) leads = absurd leads
   out_read key_file (Encode encoding file out) leads = one_same out.now key_file None (Some file) leads
-  out_read key_file (CutSlice root start len outboard verbose file out) leads = one_same out.now key_file outboard (Some file) leads
-  out_read key_file (Decode root part verbose file out) leads = one_same out.now key_file None (Some file) leads
-  out_read key_file (DecodeCopy root outboard verbose copy out) leads = one_same out.now key_file (Some outboard) (Some copy) leads
-  out_read key_file (Gather root workers capacity long outboard salvage encode verbose missing files out) leads = one_same out.now key_file outboard None leads
+  out_read key_file (CutSlice root start len outboard file out) leads = one_same out.now key_file outboard (Some file) leads
+  out_read key_file (Decode root part file out) leads = one_same out.now key_file None (Some file) leads
+  out_read key_file (DecodeCopy root outboard copy out) leads = one_same out.now key_file (Some outboard) (Some copy) leads
+  out_read key_file (Gather root workers capacity long outboard salvage encode missing files out) leads = one_same out.now key_file outboard None leads
   out_read key_file (Replay root capacity script files) leads = absurd leads
 
   named : (list : List ℕ) (other : Option (Bor (List ℕ))) → IsSomeAnd other (λ path. IsLedTo at list path.now) → IsNamed list other
@@ -62,19 +62,19 @@ module _ (at : List ℕ → FileState) (known : (path : List ℕ) → IsKnown (a
   named list (Some path) leads = sym (one_name list path.now leads)
 
   list_apart : (key_file : Option (Bor (List ℕ))) (task : Task) → ¬ ListClashes task → ¬ ReadsListOf key_file task → LeadsListTo at key_file task → ⊥
-  list_apart key_file (Gather root workers capacity long outboard salvage encode verbose (Some list) files out) clash reads leads = elim leads [
+  list_apart key_file (Gather root workers capacity long outboard salvage encode (Some list) files out) clash reads leads = elim leads [
     | inl output ↦ clash (inr (λ apart. apart.1 (one_name list.now (codes "/dev/stdout") output)))
     | inr (inl to_out) ↦ clash (inl (one_name list.now out.now to_out))
     | inr (inr (inl to_outboard)) ↦ reads (inr (inl (named list.now outboard to_outboard)))
     | inr (inr (inr (inl to_key))) ↦ reads (inr (inr (named list.now key_file to_key)))
     | inr (inr (inr (inr file))) ↦ reads (inl (file.0, file.1, λ d. sym (one_name list.now _ (file.2 d))))
   ]
-  list_apart key_file (Gather root workers capacity long outboard salvage encode verbose None files out) clash reads leads = absurd leads
+  list_apart key_file (Gather root workers capacity long outboard salvage encode None files out) clash reads leads = absurd leads
   list_apart key_file (Hash from count file) clash reads leads = absurd leads
   list_apart key_file (Encode encoding file out) clash reads leads = absurd leads
-  list_apart key_file (CutSlice root start len outboard verbose file out) clash reads leads = absurd leads
-  list_apart key_file (Decode root part verbose file out) clash reads leads = absurd leads
-  list_apart key_file (DecodeCopy root outboard verbose copy out) clash reads leads = absurd leads
+  list_apart key_file (CutSlice root start len outboard file out) clash reads leads = absurd leads
+  list_apart key_file (Decode root part file out) clash reads leads = absurd leads
+  list_apart key_file (DecodeCopy root outboard copy out) clash reads leads = absurd leads
   list_apart key_file (Replay root capacity script files) clash reads leads = absurd leads
 
   pub not_due : (request : Request) → IsGood at request → (f : Fault) → status_of f ≡ 2 → IsDue at request f → ⊥

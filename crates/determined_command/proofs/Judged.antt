@@ -50,7 +50,7 @@ accepted_apart mode key part text low accepted fault = apart (part_bytes part) m
 
 module _ (at : List ℕ → FileState) (m : Mode) (sure : Type 0) (xs : List ℕ) where
   pub judged : (r s : Task) → SameTask r s → IsOfKnown at r → IsJudged at r → IsRight at m r xs → IsRefused sure at m s → ⊥
-  judged (CutSlice root start len None verbose file out) (CutSlice root' start' len' None verbose' file' out') same known judge right refused =
+  judged (CutSlice root start len None file out) (CutSlice root' start' len' None file' out') same known judge right refused =
       let one : xs ≡ cut_text known.0 start len = cut_same at file.now known.0 start len xs known.1 known.2 right.1 in
       let key : refused.0 ≡ right.0.0 = one_key root.now root'.now right.0.0 refused.0 same.0 right.0.1.0 refused.1.0 in
       let short : length known.0 < 2 ^ 63 = judge.1 known.0 known.1 in
@@ -59,11 +59,11 @@ module _ (at : List ℕ → FileState) (m : Mode) (sure : Type 0) (xs : List ℕ
       subst (λ (T : Type 0). T) (λ i. HasFault (IsTextFault (task_of_part m (key i) (Slice (sym same.1 i) (sym same.2 i))) (cut_text known.0 (sym same.1 i) (sym same.2 i)))) fault in
       accepted_apart m right.0.0 (Slice start len) (cut_text known.0 start len) (omega (arith, cut_text-few known.0 start len, short))
       (subst (IsPartText m right.0.0 (Slice start len)) one right.0.1.1.0) also
-  judged (CutSlice root start len None verbose file out) (CutSlice root' start' len' (Some outboard) verbose' file' out') same known judge right refused =
+  judged (CutSlice root start len None file out) (CutSlice root' start' len' (Some outboard) file' out') same known judge right refused =
       let no : None ≡ Some outboard.now = same.3 in cc
-  judged (CutSlice root start len (Some outboard) verbose file out) (CutSlice root' start' len' None verbose' file' out') same known judge right refused =
+  judged (CutSlice root start len (Some outboard) file out) (CutSlice root' start' len' None file' out') same known judge right refused =
       let no : Some outboard.now ≡ None = same.3 in cc
-  judged (CutSlice root start len (Some outboard) verbose file out) (CutSlice root' start' len' (Some outboard') verbose' file' out') same known judge right refused =
+  judged (CutSlice root start len (Some outboard) file out) (CutSlice root' start' len' (Some outboard') file' out') same known judge right refused =
       let path : outboard.now ≡ outboard'.now = same_Some outboard.now outboard'.now same.3 in
       let woven = woven_text (claimed known.0) known.0 known.1 in
       let one : xs ≡ cut_text woven start len = beside_same at outboard.now file.now known.0 known.1 start len xs known.2 known.3 known.4 right.1 in
@@ -74,14 +74,14 @@ module _ (at : List ℕ → FileState) (m : Mode) (sure : Type 0) (xs : List ℕ
       subst (λ (T : Type 0). T) (λ i. HasFault (IsTextFault (task_of_part m (key i) (Slice (sym same.1 i) (sym same.2 i))) (cut_text woven (sym same.1 i) (sym same.2 i)))) fault in
       accepted_apart m right.0.0 (Slice start len) (cut_text woven start len) (woven_short known.0 known.1 start len known.4)
       (subst (IsPartText m right.0.0 (Slice start len)) one right.0.1.1.0) also
-  judged (Decode root part verbose file out) (Decode root' part' verbose' file' out') same known judge right refused =
+  judged (Decode root part file out) (Decode root' part' file' out') same known judge right refused =
       let there : at file.now ≡ Stored xs = stored_there (at file.now) xs known right.1 in
       let key : refused.0 ≡ right.0.0 = one_key root.now root'.now right.0.0 refused.0 same.0 right.0.1.0 refused.1.0 in
       let fault = refused.1.1.1 (subst (λ (p : List ℕ). IsKnown (at p)) same.3 judge.0) xs (subst (λ (p : List ℕ). at p ≡ Stored xs) same.2 there) in
       let also : HasFault (IsTextFault (task_of_part m right.0.0 part) xs) =
       subst (λ (T : Type 0). T) (λ i. HasFault (IsTextFault (task_of_part m (key i) (sym same.1 i)) xs)) fault in
       accepted_apart m right.0.0 part xs (judge.1 xs there) right.0.1.1.0 also
-  judged (DecodeCopy root outboard verbose copy out) (DecodeCopy root' outboard' verbose' copy' out') same known judge right refused =
+  judged (DecodeCopy root outboard copy out) (DecodeCopy root' outboard' copy' out') same known judge right refused =
       let outline : List ℕ = right.1.1.0 in
       let beside : at outboard.now ≡ Stored outline = stored_there (at outboard.now) outline judge.1 right.1.1.1 in
       let there : at copy.now ≡ Stored xs = stored_there (at copy.now) xs known right.1.1.2 in
@@ -108,51 +108,51 @@ module _ (at : List ℕ → FileState) (m : Mode) (sure : Type 0) (xs : List ℕ
             refused_accepted m root_ capacity lines pieces number fault.0
             (subst (λ (T : Type 0). T) (λ i. IsRefusedRun m (key i) lines pieces number fault.0) bad) (run_accepted m root_ capacity lines pieces xs run)
       ]
-  judged (Gather root workers capacity long outboard salvage encode verbose missing files out) s same known judge right refused = absurd known
+  judged (Gather root workers capacity long outboard salvage encode missing files out) s same known judge right refused = absurd known
   judged (Hash from count file) (Hash from' count' file') same known judge right refused = absurd refused
   judged (Hash from count file) (Encode encoding' file' out') same known judge right refused = absurd refused
-  judged (Hash from count file) (CutSlice root' start' len' outboard' verbose' file' out') same known judge right refused = absurd same
-  judged (Hash from count file) (Decode root' part' verbose' file' out') same known judge right refused = absurd same
-  judged (Hash from count file) (DecodeCopy root' outboard' verbose' copy' out') same known judge right refused = absurd same
-  judged (Hash from count file) (Gather root' workers' capacity' long' outboard' salvage' encode' verbose' missing' files' out') same known judge right refused = absurd same
+  judged (Hash from count file) (CutSlice root' start' len' outboard' file' out') same known judge right refused = absurd same
+  judged (Hash from count file) (Decode root' part' file' out') same known judge right refused = absurd same
+  judged (Hash from count file) (DecodeCopy root' outboard' copy' out') same known judge right refused = absurd same
+  judged (Hash from count file) (Gather root' workers' capacity' long' outboard' salvage' encode' missing' files' out') same known judge right refused = absurd same
   judged (Hash from count file) (Replay root' capacity' script' files') same known judge right refused = absurd same
   judged (Encode encoding file out) (Hash from' count' file') same known judge right refused = absurd refused
   judged (Encode encoding file out) (Encode encoding' file' out') same known judge right refused = absurd refused
-  judged (Encode encoding file out) (CutSlice root' start' len' outboard' verbose' file' out') same known judge right refused = absurd same
-  judged (Encode encoding file out) (Decode root' part' verbose' file' out') same known judge right refused = absurd same
-  judged (Encode encoding file out) (DecodeCopy root' outboard' verbose' copy' out') same known judge right refused = absurd same
-  judged (Encode encoding file out) (Gather root' workers' capacity' long' outboard' salvage' encode' verbose' missing' files' out') same known judge right refused = absurd same
+  judged (Encode encoding file out) (CutSlice root' start' len' outboard' file' out') same known judge right refused = absurd same
+  judged (Encode encoding file out) (Decode root' part' file' out') same known judge right refused = absurd same
+  judged (Encode encoding file out) (DecodeCopy root' outboard' copy' out') same known judge right refused = absurd same
+  judged (Encode encoding file out) (Gather root' workers' capacity' long' outboard' salvage' encode' missing' files' out') same known judge right refused = absurd same
   judged (Encode encoding file out) (Replay root' capacity' script' files') same known judge right refused = absurd same
-  judged (CutSlice root start len None verbose file out) (Hash from' count' file') same known judge right refused = absurd same
-  judged (CutSlice root start len (Some outboard) verbose file out) (Hash from' count' file') same known judge right refused = absurd same
-  judged (CutSlice root start len None verbose file out) (Encode encoding' file' out') same known judge right refused = absurd same
-  judged (CutSlice root start len (Some outboard) verbose file out) (Encode encoding' file' out') same known judge right refused = absurd same
-  judged (CutSlice root start len None verbose file out) (Decode root' part' verbose' file' out') same known judge right refused = absurd same
-  judged (CutSlice root start len (Some outboard) verbose file out) (Decode root' part' verbose' file' out') same known judge right refused = absurd same
-  judged (CutSlice root start len None verbose file out) (DecodeCopy root' outboard' verbose' copy' out') same known judge right refused = absurd same
-  judged (CutSlice root start len (Some outboard) verbose file out) (DecodeCopy root' outboard' verbose' copy' out') same known judge right refused = absurd same
-  judged (CutSlice root start len None verbose file out) (Gather root' workers' capacity' long' outboard' salvage' encode' verbose' missing' files' out') same known judge right refused = absurd same
-  judged (CutSlice root start len (Some outboard) verbose file out) (Gather root' workers' capacity' long' outboard' salvage' encode' verbose' missing' files' out') same known judge right refused = absurd same
-  judged (CutSlice root start len None verbose file out) (Replay root' capacity' script' files') same known judge right refused = absurd same
-  judged (CutSlice root start len (Some outboard) verbose file out) (Replay root' capacity' script' files') same known judge right refused = absurd same
-  judged (Decode root part verbose file out) (Hash from' count' file') same known judge right refused = absurd same
-  judged (Decode root part verbose file out) (Encode encoding' file' out') same known judge right refused = absurd same
-  judged (Decode root part verbose file out) (CutSlice root' start' len' outboard' verbose' file' out') same known judge right refused = absurd same
-  judged (Decode root part verbose file out) (DecodeCopy root' outboard' verbose' copy' out') same known judge right refused = absurd same
-  judged (Decode root part verbose file out) (Gather root' workers' capacity' long' outboard' salvage' encode' verbose' missing' files' out') same known judge right refused = absurd same
-  judged (Decode root part verbose file out) (Replay root' capacity' script' files') same known judge right refused = absurd same
-  judged (DecodeCopy root outboard verbose copy out) (Hash from' count' file') same known judge right refused = absurd same
-  judged (DecodeCopy root outboard verbose copy out) (Encode encoding' file' out') same known judge right refused = absurd same
-  judged (DecodeCopy root outboard verbose copy out) (CutSlice root' start' len' outboard' verbose' file' out') same known judge right refused = absurd same
-  judged (DecodeCopy root outboard verbose copy out) (Decode root' part' verbose' file' out') same known judge right refused = absurd same
-  judged (DecodeCopy root outboard verbose copy out) (Gather root' workers' capacity' long' outboard' salvage' encode' verbose' missing' files' out') same known judge right refused = absurd same
-  judged (DecodeCopy root outboard verbose copy out) (Replay root' capacity' script' files') same known judge right refused = absurd same
+  judged (CutSlice root start len None file out) (Hash from' count' file') same known judge right refused = absurd same
+  judged (CutSlice root start len (Some outboard) file out) (Hash from' count' file') same known judge right refused = absurd same
+  judged (CutSlice root start len None file out) (Encode encoding' file' out') same known judge right refused = absurd same
+  judged (CutSlice root start len (Some outboard) file out) (Encode encoding' file' out') same known judge right refused = absurd same
+  judged (CutSlice root start len None file out) (Decode root' part' file' out') same known judge right refused = absurd same
+  judged (CutSlice root start len (Some outboard) file out) (Decode root' part' file' out') same known judge right refused = absurd same
+  judged (CutSlice root start len None file out) (DecodeCopy root' outboard' copy' out') same known judge right refused = absurd same
+  judged (CutSlice root start len (Some outboard) file out) (DecodeCopy root' outboard' copy' out') same known judge right refused = absurd same
+  judged (CutSlice root start len None file out) (Gather root' workers' capacity' long' outboard' salvage' encode' missing' files' out') same known judge right refused = absurd same
+  judged (CutSlice root start len (Some outboard) file out) (Gather root' workers' capacity' long' outboard' salvage' encode' missing' files' out') same known judge right refused = absurd same
+  judged (CutSlice root start len None file out) (Replay root' capacity' script' files') same known judge right refused = absurd same
+  judged (CutSlice root start len (Some outboard) file out) (Replay root' capacity' script' files') same known judge right refused = absurd same
+  judged (Decode root part file out) (Hash from' count' file') same known judge right refused = absurd same
+  judged (Decode root part file out) (Encode encoding' file' out') same known judge right refused = absurd same
+  judged (Decode root part file out) (CutSlice root' start' len' outboard' file' out') same known judge right refused = absurd same
+  judged (Decode root part file out) (DecodeCopy root' outboard' copy' out') same known judge right refused = absurd same
+  judged (Decode root part file out) (Gather root' workers' capacity' long' outboard' salvage' encode' missing' files' out') same known judge right refused = absurd same
+  judged (Decode root part file out) (Replay root' capacity' script' files') same known judge right refused = absurd same
+  judged (DecodeCopy root outboard copy out) (Hash from' count' file') same known judge right refused = absurd same
+  judged (DecodeCopy root outboard copy out) (Encode encoding' file' out') same known judge right refused = absurd same
+  judged (DecodeCopy root outboard copy out) (CutSlice root' start' len' outboard' file' out') same known judge right refused = absurd same
+  judged (DecodeCopy root outboard copy out) (Decode root' part' file' out') same known judge right refused = absurd same
+  judged (DecodeCopy root outboard copy out) (Gather root' workers' capacity' long' outboard' salvage' encode' missing' files' out') same known judge right refused = absurd same
+  judged (DecodeCopy root outboard copy out) (Replay root' capacity' script' files') same known judge right refused = absurd same
   judged (Replay root capacity script files) (Hash from' count' file') same known judge right refused = absurd same
   judged (Replay root capacity script files) (Encode encoding' file' out') same known judge right refused = absurd same
-  judged (Replay root capacity script files) (CutSlice root' start' len' outboard' verbose' file' out') same known judge right refused = absurd same
-  judged (Replay root capacity script files) (Decode root' part' verbose' file' out') same known judge right refused = absurd same
-  judged (Replay root capacity script files) (DecodeCopy root' outboard' verbose' copy' out') same known judge right refused = absurd same
-  judged (Replay root capacity script files) (Gather root' workers' capacity' long' outboard' salvage' encode' verbose' missing' files' out') same known judge right refused = absurd same
+  judged (Replay root capacity script files) (CutSlice root' start' len' outboard' file' out') same known judge right refused = absurd same
+  judged (Replay root capacity script files) (Decode root' part' file' out') same known judge right refused = absurd same
+  judged (Replay root capacity script files) (DecodeCopy root' outboard' copy' out') same known judge right refused = absurd same
+  judged (Replay root capacity script files) (Gather root' workers' capacity' long' outboard' salvage' encode' missing' files' out') same known judge right refused = absurd same
 
 module _ (words : List Text) (at after : List ℕ → FileState) (old new : Option (List ℕ)) (sure : Type 0) where
   judged_of : (r s : Request) → SameRequest r s → IsOfKnown at r.task → IsKeyKnown at r → IsJudged at r.task → PrintsLine r at after old new

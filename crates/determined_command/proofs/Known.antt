@@ -134,16 +134,16 @@ module _ (at : List ℕ → FileState) where
     task_same (Encode encoding file out) (Encode encoding' file' out') same known ours theirs did also =
         let bytes : xs ≡ ys = bytes_same file.now file'.now same.1 known ours theirs in
         (λ i. digits_line (hash m (bytes i)), put_same out.now out'.now _ _ same.2 (λ i. encoding_text m (same.0 i) (bytes i)) did also)
-    task_same (CutSlice root start len None verbose file out) (CutSlice root' start' len' None verbose' file' out') same known ours theirs did also =
+    task_same (CutSlice root start len None file out) (CutSlice root' start' len' None file' out') same known ours theirs did also =
         let one : xs ≡ cut_text known.0 start len = cut_same file.now known.0 start len xs known.1 known.2 ours.1 in
         let other : ys ≡ cut_text known.0 start' len' = cut_same file'.now known.0 start' len' ys (subst (λ (p : List ℕ). at p ≡ Stored known.0) same.4 known.1) known.2 theirs.1 in
         let bytes : xs ≡ ys = one ∙ (λ i. cut_text known.0 (same.1 i) (same.2 i)) ∙ sym other in
         (λ i. part_line (Slice (same.1 i) (same.2 i)) (bytes i), put_same out.now out'.now xs ys same.5 bytes did also)
-    task_same (CutSlice root start len None verbose file out) (CutSlice root' start' len' (Some outboard) verbose' file' out') same known ours theirs did also =
+    task_same (CutSlice root start len None file out) (CutSlice root' start' len' (Some outboard) file' out') same known ours theirs did also =
         let no : None ≡ Some outboard.now = same.3 in cc
-    task_same (CutSlice root start len (Some outboard) verbose file out) (CutSlice root' start' len' None verbose' file' out') same known ours theirs did also =
+    task_same (CutSlice root start len (Some outboard) file out) (CutSlice root' start' len' None file' out') same known ours theirs did also =
         let no : Some outboard.now ≡ None = same.3 in cc
-    task_same (CutSlice root start len (Some outboard) verbose file out) (CutSlice root' start' len' (Some outboard') verbose' file' out') same known ours theirs did also =
+    task_same (CutSlice root start len (Some outboard) file out) (CutSlice root' start' len' (Some outboard') file' out') same known ours theirs did also =
         let path : outboard.now ≡ outboard'.now = same_Some outboard.now outboard'.now same.3 in
         let one : xs ≡ cut_text (woven_text (claimed known.0) known.0 known.1) start len =
         beside_same outboard.now file.now known.0 known.1 start len xs known.2 known.3 known.4 ours.1 in
@@ -152,13 +152,13 @@ module _ (at : List ℕ → FileState) where
         (subst (λ (p : List ℕ). at p ≡ Stored known.1) same.4 known.3) known.4 theirs.1 in
         let bytes : xs ≡ ys = one ∙ (λ i. cut_text (woven_text (claimed known.0) known.0 known.1) (same.1 i) (same.2 i)) ∙ sym other in
         (λ i. part_line (Slice (same.1 i) (same.2 i)) (bytes i), put_same out.now out'.now xs ys same.5 bytes did also)
-    task_same (Decode root part verbose file out) (Decode root' part' verbose' file' out') same known ours theirs did also =
+    task_same (Decode root part file out) (Decode root' part' file' out') same known ours theirs did also =
         let bytes : xs ≡ ys = bytes_same file.now file'.now same.2 known ours.1 theirs.1 in
         (λ i. part_line (same.1 i) (bytes i), put_same out.now out'.now _ _ same.3 (λ i. part_bytes (same.1 i) (bytes i)) did also)
-    task_same (DecodeCopy root outboard verbose copy out) (DecodeCopy root' outboard' verbose' copy' out') same known ours theirs did also =
+    task_same (DecodeCopy root outboard copy out) (DecodeCopy root' outboard' copy' out') same known ours theirs did also =
         let bytes : xs ≡ ys = bytes_same copy.now copy'.now same.2 known ours.1.1.2 theirs.1.1.2 in
         (λ i. ok_line (length (bytes i)), put_same out.now out'.now xs ys same.3 bytes did also)
-    task_same (Gather root workers capacity long outboard salvage encode verbose missing files out) s same known ours theirs did also = absurd known
+    task_same (Gather root workers capacity long outboard salvage encode missing files out) s same known ours theirs did also = absurd known
     task_same (Replay root capacity script files) (Replay root' capacity' script' files') same known ours theirs did also =
         let one = known_run root.now capacity script.now files.items m xs known.0 known.1 known.2 known.3 ours.1 in
         let other = known_run root'.now capacity' script'.now files'.items m ys known.0 known.1 (subst (λ (p : List ℕ). at p ≡ Stored known.0) same.2 known.2)
@@ -167,47 +167,47 @@ module _ (at : List ℕ → FileState) where
         let run : IsRun m one.0 capacity known.0 known.1 ys = subst (λ (T : Type 0). T) (λ i. IsRun m (sym key i) (sym same.1 i) known.0 known.1 ys) other.2 in
         (runs_one m one.0 capacity known.0 known.1 xs ys one.2 run, keeps_same at at a b (λ _. refl) did also)
     task_same (Hash from count file) (Encode encoding' file' out') same known ours theirs did also = absurd same
-    task_same (Hash from count file) (CutSlice root' start' len' outboard' verbose' file' out') same known ours theirs did also = absurd same
-    task_same (Hash from count file) (Decode root' part' verbose' file' out') same known ours theirs did also = absurd same
-    task_same (Hash from count file) (DecodeCopy root' outboard' verbose' copy' out') same known ours theirs did also = absurd same
-    task_same (Hash from count file) (Gather root' workers' capacity' long' outboard' salvage' encode' verbose' missing' files' out') same known ours theirs did also = absurd same
+    task_same (Hash from count file) (CutSlice root' start' len' outboard' file' out') same known ours theirs did also = absurd same
+    task_same (Hash from count file) (Decode root' part' file' out') same known ours theirs did also = absurd same
+    task_same (Hash from count file) (DecodeCopy root' outboard' copy' out') same known ours theirs did also = absurd same
+    task_same (Hash from count file) (Gather root' workers' capacity' long' outboard' salvage' encode' missing' files' out') same known ours theirs did also = absurd same
     task_same (Hash from count file) (Replay root' capacity' script' files') same known ours theirs did also = absurd same
     task_same (Encode encoding file out) (Hash from' count' file') same known ours theirs did also = absurd same
-    task_same (Encode encoding file out) (CutSlice root' start' len' outboard' verbose' file' out') same known ours theirs did also = absurd same
-    task_same (Encode encoding file out) (Decode root' part' verbose' file' out') same known ours theirs did also = absurd same
-    task_same (Encode encoding file out) (DecodeCopy root' outboard' verbose' copy' out') same known ours theirs did also = absurd same
-    task_same (Encode encoding file out) (Gather root' workers' capacity' long' outboard' salvage' encode' verbose' missing' files' out') same known ours theirs did also = absurd same
+    task_same (Encode encoding file out) (CutSlice root' start' len' outboard' file' out') same known ours theirs did also = absurd same
+    task_same (Encode encoding file out) (Decode root' part' file' out') same known ours theirs did also = absurd same
+    task_same (Encode encoding file out) (DecodeCopy root' outboard' copy' out') same known ours theirs did also = absurd same
+    task_same (Encode encoding file out) (Gather root' workers' capacity' long' outboard' salvage' encode' missing' files' out') same known ours theirs did also = absurd same
     task_same (Encode encoding file out) (Replay root' capacity' script' files') same known ours theirs did also = absurd same
-    task_same (CutSlice root start len None verbose file out) (Hash from' count' file') same known ours theirs did also = absurd same
-    task_same (CutSlice root start len (Some outboard) verbose file out) (Hash from' count' file') same known ours theirs did also = absurd same
-    task_same (CutSlice root start len None verbose file out) (Encode encoding' file' out') same known ours theirs did also = absurd same
-    task_same (CutSlice root start len (Some outboard) verbose file out) (Encode encoding' file' out') same known ours theirs did also = absurd same
-    task_same (CutSlice root start len None verbose file out) (Decode root' part' verbose' file' out') same known ours theirs did also = absurd same
-    task_same (CutSlice root start len (Some outboard) verbose file out) (Decode root' part' verbose' file' out') same known ours theirs did also = absurd same
-    task_same (CutSlice root start len None verbose file out) (DecodeCopy root' outboard' verbose' copy' out') same known ours theirs did also = absurd same
-    task_same (CutSlice root start len (Some outboard) verbose file out) (DecodeCopy root' outboard' verbose' copy' out') same known ours theirs did also = absurd same
-    task_same (CutSlice root start len None verbose file out) (Gather root' workers' capacity' long' outboard' salvage' encode' verbose' missing' files' out') same known ours theirs did also = absurd same
-    task_same (CutSlice root start len (Some outboard) verbose file out) (Gather root' workers' capacity' long' outboard' salvage' encode' verbose' missing' files' out') same known ours theirs did also = absurd same
-    task_same (CutSlice root start len None verbose file out) (Replay root' capacity' script' files') same known ours theirs did also = absurd same
-    task_same (CutSlice root start len (Some outboard) verbose file out) (Replay root' capacity' script' files') same known ours theirs did also = absurd same
-    task_same (Decode root part verbose file out) (Hash from' count' file') same known ours theirs did also = absurd same
-    task_same (Decode root part verbose file out) (Encode encoding' file' out') same known ours theirs did also = absurd same
-    task_same (Decode root part verbose file out) (CutSlice root' start' len' outboard' verbose' file' out') same known ours theirs did also = absurd same
-    task_same (Decode root part verbose file out) (DecodeCopy root' outboard' verbose' copy' out') same known ours theirs did also = absurd same
-    task_same (Decode root part verbose file out) (Gather root' workers' capacity' long' outboard' salvage' encode' verbose' missing' files' out') same known ours theirs did also = absurd same
-    task_same (Decode root part verbose file out) (Replay root' capacity' script' files') same known ours theirs did also = absurd same
-    task_same (DecodeCopy root outboard verbose copy out) (Hash from' count' file') same known ours theirs did also = absurd same
-    task_same (DecodeCopy root outboard verbose copy out) (Encode encoding' file' out') same known ours theirs did also = absurd same
-    task_same (DecodeCopy root outboard verbose copy out) (CutSlice root' start' len' outboard' verbose' file' out') same known ours theirs did also = absurd same
-    task_same (DecodeCopy root outboard verbose copy out) (Decode root' part' verbose' file' out') same known ours theirs did also = absurd same
-    task_same (DecodeCopy root outboard verbose copy out) (Gather root' workers' capacity' long' outboard' salvage' encode' verbose' missing' files' out') same known ours theirs did also = absurd same
-    task_same (DecodeCopy root outboard verbose copy out) (Replay root' capacity' script' files') same known ours theirs did also = absurd same
+    task_same (CutSlice root start len None file out) (Hash from' count' file') same known ours theirs did also = absurd same
+    task_same (CutSlice root start len (Some outboard) file out) (Hash from' count' file') same known ours theirs did also = absurd same
+    task_same (CutSlice root start len None file out) (Encode encoding' file' out') same known ours theirs did also = absurd same
+    task_same (CutSlice root start len (Some outboard) file out) (Encode encoding' file' out') same known ours theirs did also = absurd same
+    task_same (CutSlice root start len None file out) (Decode root' part' file' out') same known ours theirs did also = absurd same
+    task_same (CutSlice root start len (Some outboard) file out) (Decode root' part' file' out') same known ours theirs did also = absurd same
+    task_same (CutSlice root start len None file out) (DecodeCopy root' outboard' copy' out') same known ours theirs did also = absurd same
+    task_same (CutSlice root start len (Some outboard) file out) (DecodeCopy root' outboard' copy' out') same known ours theirs did also = absurd same
+    task_same (CutSlice root start len None file out) (Gather root' workers' capacity' long' outboard' salvage' encode' missing' files' out') same known ours theirs did also = absurd same
+    task_same (CutSlice root start len (Some outboard) file out) (Gather root' workers' capacity' long' outboard' salvage' encode' missing' files' out') same known ours theirs did also = absurd same
+    task_same (CutSlice root start len None file out) (Replay root' capacity' script' files') same known ours theirs did also = absurd same
+    task_same (CutSlice root start len (Some outboard) file out) (Replay root' capacity' script' files') same known ours theirs did also = absurd same
+    task_same (Decode root part file out) (Hash from' count' file') same known ours theirs did also = absurd same
+    task_same (Decode root part file out) (Encode encoding' file' out') same known ours theirs did also = absurd same
+    task_same (Decode root part file out) (CutSlice root' start' len' outboard' file' out') same known ours theirs did also = absurd same
+    task_same (Decode root part file out) (DecodeCopy root' outboard' copy' out') same known ours theirs did also = absurd same
+    task_same (Decode root part file out) (Gather root' workers' capacity' long' outboard' salvage' encode' missing' files' out') same known ours theirs did also = absurd same
+    task_same (Decode root part file out) (Replay root' capacity' script' files') same known ours theirs did also = absurd same
+    task_same (DecodeCopy root outboard copy out) (Hash from' count' file') same known ours theirs did also = absurd same
+    task_same (DecodeCopy root outboard copy out) (Encode encoding' file' out') same known ours theirs did also = absurd same
+    task_same (DecodeCopy root outboard copy out) (CutSlice root' start' len' outboard' file' out') same known ours theirs did also = absurd same
+    task_same (DecodeCopy root outboard copy out) (Decode root' part' file' out') same known ours theirs did also = absurd same
+    task_same (DecodeCopy root outboard copy out) (Gather root' workers' capacity' long' outboard' salvage' encode' missing' files' out') same known ours theirs did also = absurd same
+    task_same (DecodeCopy root outboard copy out) (Replay root' capacity' script' files') same known ours theirs did also = absurd same
     task_same (Replay root capacity script files) (Hash from' count' file') same known ours theirs did also = absurd same
     task_same (Replay root capacity script files) (Encode encoding' file' out') same known ours theirs did also = absurd same
-    task_same (Replay root capacity script files) (CutSlice root' start' len' outboard' verbose' file' out') same known ours theirs did also = absurd same
-    task_same (Replay root capacity script files) (Decode root' part' verbose' file' out') same known ours theirs did also = absurd same
-    task_same (Replay root capacity script files) (DecodeCopy root' outboard' verbose' copy' out') same known ours theirs did also = absurd same
-    task_same (Replay root capacity script files) (Gather root' workers' capacity' long' outboard' salvage' encode' verbose' missing' files' out') same known ours theirs did also = absurd same
+    task_same (Replay root capacity script files) (CutSlice root' start' len' outboard' file' out') same known ours theirs did also = absurd same
+    task_same (Replay root capacity script files) (Decode root' part' file' out') same known ours theirs did also = absurd same
+    task_same (Replay root capacity script files) (DecodeCopy root' outboard' copy' out') same known ours theirs did also = absurd same
+    task_same (Replay root capacity script files) (Gather root' workers' capacity' long' outboard' salvage' encode' missing' files' out') same known ours theirs did also = absurd same
 
 -- bytes that were appended to known ones
 appended_is : (all : List ℕ) (new : Option (List ℕ)) (line : List ℕ) → Appends (Some all) new line → new ≡ Some (all ++ line)

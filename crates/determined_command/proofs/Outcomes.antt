@@ -31,7 +31,7 @@ stored_there (Stored s) text known are = ap (λ (k : List ℕ). Stored k) (sym a
 -- the outcome where these bytes are right
 outcome_of : Mode → Task → List ℕ → Outcome
 outcome_of mode (Hash from count file) bytes = Line (digits_line (stream mode bytes from count))
-outcome_of mode (Decode root part verbose file out) bytes = Put (part_line part bytes) out.now (part_bytes part bytes)
+outcome_of mode (Decode root part file out) bytes = Put (part_line part bytes) out.now (part_bytes part bytes)
 outcome_of mode task bytes = Refused
 
 module _ (at : List ℕ → FileState) (known : (path : List ℕ) → IsKnown (at path)) (mode : Mode) where
@@ -40,7 +40,7 @@ module _ (at : List ℕ → FileState) (known : (path : List ℕ) → IsKnown (a
   is_outcome (Hash from count file) bytes one right =
       let line : Outcome = Line (digits_line (stream mode bytes from count)) in
       subst (λ (state : FileState). OfState state file.now line (λ s. line ≡ Line (digits_line (stream mode s from count)))) (sym (stored_there (at file.now) bytes (known file.now) right)) refl
-  is_outcome (Decode root part verbose file out) bytes one right =
+  is_outcome (Decode root part file out) bytes one right =
       let key : List ℕ = right.0.0 in
       let put : Outcome = Put (part_line part bytes) out.now (part_bytes part bytes) in (
         key,
@@ -51,20 +51,20 @@ module _ (at : List ℕ → FileState) (known : (path : List ℕ) → IsKnown (a
         ),
       )
   is_outcome (Encode encoding file out) bytes one right = absurd one
-  is_outcome (CutSlice root start len outboard verbose file out) bytes one right = absurd one
-  is_outcome (DecodeCopy root outboard verbose copy out) bytes one right = absurd one
-  is_outcome (Gather root workers capacity long outboard salvage encode verbose missing files out) bytes one right = absurd one
+  is_outcome (CutSlice root start len outboard file out) bytes one right = absurd one
+  is_outcome (DecodeCopy root outboard copy out) bytes one right = absurd one
+  is_outcome (Gather root workers capacity long outboard salvage encode missing files out) bytes one right = absurd one
   is_outcome (Replay root capacity script files) bytes one right = absurd one
 
   shows : (after : List ℕ → FileState) (old new : Option (List ℕ)) (task : Task) (bytes : List ℕ) → IsOfOne task → Writes at after mode task (list_of task) bytes → Appends old new (line_of mode task bytes)
       → Shows (outcome_of mode task bytes) at after old new
   unfolding outcome_of
   shows after old new (Hash from count file) bytes one writes appends = (writes, appends)
-  shows after old new (Decode root part verbose file out) bytes one writes appends = (writes, appends)
+  shows after old new (Decode root part file out) bytes one writes appends = (writes, appends)
   shows after old new (Encode encoding file out) bytes one writes appends = absurd one
-  shows after old new (CutSlice root start len outboard verbose file out) bytes one writes appends = absurd one
-  shows after old new (DecodeCopy root outboard verbose copy out) bytes one writes appends = absurd one
-  shows after old new (Gather root workers capacity long outboard salvage encode verbose missing files out) bytes one writes appends = absurd one
+  shows after old new (CutSlice root start len outboard file out) bytes one writes appends = absurd one
+  shows after old new (DecodeCopy root outboard copy out) bytes one writes appends = absurd one
+  shows after old new (Gather root workers capacity long outboard salvage encode missing files out) bytes one writes appends = absurd one
   shows after old new (Replay root capacity script files) bytes one writes appends = absurd one
 
   -- a text that is refused isn't accepted
@@ -77,12 +77,12 @@ module _ (at : List ℕ → FileState) (known : (path : List ℕ) → IsKnown (a
 
   is_refused : ((path : List ℕ) → IsShort (at path)) → (sure : Type 0) (task : Task) → IsOfOne task → IsRefused sure at mode task → OutcomeOf at mode task Refused
   is_refused short sure (Hash from count file) one refused = absurd refused
-  is_refused short sure (Decode root part verbose file out) one refused =
+  is_refused short sure (Decode root part file out) one refused =
       (refused.0, (refused.1.0, text_refused (at file.now) file.now out.now refused.0 part (known file.now) refused.1.1.0 (short file.now) (refused.1.1.1 (known out.now))))
   is_refused short sure (Encode encoding file out) one refused = absurd one
-  is_refused short sure (CutSlice root start len outboard verbose file out) one refused = absurd one
-  is_refused short sure (DecodeCopy root outboard verbose copy out) one refused = absurd one
-  is_refused short sure (Gather root workers capacity long outboard salvage encode verbose missing files out) one refused = absurd one
+  is_refused short sure (CutSlice root start len outboard file out) one refused = absurd one
+  is_refused short sure (DecodeCopy root outboard copy out) one refused = absurd one
+  is_refused short sure (Gather root workers capacity long outboard salvage encode missing files out) one refused = absurd one
   is_refused short sure (Replay root capacity script files) one refused = absurd one
 
 module _ (words : List Text) (at after : List ℕ → FileState) (old new : Option (List ℕ)) (known : (path : List ℕ) → IsKnown (at path))
@@ -131,13 +131,13 @@ one_judged good done a b (inr ours) (inr theirs) = ours.1 ∙ sym theirs.1
 -- so that there is one outcome
 pub one_outcome : (at : List ℕ → FileState) (mode : Mode) (task : Task) (a b : Outcome) → OutcomeOf at mode task a → OutcomeOf at mode task b → a ≡ b
 one_outcome at mode (Hash from count file) a b ours theirs = one_of_state (at file.now) file.now a b _ _ (λ bytes x y. x ∙ sym y) ours theirs
-one_outcome at mode (Decode root part verbose file out) a b ours theirs =
+one_outcome at mode (Decode root part file out) a b ours theirs =
     let key : ours.0 ≡ theirs.0 = (let first = ours.1.0 in let second = theirs.1.0 in cc) in
     one_of_state (at file.now) file.now a b _ _
     (λ text x y. one_judged (IsPartText mode theirs.0 part text) (Put (part_line part text) out.now (part_bytes part text)) a b
     (subst (λ (k : List ℕ). Judged (IsPartText mode k part text) (Put (part_line part text) out.now (part_bytes part text)) a) key x) y) ours.1.1 theirs.1.1
 one_outcome at mode (Encode encoding file out) a b ours theirs = absurd ours
-one_outcome at mode (CutSlice root start len outboard verbose file out) a b ours theirs = absurd ours
-one_outcome at mode (DecodeCopy root outboard verbose copy out) a b ours theirs = absurd ours
-one_outcome at mode (Gather root workers capacity long outboard salvage encode verbose missing files out) a b ours theirs = absurd ours
+one_outcome at mode (CutSlice root start len outboard file out) a b ours theirs = absurd ours
+one_outcome at mode (DecodeCopy root outboard copy out) a b ours theirs = absurd ours
+one_outcome at mode (Gather root workers capacity long outboard salvage encode missing files out) a b ours theirs = absurd ours
 one_outcome at mode (Replay root capacity script files) a b ours theirs = absurd ours

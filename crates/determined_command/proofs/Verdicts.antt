@@ -1,6 +1,6 @@
 -- Arguments that one run refuses are neither done nor judged by another one, where all files are known.
 use Rattle.std.specs.Borrow.{Bor}
-use Rattle.std.proofs.Common.{◌≡◌, ◌≢◌, ◌⊎◌, ◌≤◌, ℕ, List, Option, None, Some, IsSome, IsSomeAnd, inl, inr, arith, refl, sym, ap, subst}
+use Rattle.std.proofs.Common.{◌≡◌, ◌≢◌, ◌⊎◌, ◌≤◌, ℕ, List, Option, None, Some, false, true, IsSome, IsSomeAnd, inl, inr, arith, refl, sym, ap, subst}
 use Rattle.std.specs.Option.{option_copied}
 use Rattle.std.proofs.lemmas.Bool.Decides.{eqb_tells}
 use Rattle.b3tree.specs.declared.mode.Mode.{Mode}
@@ -30,6 +30,9 @@ keyed_given (Stored s) m known keyed none =
     let no : None ≡ Some keyed.2.0 = one_key s None (Some keyed.2.0) none (subst (λ (b : List ℕ). GivesKey b (Some keyed.2.0)) keyed.1 keyed.2.1) in
     cc
 
+none_is_some : IsSome {T = Bor (List ℕ)} None → ⊥
+none_is_some some = let no : false ≡ true = some in cc
+
 -- a file that is named is so by its path
 some_same : (P : List ℕ → Type 0) (a b : Option (Bor (List ℕ))) → option_copied a ≡ option_copied b → IsSomeAnd b (λ path. P path.now) → IsSomeAnd a (λ path. P path.now)
 some_same P None None same is = is
@@ -52,26 +55,26 @@ one_same out out' k k' o o' f f' outs keys boards files (inr (inr file)) =
 out_read : (k k' : Option (Bor (List ℕ))) (r s : Task) → option_copied k ≡ option_copied k' → SameTask r s → ReadsOutAs (λ ours theirs. ours ≡ theirs) k' s → ReadsOutAs (λ ours theirs. ours ≡ theirs) k r
 out_read k k' (Hash from count file) (Hash from' count' file') keys same read = absurd read
 out_read k k' (Encode encoding file out) (Encode encoding' file' out') keys same read = one_same out.now out'.now k k' None None (Some file) (Some file') same.2 keys refl (ap (λ (n : List ℕ). Some n) same.1) read
-out_read k k' (CutSlice root start len outboard verbose file out) (CutSlice root' start' len' outboard' verbose' file' out') keys same read =
+out_read k k' (CutSlice root start len outboard file out) (CutSlice root' start' len' outboard' file' out') keys same read =
     one_same out.now out'.now k k' outboard outboard' (Some file) (Some file') same.5 keys same.3 (ap (λ (n : List ℕ). Some n) same.4) read
-out_read k k' (Decode root part verbose file out) (Decode root' part' verbose' file' out') keys same read =
+out_read k k' (Decode root part file out) (Decode root' part' file' out') keys same read =
     one_same out.now out'.now k k' None None (Some file) (Some file') same.3 keys refl (ap (λ (n : List ℕ). Some n) same.2) read
-out_read k k' (DecodeCopy root outboard verbose copy out) (DecodeCopy root' outboard' verbose' copy' out') keys same read =
+out_read k k' (DecodeCopy root outboard copy out) (DecodeCopy root' outboard' copy' out') keys same read =
     one_same out.now out'.now k k' (Some outboard) (Some outboard') (Some copy) (Some copy') same.3 keys (ap (λ (n : List ℕ). Some n) same.1) (ap (λ (n : List ℕ). Some n) same.2) read
-out_read k k' (Gather root workers capacity long outboard salvage encode verbose missing files out) (Gather root' workers' capacity' long' outboard' salvage' encode' verbose' missing' files' out') keys same read =
-    one_same out.now out'.now k k' outboard outboard' None None same.10 keys same.4 refl read
+out_read k k' (Gather root workers capacity long outboard salvage encode missing files out) (Gather root' workers' capacity' long' outboard' salvage' encode' missing' files' out') keys same read =
+    one_same out.now out'.now k k' outboard outboard' None None same.9 keys same.4 refl read
 out_read k k' (Replay root capacity script files) (Replay root' capacity' script' files') keys same read = absurd read
 out_read k k' r s keys same read = absurd same
 
 module _ (at : List ℕ → FileState) (known : (path : List ℕ) → IsKnown (at path)) where
   keys_good : (k p c : Option (Bor (List ℕ))) (m : Mode) → AsksForMode at (option_copied k) (option_copied p) (option_copied c) m
       → (¬ IsNoKey k) × (¬ (IsSome k × IsSome c)) × (¬ (IsSome p × (IsSome k ⊎ IsSome c))) × ¬ IsSomeAnd p (λ path. GivesNoKey (at path.now))
-  keys_good None None None m has = (λ no. no, λ both. absurd both.0, λ mixed. absurd mixed.0, λ no. no)
-  keys_good None None (Some c) m has = (λ no. no, λ both. absurd both.0, λ mixed. absurd mixed.0, λ no. no)
-  keys_good (Some k) None None m has = (λ no. no has.0, λ both. absurd both.1, λ mixed. absurd mixed.0, λ no. no)
+  keys_good None None None m has = (λ no. no, λ both. none_is_some both.0, λ mixed. none_is_some mixed.0, λ no. no)
+  keys_good None None (Some c) m has = (λ no. no, λ both. none_is_some both.0, λ mixed. none_is_some mixed.0, λ no. no)
+  keys_good (Some k) None None m has = (λ no. no has.0, λ both. none_is_some both.1, λ mixed. none_is_some mixed.0, λ no. no)
   keys_good (Some k) None (Some c) m has = absurd has
   keys_good None (Some p) None m has =
-      (λ no. no, λ both. absurd both.0, λ mixed. elim mixed.1 [ inl key ↦ absurd key | inr context ↦ absurd context ], λ none. keyed_given (at p.now) m (known p.now) has none)
+      (λ no. no, λ both. none_is_some both.0, λ mixed. elim mixed.1 [ inl key ↦ none_is_some key | inr context ↦ none_is_some context ], λ none. keyed_given (at p.now) m (known p.now) has none)
   keys_good None (Some p) (Some c) m has = absurd has
   keys_good (Some k) (Some p) c m has = absurd has
 
@@ -83,19 +86,19 @@ module _ (at : List ℕ → FileState) (known : (path : List ℕ) → IsKnown (a
   unfolding Passed
   also (Hash from count file) (Hash from' count' file') same of p = (tt, tt, λ past. p.2 (λ fits. past (omega (arith, fits, same.0, same.1))), p.3)
   also (Encode encoding file out) (Encode encoding' file' out') same of p = (tt, subst IsNoOutput same.2 p.1, p.2, p.3)
-  also (CutSlice root start len outboard verbose file out) (CutSlice root' start' len' outboard' verbose' file' out') same of p =
+  also (CutSlice root start len outboard file out) (CutSlice root' start' len' outboard' file' out') same of p =
       (subst IsDigits same.0 p.0, subst IsNoOutput same.5 p.1, λ past. past, λ many. many)
-  also (Decode root part verbose file out) (Decode root' part' verbose' file' out') same of p = (subst IsDigits same.0 p.0, subst IsNoOutput same.3 p.1, p.2, p.3)
-  also (DecodeCopy root outboard verbose copy out) (DecodeCopy root' outboard' verbose' copy' out') same of p = (subst IsDigits same.0 p.0, subst IsNoOutput same.3 p.1, p.2, p.3)
-  also (Gather root workers capacity long outboard salvage encode verbose missing files out) s same of p = absurd of
+  also (Decode root part file out) (Decode root' part' file' out') same of p = (subst IsDigits same.0 p.0, subst IsNoOutput same.3 p.1, p.2, p.3)
+  also (DecodeCopy root outboard copy out) (DecodeCopy root' outboard' copy' out') same of p = (subst IsDigits same.0 p.0, subst IsNoOutput same.3 p.1, p.2, p.3)
+  also (Gather root workers capacity long outboard salvage encode missing files out) s same of p = absurd of
   also (Replay root capacity script files) (Replay root' capacity' script' files') same of p =
       (subst IsDigits same.0 p.0, tt, λ past. past, λ many. p.3 (omega (arith, many, as_many files.items files'.items same.3)))
   also r s same of p = absurd same
 
   -- such a task has none
   no_list : (key_file : Option (Bor (List ℕ))) (r s : Task) → SameTask r s → IsOfKnown at r → (¬ ListClashes s) × (¬ ReadsListOf key_file s) × ¬ IsMixed s
-  no_list key_file (Gather root workers capacity long outboard salvage encode verbose missing files out) s same of = absurd of
-  no_list key_file r (Gather root workers capacity long outboard salvage encode verbose missing files out) same of = absurd same
+  no_list key_file (Gather root workers capacity long outboard salvage encode missing files out) s same of = absurd of
+  no_list key_file r (Gather root workers capacity long outboard salvage encode missing files out) same of = absurd same
   no_list key_file r s same of = (λ no. no, λ no. no, λ no. no)
 
   -- a request that has passed has no reason to be refused with 2
@@ -138,13 +141,13 @@ module _ (at : List ℕ → FileState) (known : (path : List ℕ) → IsKnown (a
 one_of_five : (n : ℕ) → n ≤ 4 → (n ≡ 0) ⊎ (n ≡ 1) ⊎ (n ≡ 2) ⊎ IsOpen n
 one_of_five n most = elim (eqb_tells n 0) [
   | inl zero ↦ inl zero.1
-  | inr no ↦ elim (eqb_tells n 1) [
+  | inr above ↦ elim (eqb_tells n 1) [
     | inl one ↦ inr (inl one.1)
-    | inr nor ↦ elim (eqb_tells n 2) [
+    | inr beyond ↦ elim (eqb_tells n 2) [
       | inl two ↦ inr (inr (inl two.1))
       | inr last ↦ elim (eqb_tells n 3) [
         | inl three ↦ inr (inr (inr (inl three.1)))
-        | inr rest ↦ inr (inr (inr (inr (omega (arith, most, no.1, nor.1, last.1, rest.1)))))
+        | inr rest ↦ inr (inr (inr (inr (omega (arith, most, above.1, beyond.1, last.1, rest.1)))))
       ]
     ]
   ]

@@ -37,12 +37,12 @@ BothKeep (Some all) one other = (one ≡ Some all) × (other ≡ Some all)
 abbrev pub IsOfKnown : (List ℕ → FileState) → Task → Type 0
 IsOfKnown at (Hash from count file) = IsKnown (at file.now)
 IsOfKnown at (Encode encoding file out) = IsKnown (at file.now)
-IsOfKnown at (CutSlice root start len None verbose file out) = (text : List ℕ) × (at file.now ≡ Stored text) × (length text < 2 ^ 64)
-IsOfKnown at (CutSlice root start len (Some outboard) verbose file out) =
+IsOfKnown at (CutSlice root start len None file out) = (text : List ℕ) × (at file.now ≡ Stored text) × (length text < 2 ^ 64)
+IsOfKnown at (CutSlice root start len (Some outboard) file out) =
     (outline : List ℕ) × (bytes : List ℕ) × (at outboard.now ≡ Stored outline) × (at file.now ≡ Stored bytes) × (are_whole (claimed outline) outline bytes ≡ true)
-IsOfKnown at (Decode root part verbose file out) = IsKnown (at file.now)
-IsOfKnown at (DecodeCopy root outboard verbose copy out) = IsKnown (at copy.now)
-IsOfKnown at (Gather root workers capacity long outboard salvage encode verbose missing files out) = ⊥
+IsOfKnown at (Decode root part file out) = IsKnown (at file.now)
+IsOfKnown at (DecodeCopy root outboard copy out) = IsKnown (at copy.now)
+IsOfKnown at (Gather root workers capacity long outboard salvage encode missing files out) = ⊥
 IsOfKnown at (Replay root capacity script files) = (lines : List ℕ) × (pieces : List (List ℕ)) × (at script.now ≡ Stored lines) × AreStored at files.items pieces
 
 -- so it is of the file with the key, where one is named
@@ -62,10 +62,10 @@ IsShort state = (text : List ℕ) → state ≡ Stored text → length text < 2 
 abbrev pub IsJudged : (List ℕ → FileState) → Task → Type 0
 IsJudged at (Hash from count file) = Unit {0}
 IsJudged at (Encode encoding file out) = Unit {0}
-IsJudged at (CutSlice root start len outboard verbose file out) = IsKnown (at out.now) × IsShort (at file.now)
-IsJudged at (Decode root part verbose file out) = IsKnown (at out.now) × IsShort (at file.now)
-IsJudged at (DecodeCopy root outboard verbose copy out) = IsKnown (at out.now) × IsKnown (at outboard.now)
-IsJudged at (Gather root workers capacity long outboard salvage encode verbose missing files out) = Unit {0}
+IsJudged at (CutSlice root start len outboard file out) = IsKnown (at out.now) × IsShort (at file.now)
+IsJudged at (Decode root part file out) = IsKnown (at out.now) × IsShort (at file.now)
+IsJudged at (DecodeCopy root outboard copy out) = IsKnown (at out.now) × IsKnown (at outboard.now)
+IsJudged at (Gather root workers capacity long outboard salvage encode missing files out) = Unit {0}
 IsJudged at (Replay root capacity script files) = Unit {0}
 
 -- where the one is done the other refuses nothing, and so it is the other way round
@@ -88,10 +88,10 @@ IsFair at task = (¬ HasNoCapacity task) × ¬ HasBadScript at task
 abbrev pub IsGatheredUnder : (List ℕ → FileState) → Mode → Task → List ℕ → Type 0
 IsGatheredUnder at mode (Hash from count file) blob = ⊥
 IsGatheredUnder at mode (Encode encoding file out) blob = ⊥
-IsGatheredUnder at mode (CutSlice root start len outboard verbose file out) blob = ⊥
-IsGatheredUnder at mode (Decode root part verbose file out) blob = ⊥
-IsGatheredUnder at mode (DecodeCopy root outboard verbose copy out) blob = ⊥
-IsGatheredUnder at mode (Gather root workers capacity long outboard salvage encode verbose missing files out) blob =
+IsGatheredUnder at mode (CutSlice root start len outboard file out) blob = ⊥
+IsGatheredUnder at mode (Decode root part file out) blob = ⊥
+IsGatheredUnder at mode (DecodeCopy root outboard copy out) blob = ⊥
+IsGatheredUnder at mode (Gather root workers capacity long outboard salvage encode missing files out) blob =
     IsKnown (at out.now) × OfRoot root.now (λ r. IsBlob (fixed_as r mode capacity) blob)
 IsGatheredUnder at mode (Replay root capacity script files) blob = ⊥
 
@@ -99,10 +99,10 @@ IsGatheredUnder at mode (Replay root capacity script files) blob = ⊥
 abbrev pub CollidesIn : (List ℕ → FileState) → Mode → Task → List ℕ → Type 0
 CollidesIn at mode (Hash from count file) blob = ⊥
 CollidesIn at mode (Encode encoding file out) blob = ⊥
-CollidesIn at mode (CutSlice root start len outboard verbose file out) blob = ⊥
-CollidesIn at mode (Decode root part verbose file out) blob = ⊥
-CollidesIn at mode (DecodeCopy root outboard verbose copy out) blob = ⊥
-CollidesIn at mode (Gather root workers capacity long outboard salvage encode verbose missing files out) blob =
+CollidesIn at mode (CutSlice root start len outboard file out) blob = ⊥
+CollidesIn at mode (Decode root part file out) blob = ⊥
+CollidesIn at mode (DecodeCopy root outboard copy out) blob = ⊥
+CollidesIn at mode (Gather root workers capacity long outboard salvage encode missing files out) blob =
     OfRoot root.now (λ r. Collides (fixed_as r mode capacity) capacity at outboard files.items blob)
 CollidesIn at mode (Replay root capacity script files) blob = ⊥
 
@@ -138,11 +138,11 @@ HasOutline state mode root = (outline : List ℕ) × (state ≡ Stored outline) 
 abbrev pub LacksFile : (List ℕ → FileState) → Mode → Task → Type 0
 LacksFile at mode (Hash from count file) = at file.now ≡ Absent
 LacksFile at mode (Encode encoding file out) = at file.now ≡ Absent
-LacksFile at mode (CutSlice root start len None verbose file out) = at file.now ≡ Absent
-LacksFile at mode (CutSlice root start len (Some outboard) verbose file out) = (at outboard.now ≡ Absent) ⊎ (at file.now ≡ Absent)
-LacksFile at mode (Decode root part verbose file out) = at file.now ≡ Absent
-LacksFile at mode (DecodeCopy root outboard verbose copy out) = (at outboard.now ≡ Absent) ⊎ ((at copy.now ≡ Absent) × HasOutline (at outboard.now) mode root.now)
-LacksFile at mode (Gather root workers capacity long outboard salvage encode verbose missing files out) = ⊥
+LacksFile at mode (CutSlice root start len None file out) = at file.now ≡ Absent
+LacksFile at mode (CutSlice root start len (Some outboard) file out) = (at outboard.now ≡ Absent) ⊎ (at file.now ≡ Absent)
+LacksFile at mode (Decode root part file out) = at file.now ≡ Absent
+LacksFile at mode (DecodeCopy root outboard copy out) = (at outboard.now ≡ Absent) ⊎ ((at copy.now ≡ Absent) × HasOutline (at outboard.now) mode root.now)
+LacksFile at mode (Gather root workers capacity long outboard salvage encode missing files out) = ⊥
 LacksFile at mode (Replay root capacity script files) = at script.now ≡ Absent
 
 -- what is written would take the place of a file that is read, by its name

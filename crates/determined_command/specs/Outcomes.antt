@@ -35,14 +35,14 @@ Judged good done outcome = (good × (outcome ≡ done)) ⊎ ((¬ good) × (outco
 -- hashing prints the output; decoding prints how many bytes it put at OUT, where the text is accepted
 abbrev pub OutcomeOf : (List ℕ → FileState) → Mode → Task → Outcome → Type 0
 OutcomeOf at mode (Hash from count file) outcome = OfState (at file.now) file.now outcome (λ bytes. outcome ≡ Line (digits_line (stream mode bytes from count)))
-OutcomeOf at mode (Decode root part verbose file out) outcome =
+OutcomeOf at mode (Decode root part file out) outcome =
     OfDigits root.now (λ key. OfState (at file.now) file.now outcome (λ text. Judged (IsPartText mode key part text) (Put (part_line part text) out.now (part_bytes part text)) outcome))
 OutcomeOf at mode task outcome = ⊥
 
 -- the task hashes, or decodes
 abbrev pub IsOfOne : Task → Type 0
 IsOfOne (Hash from count file) = Unit {0}
-IsOfOne (Decode root part verbose file out) = Unit {0}
+IsOfOne (Decode root part file out) = Unit {0}
 IsOfOne task = ⊥
 
 -- it was printed, and put at its path, and nothing else has changed

@@ -5,6 +5,7 @@ ghost use Rattle.std.specs.Prelude.{◌≡◌, IfOk, string_bytes};
 use bao_files::{FileFault, LateFile, Meter, Progress, Shown, bytes_of_digits};
 use bao_read::{ParFault, ReadFault};
 use std::alloc::AllocError;
+use std::cell::Cell;
 use std::io::Write;
 use std::rt::{Clock, Files};
 
@@ -57,14 +58,15 @@ pub fn meter_determined<'a, C: Clock, E: Write + Copy>(
 // Memory may run out at any time, and what stands at the path no contract of it sees.
 pub fn late_file_determined<'a, R: Files + AllocGlobal>(
     rt: &'a R,
+    failed: &'a Cell<i32>,
     path: &str,
 ) -> Result<(LateFile<'a, R>, LateFile<'a, R>), AllocError>
     ensures rt { IfOk result (λ made. made.0.rt ≡ made.1.rt) }
     ensures path { IfOk result (λ made. string_bytes made.0.path ≡ string_bytes made.1.path) }
     ensures file { IfOk result (λ made. made.0.file ≡ made.1.file) }
 {
-    let one = LateFile::new(rt, path)?;
-    let other = LateFile::new(rt, path)?;
+    let one = LateFile::new(rt, failed, path)?;
+    let other = LateFile::new(rt, failed, path)?;
     Ok((one, other))
 }
 

@@ -63,42 +63,38 @@ one_task name rows (Encode encoding file out) (Encode encoding' file' out') a b 
   one_text rows (codes "FILE") file.now file'.now a.1 b.1,
   one_text rows (codes "OUT") out.now out'.now a.2 b.2,
 )
-one_task name rows (CutSlice root start len outboard verbose file out) (CutSlice root' start' len' outboard' verbose' file' out') a b = (
-  one_text rows (codes "ROOT") root.now root'.now a.4 b.4,
+one_task name rows (CutSlice root start len outboard file out) (CutSlice root' start' len' outboard' file' out') a b = (
+  one_text rows (codes "ROOT") root.now root'.now a.3 b.3,
   one_number 64 rows (codes "START") start start' a.1.0 b.1.0,
   one_number 64 rows (codes "LEN") len len' a.1.1 b.1.1,
   a.2 ∙ sym b.2,
-  one_text rows (codes "ENC") file.now file'.now a.5 b.5,
-  one_text rows (codes "OUT") out.now out'.now a.6 b.6,
-  one_flag verbose verbose' (first_of (codes "verbose") rows ≡ Some (codes "true")) a.3 b.3,
+  one_text rows (codes "ENC") file.now file'.now a.4 b.4,
+  one_text rows (codes "OUT") out.now out'.now a.5 b.5,
 )
-one_task name rows (Decode root part verbose file out) (Decode root' part' verbose' file' out') a b =
+one_task name rows (Decode root part file out) (Decode root' part' file' out') a b =
     let same = one_part name rows part part' file.now file'.now a.0 b.0 in (
       one_text rows (codes "ROOT") root.now root'.now a.1 b.1,
       same.0,
       same.1,
       one_text rows (codes "OUT") out.now out'.now a.2 b.2,
-      one_flag verbose verbose' (first_of (codes "verbose") rows ≡ Some (codes "true")) a.3 b.3,
     )
-one_task name rows (DecodeCopy root outboard verbose copy out) (DecodeCopy root' outboard' verbose' copy' out') a b = (
+one_task name rows (DecodeCopy root outboard copy out) (DecodeCopy root' outboard' copy' out') a b = (
   one_text rows (codes "ROOT") root.now root'.now a.3 b.3,
   one_text rows (codes "outboard") outboard.now outboard'.now a.1 b.1,
   one_text rows (codes "ENC") copy.now copy'.now a.2 b.2,
   one_text rows (codes "OUT") out.now out'.now a.4 b.4,
-  one_flag verbose verbose' (first_of (codes "verbose") rows ≡ Some (codes "true")) a.5 b.5,
 )
-one_task name rows (Gather root workers capacity long outboard salvage encode verbose missing files out) (Gather root' workers' capacity' long' outboard' salvage' encode' verbose' missing' files' out') a b = (
-  one_text rows (codes "ROOT") root.now root'.now a.9 b.9,
+one_task name rows (Gather root workers capacity long outboard salvage encode missing files out) (Gather root' workers' capacity' long' outboard' salvage' encode' missing' files' out') a b = (
+  one_text rows (codes "ROOT") root.now root'.now a.8 b.8,
   one_number 32 rows (codes "workers") workers workers' a.1 b.1,
   one_number 32 rows (codes "capacity") capacity capacity' a.2 b.2,
   one_flag long long' (first_of (codes "long") rows ≡ Some (codes "true")) a.3 b.3,
   a.4 ∙ sym b.4,
   one_flag salvage salvage' (first_of (codes "salvage") rows ≡ Some (codes "true")) a.5 b.5,
   one_flag encode encode' (first_of (codes "encode") rows ≡ Some (codes "true")) a.6 b.6,
-  one_flag verbose verbose' (first_of (codes "verbose") rows ≡ Some (codes "true")) a.7 b.7,
-  a.8 ∙ sym b.8,
-  same_some (all_of (codes "FILE") rows) (map (λ text. text.now) files.items) (map (λ text. text.now) files'.items) a.10 b.10,
-  one_text rows (codes "OUT") out.now out'.now a.11 b.11,
+  a.7 ∙ sym b.7,
+  same_some (all_of (codes "FILE") rows) (map (λ text. text.now) files.items) (map (λ text. text.now) files'.items) a.9 b.9,
+  one_text rows (codes "OUT") out.now out'.now a.10 b.10,
 )
 one_task name rows (Replay root capacity script files) (Replay root' capacity' script' files') a b = (
   one_text rows (codes "ROOT") root.now root'.now a.2 b.2,
@@ -106,12 +102,12 @@ one_task name rows (Replay root capacity script files) (Replay root' capacity' s
   one_text rows (codes "SCRIPT") script.now script'.now a.3 b.3,
   same_some (all_of (codes "FILE") rows) (map (λ text. text.now) files.items) (map (λ text. text.now) files'.items) a.4 b.4,
 )
-one_task name rows (Decode root part.Whole verbose file out) (DecodeCopy root' outboard' verbose' copy' out') a b = let no : None ≡ Some outboard'.now = sym a.0.1 ∙ b.1 in cc
-one_task name rows (DecodeCopy root outboard verbose copy out) (Decode root' part.Whole verbose' file' out') a b = let no : None ≡ Some outboard.now = sym b.0.1 ∙ a.1 in cc
-one_task name rows (Decode root (part.Slice s l) verbose file out) (DecodeCopy root' outboard' verbose' copy' out') a b = absurd (omega (arith, ap letters (sym a.0.0 ∙ b.0)))
-one_task name rows (DecodeCopy root outboard verbose copy out) (Decode root' (part.Slice s l) verbose' file' out') a b = absurd (omega (arith, ap letters (sym a.0 ∙ b.0.0)))
+one_task name rows (Decode root part.Whole file out) (DecodeCopy root' outboard' copy' out') a b = let no : None ≡ Some outboard'.now = sym a.0.1 ∙ b.1 in cc
+one_task name rows (DecodeCopy root outboard copy out) (Decode root' part.Whole file' out') a b = let no : None ≡ Some outboard.now = sym b.0.1 ∙ a.1 in cc
+one_task name rows (Decode root (part.Slice s l) file out) (DecodeCopy root' outboard' copy' out') a b = absurd (omega (arith, ap letters (sym a.0.0 ∙ b.0)))
+one_task name rows (DecodeCopy root outboard copy out) (Decode root' (part.Slice s l) file' out') a b = absurd (omega (arith, ap letters (sym a.0 ∙ b.0.0)))
 one_task name rows one other a b = let e : task_class one ≡ task_class other = sym (class_is name rows one a) ∙ class_is name rows other b in absurd (omega (arith, e))
 
 pub one_request : (asked : Option (Text × List Row)) (a b : Request) → GivesRequest asked a → GivesRequest asked b → SameRequest a b
 one_request None a b p q = absurd p
-one_request (Some asked) a b p q = (one_task asked.0 asked.1 a.task b.task p.0 q.0, p.1 ∙ sym q.1, p.2 ∙ sym q.2, p.3 ∙ sym q.3)
+one_request (Some asked) a b p q = (one_task asked.0 asked.1 a.task b.task p.0 q.0, p.1 ∙ sym q.1, p.2 ∙ sym q.2, p.3 ∙ sym q.3, one_flag a.verbose b.verbose (first_of (codes "verbose") asked.1 ≡ Some (codes "true")) p.4 q.4)

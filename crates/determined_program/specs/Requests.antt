@@ -12,15 +12,15 @@ use Rattle.bao_request.specs.declared.tasks.Task.TheVariants.{Hash, Encode, CutS
 abbrev pub SameTask : Task → Task → Type 0
 SameTask (Hash at length file) (Hash at' length' file') = (at ≡ at') × (length ≡ length') × (file.now ≡ file'.now)
 SameTask (Encode encoding file out) (Encode encoding' file' out') = (encoding ≡ encoding') × (file.now ≡ file'.now) × (out.now ≡ out'.now)
-SameTask (CutSlice root start len outboard verbose file out) (CutSlice root' start' len' outboard' verbose' file' out') =
-    (root.now ≡ root'.now) × (start ≡ start') × (len ≡ len') × (option_copied outboard ≡ option_copied outboard') × (file.now ≡ file'.now) × (out.now ≡ out'.now) × (verbose ≡ verbose')
-SameTask (Decode root part verbose file out) (Decode root' part' verbose' file' out') =
-    (root.now ≡ root'.now) × (part ≡ part') × (file.now ≡ file'.now) × (out.now ≡ out'.now) × (verbose ≡ verbose')
-SameTask (DecodeCopy root outboard verbose copy out) (DecodeCopy root' outboard' verbose' copy' out') =
-    (root.now ≡ root'.now) × (outboard.now ≡ outboard'.now) × (copy.now ≡ copy'.now) × (out.now ≡ out'.now) × (verbose ≡ verbose')
-SameTask (Gather root workers capacity long outboard salvage encode verbose missing files out) (Gather root' workers' capacity' long' outboard' salvage' encode' verbose' missing' files' out') =
+SameTask (CutSlice root start len outboard file out) (CutSlice root' start' len' outboard' file' out') =
+    (root.now ≡ root'.now) × (start ≡ start') × (len ≡ len') × (option_copied outboard ≡ option_copied outboard') × (file.now ≡ file'.now) × (out.now ≡ out'.now)
+SameTask (Decode root part file out) (Decode root' part' file' out') =
+    (root.now ≡ root'.now) × (part ≡ part') × (file.now ≡ file'.now) × (out.now ≡ out'.now)
+SameTask (DecodeCopy root outboard copy out) (DecodeCopy root' outboard' copy' out') =
+    (root.now ≡ root'.now) × (outboard.now ≡ outboard'.now) × (copy.now ≡ copy'.now) × (out.now ≡ out'.now)
+SameTask (Gather root workers capacity long outboard salvage encode missing files out) (Gather root' workers' capacity' long' outboard' salvage' encode' missing' files' out') =
     (root.now ≡ root'.now) × (workers ≡ workers') × (capacity ≡ capacity') × (long ≡ long') × (option_copied outboard ≡ option_copied outboard')
-    × (salvage ≡ salvage') × (encode ≡ encode') × (verbose ≡ verbose') × (option_copied missing ≡ option_copied missing')
+    × (salvage ≡ salvage') × (encode ≡ encode') × (option_copied missing ≡ option_copied missing')
     × (map (λ text. text.now) files.items ≡ map (λ text. text.now) files'.items) × (out.now ≡ out'.now)
 SameTask (Replay root capacity script files) (Replay root' capacity' script' files') =
     (root.now ≡ root'.now) × (capacity ≡ capacity') × (script.now ≡ script'.now) × (map (λ text. text.now) files.items ≡ map (λ text. text.now) files'.items)
@@ -29,7 +29,7 @@ SameTask one other = ⊥
 abbrev pub SameRequest : Request → Request → Type 0
 SameRequest a b =
     SameTask a.task b.task × (option_copied a.key ≡ option_copied b.key) × (option_copied a.key_file ≡ option_copied b.key_file)
-    × (option_copied a.context ≡ option_copied b.context)
+    × (option_copied a.context ≡ option_copied b.context) × (a.verbose ≡ b.verbose)
 
 -- two kinds of fault that are one, or that both are among the two that clap's contract leaves open: for `help`, and for a word that no place takes
 abbrev pub AreBoth : Kinds → ErrorKind → ErrorKind → Type 0

@@ -1,6 +1,7 @@
 use bao_command::{command, own_words};
 use bao_files::System;
 use std::alloc::Global;
+use std::cell::Cell;
 use std::env::FillError;
 use std::fs::File;
 use std::io::ErrorKind;
@@ -58,7 +59,8 @@ fn ran<R: Files<File = File> + AllocGlobal + Threads + Sync>(
     err: &mut Broken,
 ) -> Result<u8, Fail> {
     let words = words(rt.alloc(), given)?;
-    let mut system = System::new(rt);
+    let failed = Cell::new(0);
+    let mut system = System::new(rt, &failed);
     Ok(command(rt, &mut system, words.as_slice(), out, err, &()))
 }
 

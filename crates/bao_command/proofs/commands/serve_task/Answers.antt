@@ -158,27 +158,27 @@ returns-in-CutSlice-clause-files g c =
     let at = g.D.Disk.at c.args.disk.now in
     let after = g.D.Disk.at c.cut_slice.new.disk in
     subst (λ (task : Task). IfErr c.cut_slice.result (LeavesFiles at after c.args.mode.now task)) (sym c.in-CutSlice.is)
-    (left_by at after c.args.mode.now (CutSlice c.in-CutSlice.root c.in-CutSlice.start c.in-CutSlice.len c.in-CutSlice.outboard c.in-CutSlice.verbose c.in-CutSlice.file c.in-CutSlice.path) (CutsRight at after c.args.mode.now c.in-CutSlice.root.now c.in-CutSlice.start c.in-CutSlice.len c.in-CutSlice.outboard c.in-CutSlice.file.now c.in-CutSlice.path.now) c.cut_slice.result (λ bytes did. did) c.cut_slice.ensures.files)
+    (left_by at after c.args.mode.now (CutSlice c.in-CutSlice.root c.in-CutSlice.start c.in-CutSlice.len c.in-CutSlice.outboard c.in-CutSlice.file c.in-CutSlice.path) (CutsRight at after c.args.mode.now c.in-CutSlice.root.now c.in-CutSlice.start c.in-CutSlice.len c.in-CutSlice.outboard c.in-CutSlice.file.now c.in-CutSlice.path.now) c.cut_slice.result (λ bytes did. did) c.cut_slice.ensures.files)
 
 pub returns-in-Decode-clause-files : goal.returns-in-Decode-clause-files
 returns-in-Decode-clause-files g c =
     let at = g.D.Disk.at c.args.disk.now in
     let after = g.D.Disk.at c.decode.new.disk in
     subst (λ (task : Task). IfErr c.decode.result (LeavesFiles at after c.args.mode.now task)) (sym c.in-Decode.is)
-    (left_by at after c.args.mode.now (Decode c.in-Decode.root c.in-Decode.part c.in-Decode.verbose c.in-Decode.file c.in-Decode.path) (DecodesRight at after c.args.mode.now c.in-Decode.root.now c.in-Decode.part c.in-Decode.file.now c.in-Decode.path.now) c.decode.result (λ bytes did. did) c.decode.ensures.files)
+    (left_by at after c.args.mode.now (Decode c.in-Decode.root c.in-Decode.part c.in-Decode.file c.in-Decode.path) (DecodesRight at after c.args.mode.now c.in-Decode.root.now c.in-Decode.part c.in-Decode.file.now c.in-Decode.path.now) c.decode.result (λ bytes did. did) c.decode.ensures.files)
 
 pub returns-in-DecodeCopy-clause-files : goal.returns-in-DecodeCopy-clause-files
 returns-in-DecodeCopy-clause-files g c =
     let at = g.D.Disk.at c.args.disk.now in
     let after = g.D.Disk.at c.decode_beside.new.disk in
     subst (λ (task : Task). IfErr c.decode_beside.result (LeavesFiles at after c.args.mode.now task)) (sym c.in-DecodeCopy.is)
-    (left_by at after c.args.mode.now (DecodeCopy c.in-DecodeCopy.root c.in-DecodeCopy.outboard c.in-DecodeCopy.verbose c.in-DecodeCopy.copy c.in-DecodeCopy.path) (CopiesRight at after c.args.mode.now c.in-DecodeCopy.root.now c.in-DecodeCopy.outboard.now c.in-DecodeCopy.copy.now c.in-DecodeCopy.path.now) c.decode_beside.result (λ bytes did. did) c.decode_beside.ensures.files)
+    (left_by at after c.args.mode.now (DecodeCopy c.in-DecodeCopy.root c.in-DecodeCopy.outboard c.in-DecodeCopy.copy c.in-DecodeCopy.path) (CopiesRight at after c.args.mode.now c.in-DecodeCopy.root.now c.in-DecodeCopy.outboard.now c.in-DecodeCopy.copy.now c.in-DecodeCopy.path.now) c.decode_beside.result (λ bytes did. did) c.decode_beside.ensures.files)
 
 pub returns-in-Gather-clause-files : goal.returns-in-Gather-clause-files
 returns-in-Gather-clause-files g c =
     let result : Result Unit Fault = c.gather.result in
     let at = g.D.Disk.at c.args.disk.now in
-    let how : Gathering = record { workers = c.in-Gather.workers; capacity = c.in-Gather.capacity; long = c.in-Gather.long; encode = c.in-Gather.encode; count = c.in-Gather.verbose; parts = c.parts_asked.result; grain = c.grain_of.result } in
+    let how : Gathering = record { workers = c.in-Gather.workers; capacity = c.in-Gather.capacity; long = c.in-Gather.long; encode = c.in-Gather.encode; count = c.args.verbose; parts = c.parts_asked.result; grain = c.grain_of.result } in
     let after = g.D.Disk.at c.gather.new.disk in
     subst (λ (task : Task). IfErr result (LeavesFiles at after c.args.mode.now task)) (sym c.in-Gather.is)
     (subst (λ (files : List (Bor (List ℕ))). IfErr result (LeavesGathered at after c.args.mode.now c.in-Gather.root.now how c.in-Gather.outboard c.in-Gather.path.now c.in-Gather.missing (length files)))

@@ -16,10 +16,10 @@ either_as is (inr other) = inr (is ∙ other)
 may_refuse : (sure : Type 0) (at : List ℕ → FileState) (mode : Mode) (task : Task) → IsRefused sure at mode task → Decodes task ⊎ Gathers task ⊎ Replays task
 may_refuse sure at mode (Hash from count file) refused = absurd refused
 may_refuse sure at mode (Encode encoding file out) refused = absurd refused
-may_refuse sure at mode (CutSlice root start len outboard verbose file out) refused = inl tt
-may_refuse sure at mode (Decode root part verbose file out) refused = inl tt
-may_refuse sure at mode (DecodeCopy root outboard verbose copy out) refused = inl tt
-may_refuse sure at mode (Gather root workers capacity long outboard salvage encode verbose missing files out) refused = inr (inl tt)
+may_refuse sure at mode (CutSlice root start len outboard file out) refused = inl tt
+may_refuse sure at mode (Decode root part file out) refused = inl tt
+may_refuse sure at mode (DecodeCopy root outboard copy out) refused = inl tt
+may_refuse sure at mode (Gather root workers capacity long outboard salvage encode missing files out) refused = inr (inl tt)
 may_refuse sure at mode (Replay root capacity script files) refused = inr (inr tt)
 
 pub returns-clause-outcome : goal.returns-clause-outcome
