@@ -4,7 +4,7 @@ SHELL := bash
 .SHELLFLAGS := -eu -o pipefail -c
 .DEFAULT_GOAL := help
 .DELETE_ON_ERROR:
-.PHONY: help build run try install dist sum doc test proofs refusals trials c-trials wrong-bodies scenarios program-scenarios docs c-library c-levels c-install c-test c-bench fetch fetch-install fetch-test fetch-bench bench refuse replaced memory stress statement cites fmt FORCE
+.PHONY: help build run try install dist sum doc test proofs refusals trials c-trials wrong-bodies scenarios program-scenarios docs c-library c-levels c-install c-test c-bench python wheel python-test fetch fetch-install fetch-test fetch-bench bench refuse replaced memory stress statement cites fmt FORCE
 
 PREFIX ?= /usr/local
 # Where the C library and its header go.
@@ -53,6 +53,9 @@ help:
 	@echo 'make c-test               holds c/berylwool.h to the sources, and runs the C tests, under what is installed of'
 	@echo '                          sanitizers, valgrind, clang and rustc'
 	@echo 'make c-bench              measures calls of the C library in one thread, and prints their times'
+	@echo 'make python               puts the Python module with the C library into out/python, for PYTHONPATH'
+	@echo 'make wheel                makes a wheel of both in out, for the processor level that its name says'
+	@echo 'make python-test          runs the tests of the Python module (the one of refused memory needs cc)'
 	@echo 'make fetch                builds bw-fetch, which gathers a blob over HTTP, as out/bw-fetch, over the C library (needs cc,'
 	@echo '                          pkg-config and libcurl with its headers)'
 	@echo 'make fetch-install PREFIX=DIR copies bw-fetch to DIR/bin, its manual page to DIR/share/man'
@@ -253,6 +256,18 @@ c-install: c-levels doc
 
 c-test: c-library
 	@python3 scripts/c_test.py
+
+# The Python module needs no build: it loads the shared library by ctypes.
+python: c-library
+	@rm -rf out/python
+	@install -D -m 644 -t out/python/berylwool python/berylwool/*.py python/berylwool/py.typed
+	@install -m 755 out/libberylwool.so out/python/berylwool/libberylwool.so.0
+
+wheel: c-library
+	@python3 python/make_wheel.py out/libberylwool.so out $(CPU)
+
+python-test: c-library
+	@BERYLWOOL_LIBRARY='$(CURDIR)/out/libberylwool.so' PYTHONDONTWRITEBYTECODE=1 python3 -m unittest discover -s python/tests
 
 # BLAKE3's own library, held to AVX2.
 out/pieces: c/pieces.c

@@ -13,8 +13,8 @@ import sys
 
 sys.dont_write_bytecode = True
 ROOT = pathlib.Path(__file__).resolve().parent.parent
-sys.path += [str(ROOT / "c" / "examples"), str(ROOT / "scripts")]
-import berylwool as c
+sys.path.append(str(ROOT / "scripts"))
+import c_header as c
 import definitions as by
 
 LENGTHS = (0, 1, 63, 64, 65, 1023, 1024, 1025, 2048, 2049, 3072, 4097, 5000, 9000)
@@ -22,7 +22,7 @@ PLACES = (0, 1, 1023, 1024, 2047, 3000, 8191, 2**63, 2**64 - 1)
 u64_pair = ctypes.c_uint64 * 2
 KEY = b"whats the Elvish word for friend"
 
-calls = c.Library(str(ROOT / "out" / "libberylwool.so")).calls
+calls = c.library(ROOT / "out" / "libberylwool.so")
 
 
 def derives(context):

@@ -12,6 +12,7 @@ import sys
 import tempfile
 
 sys.dont_write_bytecode = True
+import definitions
 import dist
 
 ROOT = pathlib.Path(__file__).resolve().parent.parent
@@ -20,6 +21,10 @@ ARCHIVE = ROOT / "out" / "libberylwool.a"
 SHARED = ROOT / "out" / "libberylwool.so"
 FLAGS = "-std=c11 -O1 -g -Wall -Wextra -Wpedantic -Werror -pthread".split() + [f"-I{ROOT}/c", f"-I{OUT}"]
 KINDS = {"hash": 0, "keyed": 1, "derive": 2}
+
+# A program in Python that stands beside mirror.c, and where its module lies.
+MIRROR = [sys.executable, "python/examples/mirror.py"]
+MODULE = {"PYTHONPATH": str(ROOT / "python"), "PYTHONDONTWRITEBYTECODE": "1"}
 
 missing = []
 
@@ -95,8 +100,23 @@ def kinds():
                 sys.exit(f"c_test.py: a compiler takes a bw_{given} for a bw_{wanted}, or not its own")
 
 
+def mirrors(*words, **env):
+    """A program that gathers a blob writes it if each of its bytes is good in one of the copies, and else nothing."""
+    blob = bytes(i * 7 % 251 for i in range(200_000))
+    mode = definitions.Mode()
+    root, text = mode.hash(blob), definitions.combined(mode, blob)
+    with tempfile.TemporaryDirectory() as folder:
+        files = [f"{folder}/{k}" for k in range(3)]
+        for file, places in zip(files, ((1000,), (150_000,), (1000, 90_000))):
+            pathlib.Path(file).write_bytes(bytes(it ^ (i in places) for i, it in enumerate(text)))
+        for copies, status, printed in ((files, 0, blob), (files[:1], 1, b"")):
+            ran = subprocess.run([*words, root.hex(), *copies], cwd=ROOT, env=os.environ | env, capture_output=True)
+            if (ran.returncode, ran.stdout) != (status, printed):
+                sys.exit(f"c_test.py: {words}: status {ran.returncode}, {len(ran.stdout)} bytes: {ran.stderr.decode()}")
+
+
 def installed():
-    """Makes an example with the folder of a release that was moved, by what pkg-config says of it, and runs it over its shared library."""
+    """Makes an example with the folder of a release that was moved, by what pkg-config says of it, and runs it and the Python example over its shared library."""
     with tempfile.TemporaryDirectory() as folder:
         made, release, moved = (pathlib.Path(folder) / it for it in ("made", "release", "moved"))
         made.mkdir()
@@ -104,10 +124,11 @@ def installed():
             shutil.copy(file, made)
         dist.put_library(release, [("x86-64", made), ("x86-64-v3", made)])
         release.rename(moved)
-        knows = os.environ | {"PKG_CONFIG_PATH": f"{moved}/lib/pkgconfig", "LD_LIBRARY_PATH": f"{moved}/lib"}
-        told = run("pkg-config", "--cflags", "--libs", "berylwool", env=knows, capture_output=True, text=True).stdout.split()
+        knows = {"PKG_CONFIG_PATH": f"{moved}/lib/pkgconfig", "LD_LIBRARY_PATH": f"{moved}/lib"}
+        told = run("pkg-config", "--cflags", "--libs", "berylwool", env=os.environ | knows, capture_output=True, text=True).stdout.split()
         run("cc", "-std=c11", "-Wall", "-Wextra", "-Werror", "-pthread", "c/examples/mirror.c", *told, "-o", f"{folder}/mirror")
-        run(sys.executable, "c/examples/berylwool.py", moved / "lib" / "libberylwool.so", f"{folder}/mirror", env=knows)
+        mirrors(f"{folder}/mirror", **knows)
+        mirrors(*MIRROR, **knows, **MODULE)
 
 
 def main():
@@ -142,7 +163,8 @@ def main():
         run("valgrind", "-q", "--tool=helgrind", "--error-exitcode=1", OUT / "test-plain")
     for name in ("mirror", "windows"):
         run("cc", *FLAGS, f"c/examples/{name}.c", ARCHIVE, "-o", OUT / name)
-    run(sys.executable, "c/examples/berylwool.py", SHARED, OUT / "mirror")
+    mirrors(OUT / "mirror")
+    mirrors(*MIRROR, BERYLWOOL_LIBRARY=str(SHARED), **MODULE)
     run(sys.executable, "scripts/c_windows.py", OUT / "windows")
     for compiler, name, more in builds[1:]:
         run(compiler, *FLAGS, *more, "c/examples/windows.c", ARCHIVE, "-o", OUT / f"windows-{name}")

@@ -6,6 +6,7 @@ usage: python3 scripts/c_windows.py [--any-memory] PROGRAM [MIB]
 It has to write the blob with status 0 where each chunk is good in one of the copies, and else to write a beginning of it, with status 1; and, but for
 a program with sanitizers, in at most 64 MiB of memory. With MIB it does this once, on a blob of so many MiB and a byte, and tells its time and
 memory. Needs cc and out/libberylwool.so."""
+import os
 import pathlib
 import random
 import sys
@@ -13,14 +14,13 @@ import tempfile
 
 sys.dont_write_bytecode = True
 ROOT = pathlib.Path(__file__).resolve().parent.parent
-sys.path += [str(ROOT / "c" / "examples"), str(ROOT / "scripts")]
-import berylwool as c
+sys.path += [str(ROOT / "python"), str(ROOT / "scripts")]
+os.environ["BERYLWOOL_LIBRARY"] = str(ROOT / "out" / "libberylwool.so")
+import berylwool
 import peak
 
 CHUNK, GROUP, WINDOW, COPIES = 1024, 64 * 1024, 4096 * 1024, 3
 MOST = 64 << 20
-
-library = c.Library(str(ROOT / "out" / "libberylwool.so"))
 
 
 def drawn(length):
@@ -76,13 +76,13 @@ def main(program, mib=None, most=MOST):
         trial = Trial(program, folder, most)
         if mib:
             blob = drawn(int(mib) * (1 << 20) + 1)
-            root, text = library.encode(blob)
+            root, text = berylwool.encode(blob)
             ended = trial.writes("a long blob", blob, root, parted(text, blob, 7, (3,)))
             print(f"{len(blob)} bytes in {ended.seconds:.1f} s and {ended.peak / (1 << 20):.1f} MiB")
             return
         for length in (0, 1, CHUNK, WINDOW - 1, WINDOW, WINDOW + 1, 2 * WINDOW + 3 * GROUP + 5):
             blob = drawn(length)
-            root, text = library.encode(blob)
+            root, text = berylwool.encode(blob)
             trial.writes(f"{length} bytes of a good copy", blob, root, [text])
             trial.writes(f"{length} bytes of the second copy", blob, root, [text[:-1], text])
         # the last blob, of three windows
