@@ -138,7 +138,8 @@ c-trials:
 	@python3 scripts/proved_by_ci.py berylwool
 	@nice -n 5 $(MAKE) --no-print-directory c-library
 	@if $(HAS_CURL); then fetch=fetch-test; else fetch=; echo 'left out: make fetch-test, since libcurl with its headers is not installed here'; fi; \
-	    $(MAKE) --no-print-directory -j 2 --output-sync=recurse c-test $$fetch
+	    if $(HAS_CTYPES); then python=python-test; else python=; echo 'left out: make python-test, since python3 has no ctypes here'; fi; \
+	    $(MAKE) --no-print-directory -j 2 --output-sync=recurse c-test $$python $$fetch
 
 wrong-bodies:
 	@python3 scripts/wrong_bodies.py $(if $(JOBS),--jobs $(JOBS)) $(CRATES)
@@ -256,6 +257,8 @@ c-install: c-levels doc
 
 c-test: c-library
 	@python3 scripts/c_test.py
+
+HAS_CTYPES := python3 -c 'import ctypes' 2>/dev/null
 
 # The Python module needs no build: it loads the shared library by ctypes.
 python: c-library

@@ -1,6 +1,7 @@
 import base64
 import ctypes
 import hashlib
+import importlib.util
 import os
 import pathlib
 import re
@@ -68,9 +69,13 @@ class Library(unittest.TestCase):
                 said = run(sys.executable, "-c", code, BERYLWOOL_LIBRARY=f"{folder}/{name}")
                 self.assertIn("BERYLWOOL_LIBRARY", said)
 
+    def needs(self, name, is_there):
+        if not is_there:
+            print(f"left out: {self.id()}, since {name} is not installed here")
+            self.skipTest(name)
+
     def test_refused_memory(self):
-        if not shutil.which("cc"):
-            self.skipTest("cc isn't installed")
+        self.needs("cc", shutil.which("cc"))
         with tempfile.TemporaryDirectory() as folder:
             shim = f"{folder}/refuse.so"
             run("cc", "-std=c11", "-O1", "-Wall", "-Wextra", "-Werror", "-shared", "-fPIC", TESTS / "refuse.c", "-o", shim)
@@ -105,8 +110,7 @@ class Library(unittest.TestCase):
         exec(compile(code, "C-API.md", "exec"), {})
 
     def test_types(self):
-        if subprocess.run([sys.executable, "-m", "mypy", "--version"], capture_output=True).returncode:
-            self.skipTest("mypy isn't installed")
+        self.needs("mypy", importlib.util.find_spec("mypy"))
         run(sys.executable, "-m", "mypy", "--strict", "--cache-dir", os.devnull, PYTHON / "berylwool", PYTHON / "examples")
 
 
