@@ -4,12 +4,14 @@ SHELL := bash
 .SHELLFLAGS := -eu -o pipefail -c
 .DEFAULT_GOAL := help
 .DELETE_ON_ERROR:
-.PHONY: help build run try install dist sum doc test proofs refusals trials c-trials wrong-bodies scenarios program-scenarios docs c-library c-levels c-install c-test c-bench python wheel python-test fetch fetch-install fetch-test fetch-bench bench refuse replaced memory stress statement cites fmt FORCE
+.PHONY: help build run try install uninstall dist deb deb-test clean distclean sum doc test proofs refusals trials c-trials wrong-bodies scenarios program-scenarios docs c-library c-install c-test c-bench python wheel python-test fetch fetch-install fetch-test fetch-bench bench refuse replaced memory stress statement cites fmt FORCE
 
 PREFIX ?= /usr/local
-# Where the C library and its header go.
+bindir ?= $(PREFIX)/bin
 libdir ?= $(PREFIX)/lib
 includedir ?= $(PREFIX)/include
+datadir ?= $(PREFIX)/share
+mandir ?= $(datadir)/man
 
 # The processor level that programs are built for: x86-64-v3 where this machine has what the level
 # needs, AVX2 and BMI2 among it.
@@ -32,10 +34,14 @@ help:
 	@echo 'make sum                  prints the checksum of the built bao_gather'
 	@echo 'make doc                  makes out/doc out of the sources, within seconds and without rt: what each call promises, the definitions in'
 	@echo '                          words, the crates, statuses, the C reference, what was measured, manual pages and completions'
-	@echo 'make install PREFIX=DIR   copies bao_gather to DIR/bin, its manual page and completions to DIR/share'
-	@echo '                          (PREFIX is /usr/local if left out; DESTDIR goes before it)'
-	@echo 'make dist                 makes the folder of a release, out/dist, of a commit: programs and the C library for both'
-	@echo '                          processor levels, manual pages, completions, checksums (needs cc and binutils)'
+	@echo 'make install PREFIX=DIR   copies bao_gather to DIR/bin, its manual page and completions to DIR/share (PREFIX is /usr/local if'
+	@echo '                          left out; bindir, libdir, includedir, datadir and mandir put files elsewhere; DESTDIR goes before all)'
+	@echo 'make uninstall PREFIX=DIR removes what make install, make c-install and make fetch-install copied, with the same variables'
+	@echo 'make dist                 makes a release of a commit, as the folder out/dist and as an archive: programs and the C library'
+	@echo '                          for both processor levels, a wheel, manual pages, completions, checksums (needs cc and binutils)'
+	@echo 'make deb                  makes Debian packages in out/deb, of both processor levels: berylwool, libberylwool0, libberylwool-dev,'
+	@echo '                          python3-berylwool (needs dpkg-dev, cc and binutils; for bw-fetch also libcurl with its headers)'
+	@echo 'make deb-test             installs them in an empty root, uses them there, and removes them'
 	@echo 'make test                 the gate: a look at laws, wrong bodies and links, make doc, what make scenarios does, rt ci (every'
 	@echo '                          proof from nothing, the must-fail edits, the tests and the programs), and beside it what make'
 	@echo '                          docs, make refuse, make replaced, make memory, make c-test and make fetch-test do'
@@ -48,8 +54,7 @@ help:
 	@echo 'make program-scenarios    runs the program on the lines of its scenarios, and compares what it prints and writes with their replies'
 	@echo 'make c-library            proves the C library and builds it, as out/libberylwool.a and .so (needs cc and binutils)'
 	@echo 'make c-install PREFIX=DIR copies the C library to DIR/lib for both processor levels, its header to DIR/include and its'
-	@echo '                          manual pages to DIR/share/man, with what pkg-config asks for; libdir=DIR and includedir=DIR put'
-	@echo '                          them elsewhere'
+	@echo '                          manual pages to DIR/share/man, with what pkg-config asks for'
 	@echo 'make c-test               holds c/berylwool.h to the sources, and runs the C tests, under what is installed of'
 	@echo '                          sanitizers, valgrind, clang and rustc'
 	@echo 'make c-bench              measures calls of the C library in one thread, and prints their times'
@@ -57,7 +62,7 @@ help:
 	@echo 'make wheel                makes a wheel of both in out, for the processor level that its name says'
 	@echo 'make python-test          runs the tests of the Python module (the one of refused memory needs cc)'
 	@echo 'make fetch                builds bw-fetch, which gathers a blob over HTTP, as out/bw-fetch, over the C library (needs cc,'
-	@echo '                          pkg-config and libcurl with its headers)'
+	@echo '                          pkg-config and libcurl with its headers), or with BERYLWOOL=installed over an installed one'
 	@echo 'make fetch-install PREFIX=DIR copies bw-fetch to DIR/bin, its manual page to DIR/share/man'
 	@echo 'make fetch-test           runs bw-fetch against hostile mirrors on loopback, under what is installed of sanitizers;'
 	@echo '                          DRAWN=N for another number of fetches from drawn mirrors than 4000'
@@ -73,7 +78,9 @@ help:
 	@echo '                          and of what it reads (needs cc)'
 	@echo 'make stress               runs the tests that start threads 200 times, many at once'
 	@echo 'make fmt                  lays out the files of each crate'
+	@echo 'make clean                removes out/; make distclean also what rt keeps of its proofs, in crates/*/out'
 	@echo 'CPU=x86-64 or CPU=x86-64-v3 picks the processor level, which is $(CPU) if left out;'
+	@echo 'LEVELS="x86-64 .." those of make dist, make deb and make c-install;'
 	@echo 'JOBS=N is the number of jobs of a proof, or of wrong bodies at a time'
 
 build: out/bao_gather
@@ -91,21 +98,56 @@ sum: out/bao_gather
 doc:
 	@python3 scripts/doc
 
-# What of out/doc/share goes with the program.
-SHARED := man/man1/bao_gather.1 bash-completion/completions/bao_gather zsh/site-functions/_bao_gather fish/vendor_completions.d/bao_gather.fish
+# What is installed, released and packaged is in packaging/files.txt.
+INSTALLED = 'DESTDIR=$(DESTDIR)' 'prefix=$(PREFIX)' 'bindir=$(bindir)' 'libdir=$(libdir)' 'includedir=$(includedir)' 'datadir=$(datadir)' 'mandir=$(mandir)'
 
 install: out/bao_gather doc
-	install -D -m 755 out/bao_gather '$(DESTDIR)$(PREFIX)/bin/bao_gather'
-	@for it in $(SHARED); do install -D -m 644 out/doc/share/$$it '$(DESTDIR)$(PREFIX)/share/'$$it; done
+	@python3 scripts/dist.py install $(INSTALLED) program
 
-# The levels one after another: x86-64-v3 wants a machine that has it, and each proves and builds anew. The static library is of x86-64.
+# The manual pages of make doc say which pages were installed.
+uninstall: doc
+	@python3 scripts/dist.py uninstall $(INSTALLED) $(MADE) program fetch library
+
+# The processor levels of a release and of packages, the first of which every processor has that they are for. x86-64-v3 wants a machine that has it.
+LEVELS ?= x86-64 x86-64-v3
+MADE = $(foreach it,$(LEVELS),$(it)=out/levels/$(it))
+
+# $(call levels,FILE) makes the file for each level, one after another, since each is built as out/FILE.
+levels = +@for level in $(LEVELS); do $(MAKE) --no-print-directory out/levels/$$level/$1; done
+
+FIRST = out/levels/$(firstword $(LEVELS))
+
+# $(call with_fetch,LIBRARY) builds bw-fetch over a library of the first level, and sets fetch, if libcurl is installed.
+with_fetch = fetch=; if $(HAS_CURL); then fetch=fetch; $(MAKE) --no-print-directory out/bw-fetch BERYLWOOL=$(FIRST)/$1; \
+    else echo 'left out: bw-fetch, since libcurl with its headers is not installed here'; fi
+
 dist: doc
-	@for cpu in x86-64-v3 x86-64; do \
-	    $(MAKE) --no-print-directory CPU=$$cpu out/bao_gather && install -D -m 755 out/bao_gather out/levels/$$cpu/bao_gather || exit 1; \
-	done
-	@$(MAKE) --no-print-directory c-levels
-	@install -m 644 out/libberylwool.a out/levels/x86-64/libberylwool.a
-	@python3 scripts/dist.py out/dist x86-64=out/levels/x86-64 x86-64-v3=out/levels/x86-64-v3
+	$(call levels,bao_gather)
+	$(call levels,libberylwool.so)
+	@rm -f $(FIRST)/*.whl; python3 python/make_wheel.py $(FIRST)/libberylwool.so $(FIRST)
+	@$(call with_fetch,libberylwool.a); python3 scripts/dist.py dist $(MADE) program library python $$fetch
+
+HAS_DPKG = command -v dpkg-shlibdeps > /dev/null
+
+# Debian's flags for what is C. bw-fetch is linked to the library of its package.
+deb: doc
+	@$(HAS_DPKG) || { echo 'make deb needs dpkg-dev.' >&2; exit 1; }
+	$(call levels,bao_gather)
+	@eval "$$(dpkg-buildflags --export=sh)"; export LDFLAGS="$$LDFLAGS -Wl,-z,now"; \
+	    for file in $(LEVELS:%=out/levels/%/libberylwool.so) out/launcher; do $(MAKE) --no-print-directory "$$file"; done; \
+	    $(call with_fetch,libberylwool.so); python3 scripts/dist.py deb $(MADE) program library python $$fetch
+
+deb-test: deb
+	@packaging/test out/deb/*.deb
+
+out/launcher: packaging/launcher.c out/flags
+	@cc -std=c11 -O2 -Wall -Wextra -DPROGRAMS='"/usr/libexec/berylwool"' $(CPPFLAGS) $(CFLAGS) $(LDFLAGS) $< -o $@
+
+clean:
+	rm -rf out
+
+distclean: clean
+	rm -rf crates/*/out
 
 # What rt ci leaves is the program that it proved, and the libraries that the C library is built over.
 test:
@@ -185,10 +227,13 @@ cites:
 fmt:
 	@for crate in crates/*/; do (cd "$$crate" && rt fmt); done
 
-# The level that the programs in out/ were built for. The file changes only where the level does.
-out/cpu: FORCE
+# The level that the programs in out/ were built for, and the flags of their C. The files change only where these do.
+out/cpu: export SAID = $(CPU)
+out/flags: export SAID = $(CPPFLAGS) $(CFLAGS) $(LDFLAGS)
+out/fetch-flags: export SAID = $(BERYLWOOL)
+out/cpu out/flags out/fetch-flags: FORCE
 	@mkdir -p out
-	@[[ -f $@ && "$$(< $@)" == '$(CPU)' ]] || echo '$(CPU)' > $@
+	@[[ -f $@ && "$$(< $@)" == "$$SAID" ]] || echo "$$SAID" > $@
 
 # $(call built,CRATE,WORDS) proves the program CRATE and all that it stands on, builds it as out/CRATE
 # and runs it once on WORDS, in the crate's folder. What rt prints goes to out/CRATE.log.
@@ -223,9 +268,9 @@ out/c/berylwool.o: out/cpu $(C_SOURCES)
 
 # One object that shows the bw_ functions alone, so that two such libraries in one program don't meet. Of C there are the words of the statuses, and
 # the kit's three functions over malloc.
-out/libberylwool.a: out/c/berylwool.o c/strerror.c c/berylwool.h
+out/libberylwool.a: out/c/berylwool.o out/flags c/strerror.c c/berylwool.h
 	@cd out/c && ar x $(KIT_C) heap.pic.o
-	@cc -std=c11 -O2 -Wall -Wextra -fPIC -Ic -c c/strerror.c -o out/c/strerror.o
+	@cc -std=c11 -O2 -Wall -Wextra $(CPPFLAGS) $(CFLAGS) -fPIC -Ic -c c/strerror.c -o out/c/strerror.o
 	@ld -r -o out/c/bw.o out/c/berylwool.o out/c/heap.pic.o out/c/strerror.o
 	@objcopy --wildcard --keep-global-symbol='bw_*' out/c/bw.o
 	@rm -f $@ && ar rcs $@ out/c/bw.o
@@ -237,25 +282,19 @@ out/libberylwool.so: out/libberylwool.a c/berylwool.map
 
 c-library: out/libberylwool.a out/libberylwool.so
 
-# The library for both processor levels, one after another.
-c-levels:
-	@for cpu in x86-64-v3 x86-64; do \
-	    $(MAKE) --no-print-directory CPU=$$cpu c-library && install -D -m 755 out/libberylwool.so out/levels/$$cpu/libberylwool.so || exit 1; \
-	done
+out/levels/%/bao_gather: $(SOURCES)
+	@$(MAKE) --no-print-directory CPU=$* out/bao_gather
+	@install -D -m 755 out/bao_gather $@
 
-# Of the two, ld.so takes that below glibc-hwcaps on a processor which has its level. The static library is of x86-64.
-c-install: c-levels doc
-	install -D -m 644 c/berylwool.h '$(DESTDIR)$(includedir)/berylwool.h'
-	install -D -m 644 out/libberylwool.a '$(DESTDIR)$(libdir)/libberylwool.a'
-	install -D -m 755 out/levels/x86-64/libberylwool.so '$(DESTDIR)$(libdir)/libberylwool.so.0'
-	install -D -m 755 out/levels/x86-64-v3/libberylwool.so '$(DESTDIR)$(libdir)/glibc-hwcaps/x86-64-v3/libberylwool.so.0'
-	ln -sf libberylwool.so.0 '$(DESTDIR)$(libdir)/libberylwool.so'
-	install -d '$(DESTDIR)$(libdir)/pkgconfig'
-	install -d '$(DESTDIR)$(PREFIX)/share/man/man3'
-	install -m 644 out/doc/share/man/man3/*.3 '$(DESTDIR)$(PREFIX)/share/man/man3/'
-	sed 's|@PREFIX@|$(PREFIX)|; s|@LIBDIR@|$(libdir)|; s|@INCLUDEDIR@|$(includedir)|' c/berylwool.pc.in > '$(DESTDIR)$(libdir)/pkgconfig/berylwool.pc'
+out/levels/%/libberylwool.so: out/flags c/strerror.c c/berylwool.h c/berylwool.map $(C_SOURCES)
+	@$(MAKE) --no-print-directory CPU=$* c-library
+	@mkdir -p $(@D) && install -m 644 out/libberylwool.a out/libberylwool.so $(@D)
 
-c-test: c-library
+c-install: doc
+	$(call levels,libberylwool.so)
+	@python3 scripts/dist.py install $(INSTALLED) $(MADE) library
+
+c-test: c-library doc
 	@python3 scripts/c_test.py
 
 HAS_CTYPES := python3 -c 'import ctypes' 2>/dev/null
@@ -287,18 +326,23 @@ c-bench: c-library
 # bw-fetch is C on the C library and libcurl, and isn't proved. Whether libcurl is there is asked before the C library is proved.
 HAS_CURL := pkg-config --atleast-version=7.68.0 libcurl 2>/dev/null
 NEEDS_CURL = @$(HAS_CURL) || { echo 'bw-fetch needs pkg-config and libcurl 7.68 or later with its headers (of Debian: pkg-config libcurl4-openssl-dev).' >&2; exit 1; }
-FETCH_FLAGS := -std=c11 -O2 -Wall -Wextra -pthread -D_FILE_OFFSET_BITS=64 -Ic
+FETCH_FLAGS := -std=c11 -O2 -Wall -Wextra -pthread -D_FILE_OFFSET_BITS=64
 
-out/bw-fetch: $(wildcard fetch/*.c fetch/*.h) c/berylwool.h out/libberylwool.a
-	@cc $(FETCH_FLAGS) $(CPPFLAGS) $(CFLAGS) $$(pkg-config --cflags libcurl) $(filter %.c %.a,$^) $(LDFLAGS) $$(pkg-config --libs libcurl) -o $@
+# The C library of bw-fetch: the one that is built here or, with BERYLWOOL=installed and where there is no rt, the one that pkg-config finds.
+BERYLWOOL ?= $(if $(shell command -v rt),out/libberylwool.a,installed)
+IS_INSTALLED = $(filter installed,$(BERYLWOOL))
+FETCH_NEEDS = libcurl $(if $(IS_INSTALLED),berylwool)
+
+out/bw-fetch: $(wildcard fetch/*.c fetch/*.h) c/berylwool.h out/flags out/fetch-flags $(filter-out installed,$(BERYLWOOL))
+	@cc $(FETCH_FLAGS) $(if $(IS_INSTALLED),,-Ic) $(CPPFLAGS) $(CFLAGS) $$(pkg-config --cflags $(FETCH_NEEDS)) $(filter %.c %.a %.so,$^) \
+	    $(LDFLAGS) $$(pkg-config --libs $(FETCH_NEEDS)) -o $@
 
 fetch:
 	$(NEEDS_CURL)
 	@$(MAKE) --no-print-directory out/bw-fetch
 
 fetch-install: fetch doc
-	install -D -m 755 out/bw-fetch '$(DESTDIR)$(PREFIX)/bin/bw-fetch'
-	install -D -m 644 out/doc/share/man/man1/bw-fetch.1 '$(DESTDIR)$(PREFIX)/share/man/man1/bw-fetch.1'
+	@python3 scripts/dist.py install $(INSTALLED) fetch
 
 fetch-test:
 	$(NEEDS_CURL)

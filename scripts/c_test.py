@@ -122,7 +122,7 @@ def installed():
         made.mkdir()
         for file in (ARCHIVE, SHARED):
             shutil.copy(file, made)
-        dist.put_library(release, [("x86-64", made), ("x86-64-v3", made)])
+        dist.lay_dist(["library"], [("x86-64", str(made)), ("x86-64-v3", str(made))], release)
         release.rename(moved)
         knows = {"PKG_CONFIG_PATH": f"{moved}/lib/pkgconfig", "LD_LIBRARY_PATH": f"{moved}/lib"}
         told = run("pkg-config", "--cflags", "--libs", "berylwool", env=os.environ | knows, capture_output=True, text=True).stdout.split()

@@ -22,7 +22,7 @@ END = "the example ends"
 CODE = re.compile(r"(`+).+?\1")
 LINK = re.compile(r"!?\[([^\]]*)\]\([^)]*\)")
 # A file of the repository that is called by its name alone.
-NAMED = re.compile(r"`((?:scripts|crates|c|fetch|bench)/[\w/.-]+\.[a-z]\w*)`")
+NAMED = re.compile(r"`((?:scripts|crates|c|fetch|bench|python|packaging)/[\w/.-]+\.[a-z]\w*)`")
 
 
 def text_of(file):
