@@ -4,7 +4,7 @@ SHELL := bash
 .SHELLFLAGS := -eu -o pipefail -c
 .DEFAULT_GOAL := help
 .DELETE_ON_ERROR:
-.PHONY: help build run try install uninstall dist deb deb-test clean distclean sum doc test proofs refusals trials c-trials wrong-bodies scenarios program-scenarios docs c-library c-install c-test c-bench python wheel python-test fetch fetch-install fetch-test fetch-bench bench refuse replaced memory stress statement cites fmt FORCE
+.PHONY: help build run try install uninstall dist deb deb-test clean distclean quick sum doc test proofs refusals trials c-trials wrong-bodies scenarios program-scenarios docs c-library c-install c-test c-bench python wheel python-test fetch fetch-install fetch-test fetch-bench bench refuse replaced memory stress statement cites fmt FORCE
 
 PREFIX ?= /usr/local
 bindir ?= $(PREFIX)/bin
@@ -42,6 +42,7 @@ help:
 	@echo 'make deb                  makes Debian packages in out/deb, of both processor levels: berylwool, libberylwool0, libberylwool-dev,'
 	@echo '                          python3-berylwool (needs dpkg-dev, cc and binutils; for bw-fetch also libcurl with its headers)'
 	@echo 'make deb-test             installs them in an empty root, uses them there, and removes them'
+	@echo 'make quick                checks within minutes what needs no proof, and runs scenarios and examples with an unproved program'
 	@echo 'make test                 the gate: a look at laws, wrong bodies and links, make doc, what make scenarios does, rt ci (every'
 	@echo '                          proof from nothing, the must-fail edits, the tests and the programs), and beside it what make'
 	@echo '                          docs, make refuse, make replaced, make memory, make c-test and make fetch-test do'
@@ -148,6 +149,9 @@ clean:
 
 distclean: clean
 	rm -rf crates/*/out
+
+quick: doc
+	@python3 scripts/quick.py
 
 # What rt ci leaves is the program that it proved, and the libraries that the C library is built over.
 test:

@@ -1,7 +1,7 @@
 #!/usr/bin/env python3
 """Runs the scenarios of the program, and compares what it prints and writes with their replies.
 
-usage: python3 scripts/program_scenarios.py PROGRAM ..
+usage: python3 scripts/program_scenarios.py [--brief] PROGRAM ..
 
 At the top of the repository. Each PROGRAM is a built bao_gather. crates/bao_gather/scenarios/lines.txt has a command a line, with empty lines and lines that
 begin with '#' between them; replies.txt has the same lines with a reply, indented, below each command, which scripts/scenarios.py makes by the definitions alone.
@@ -19,9 +19,11 @@ The files of the commands stand in a folder of their own. A command is one of th
     fills FILE SEAT N       FILE gets a step too for each of the chunks 0 to N - 1, which the seat fills
     remove FILE ..          there is no such file any more
 
-Prints a line for each PROGRAM, and where it first says something else. The exit status is 1 where one does.
+Prints a line for each PROGRAM, and where it first says something else. The exit status is 1 where one does. With --brief the groups of lines, between
+empty ones, are left out that have a blob of a million bytes or more, which an unproved program takes minutes for.
 """
 import os
+import re
 import subprocess
 import sys
 import tempfile
@@ -35,8 +37,10 @@ NAME = "bao_gather"
 DIGITS = 64
 SHORT = 16
 
+LARGE = re.compile(r"^blob \w+ \d{7,}$", re.M)
+
 # No run comes near these seconds.
-LONGEST = 120
+LONGEST = 1200
 
 
 def lines_of(name, printed):
@@ -144,13 +148,19 @@ def difference(program, lines, wanted):
     return None if number == len(wanted) else f"after line {number} it says nothing more"
 
 
-def main(programs):
+def text_of(file, is_brief):
+    with open(file, encoding="utf-8") as it:
+        text = it.read()
+    if not is_brief:
+        return text.splitlines()
+    return "\n\n".join(it for it in text.split("\n\n") if not LARGE.search(it)).splitlines()
+
+
+def main(words):
+    is_brief, programs = words[:1] == ["--brief"], [it for it in words if it != "--brief"]
     if not programs:
         sys.exit(__doc__)
-    with open(LINES, encoding="utf-8") as it:
-        lines = it.read().splitlines()
-    with open(REPLIES, encoding="utf-8") as it:
-        wanted = it.read().splitlines()
+    lines, wanted = text_of(LINES, is_brief), text_of(REPLIES, is_brief)
     count = sum(it.startswith("run ") or it == "run" for it in lines)
     differ = [(it, difference(it, lines, wanted)) for it in programs]
     for program, at in differ:

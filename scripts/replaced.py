@@ -27,7 +27,7 @@ from dataclasses import dataclass, field
 
 sys.dont_write_bytecode = True
 import definitions as bao
-from refuse import HELD, KEPT, MODES, blob_of
+from refuse import HELD, KEPT, blob_of
 from scenarios import Programs
 
 # Three groups and a bit, and another blob of as many bytes.

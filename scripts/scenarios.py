@@ -11,7 +11,6 @@ differ; with --write writes them.
 import concurrent.futures
 import errno
 import os
-import re
 import sys
 
 import definitions as bao
@@ -672,7 +671,7 @@ class Schedule:
 
 def written(file):
     """The replies that a file has by hand, by the line of each command."""
-    found = {}
+    found, command = {}, None
     with open(f"{os.path.dirname(__file__)}/{file}", encoding="utf-8") as it:
         for line in it.read().splitlines():
             if line.startswith("    "):
