@@ -20,7 +20,7 @@ The files of the commands stand in a folder of their own. A command is one of th
     remove FILE ..          there is no such file any more
 
 Prints a line for each PROGRAM, and where it first says something else. The exit status is 1 where one does. With --brief the groups of lines, between
-empty ones, are left out that have a blob of a million bytes or more, which an unproved program takes minutes for.
+empty ones, are left out that have a blob of four million bytes or more, which an unproved program takes minutes for.
 """
 import os
 import re
@@ -37,7 +37,7 @@ NAME = "bao_gather"
 DIGITS = 64
 SHORT = 16
 
-LARGE = re.compile(r"^blob \w+ \d{7,}$", re.M)
+LARGE = re.compile(r"^blob \w+ [4-9]\d{6}$", re.M)
 
 # No run comes near these seconds.
 LONGEST = 1200
