@@ -8,14 +8,14 @@ use Rattle.bao_files.specs.declared.fault.FileFault.TheVariants as files
 use Rattle.bao_text.specs.declared.kinds.Part.{Part}
 use Rattle.bao_text.specs.declared.kinds.Part.TheVariants.{Slice}
 use Rattle.bao_text.specs.Choice.{chunk_count}
-use Rattle.bao_text.specs.Cut.{claimed, cut_text}
+use Rattle.bao_text.specs.Cut.{claimed}
 use Rattle.bao_check.specs.Accepted.{IsAccepted, outboard_nodes}
 use Rattle.bao_check.specs.Bare.{IsBareFault}
 use Rattle.bao_check.specs.Faults.{IsFirstFault}
 use Rattle.bao_decode.specs.Copies.{BesideStops, IsOfOutboard}
 use Rattle.bao_decode.specs.Opened.{IsNotThere}
 use Rattle.bao_decode.specs.TextPass.{DecodeStops, IsTextFault, task_of_part}
-use Rattle.bao_decode.specs.Weaving.{CutBesideStops, woven_text}
+use Rattle.bao_decode.specs.Weaving.{CutBesideStops, cut_beside}
 use Rattle.bao_decode.specs.declared.decode_fault.DecodeFault.{DecodeFault}
 use Rattle.bao_decode.specs.declared.decode_fault.DecodeFault.TheVariants as decode
 use Rattle.bao_tasks.specs.Replayed.{IsRefusedRun, IsStoppedRun, OfFiles}
@@ -46,10 +46,10 @@ module _ (mode : Mode) (root : List ℕ) (faultless : Type 0) where
 
   pub beside_refused : (start len : ℕ) (outline bytes : List ℕ) (outboard file path : Bor (List ℕ)) (fault : DecodeFault) → decode_status_of fault ≡ 1
       → CutBesideStops mode root start len faultless outline bytes outboard file path fault
-      → HasFault (IsTextFault (task_of_part mode root (Slice start len)) (cut_text (woven_text (claimed outline) outline bytes) start len))
+      → HasFault (IsTextFault (task_of_part mode root (Slice start len)) (cut_beside outline bytes start len))
   beside_refused start len outline bytes outboard file path fault is (inl read) = absurd (file_refuses_none (files.Read outboard) (ap decode_status_of (sym read.0) ∙ is))
   beside_refused start len outline bytes outboard file path fault is (inr stops) =
-      text_refused (Slice start len) (cut_text (woven_text (claimed outline) outline bytes) start len) file path fault is stops
+      text_refused (Slice start len) (cut_beside outline bytes start len) file path fault is stops
 
   -- beside a copy that isn't there it is the outboard encoding that is refused
   pub outboard_refused : (state : FileState) (outboard copy : Bor (List ℕ)) (fault : DecodeFault) → decode_status_of fault ≡ 1

@@ -14,7 +14,7 @@ use Rattle.bao_files.specs.Disks.{Absent, FileState, IsKnown, Stored}
 use Rattle.bao_text.specs.declared.kinds.Part.{Part}
 use Rattle.bao_text.specs.declared.kinds.Part.TheVariants.{Slice}
 use Rattle.bao_decode.specs.TextPass.{IsTextFault, task_of_part}
-use Rattle.bao_decode.specs.Weaving.{are_whole, woven_text}
+use Rattle.bao_decode.specs.Weaving.{cut_beside}
 use Rattle.gather.specs.Large.{HasCollision, fixed_as}
 use Rattle.gather.specs.declared.form.Form.TheVariants.{Slices}
 use Rattle.gather.specs.declared.grain.Grain.{Grain}
@@ -47,14 +47,14 @@ abbrev pub IsRefusedText : (List ℕ → FileState) → Mode → Part → List �
 IsRefusedText at mode part file out key =
     (at file ≢ Absent) × (IsKnown (at out) → (text : List ℕ) → at file ≡ Stored text → HasFault (IsTextFault (task_of_part mode key part) text))
 
--- so it is of the slice that is cut out of the file, or of the copy in it beside the outboard encoding that is named, where both are whole; that is there, too
+-- so it is of the slice that is cut out of the file, or of the copy in it beside the outboard encoding that is named; that is there, too
 abbrev pub IsRefusedCut : (List ℕ → FileState) → Mode → ℕ → ℕ → Option (Bor (List ℕ)) → List ℕ → List ℕ → List ℕ → Type 0
 IsRefusedCut at mode start len None file out key =
     (at file ≢ Absent) × (IsKnown (at out) → (text : List ℕ) → at file ≡ Stored text → length text < 2 ^ 63
     → HasFault (IsTextFault (task_of_part mode key (Slice start len)) (cut_text text start len)))
 IsRefusedCut at mode start len (Some outboard) file out key =
-    (at outboard.now ≢ Absent) × (IsKnown (at out) → (outline bytes : List ℕ) → at outboard.now ≡ Stored outline → at file ≡ Stored bytes → are_whole (claimed outline) outline bytes ≡ true
-    → HasFault (IsTextFault (task_of_part mode key (Slice start len)) (cut_text (woven_text (claimed outline) outline bytes) start len)))
+    (at outboard.now ≢ Absent) × (IsKnown (at out) → (outline bytes : List ℕ) → at outboard.now ≡ Stored outline → at file ≡ Stored bytes
+    → HasFault (IsTextFault (task_of_part mode key (Slice start len)) (cut_beside outline bytes start len)))
     × (at file ≢ Absent)
 
 -- The one file is there, and its bytes aren't accepted as an outboard encoding, or the other's aren't beside it; and where that isn't there, the one's aren't.

@@ -280,8 +280,30 @@ cut_known total start len (Some s) F claims known = λ fits.
     let same : cut_as total start len s ≡ cut_text s start len = ap (λ (n : ℕ). cut_as n start len s) (sym claims.1) in
     subst F same (subst (λ (o : Option (List ℕ)). IfSome o F) there known)
 
--- The search for a byte, one subtree after another: nothing is wanted,
+-- The search for a byte, one subtree after another:
 module _ (choice : Choice) (number n : ℕ) where
+  -- the nodes are the parent, and those of the two parts
+  tree : (sides : List Side) (at l size_is : ℕ) → wants choice (1024 * number) n ≡ true → 1024 < n → l ≡ left_len n → size_is ≡ subtree_size l
+      → subtree_nodes choice number n sides at
+      ≡ parent_node number n sides at
+      ∷ (subtree_nodes choice number l (sides ++ left ∷ []) (at + 64) ++ subtree_nodes choice (number + l / 1024) (n - l) (sides ++ right ∷ []) (at + 64 + size_is))
+  tree sides at l size_is wanted more l_is same =
+      let node : TreeNode = parent_node number n sides at in
+      let near : List TreeNode = subtree_nodes choice number l (sides ++ left ∷ []) (at + 64) in
+      subtree_nodes-parent choice number n sides at wanted more
+      ∙ ap (λ (m : ℕ). node ∷ (subtree_nodes choice number m (sides ++ left ∷ []) (at + 64) ++ subtree_nodes choice (number + m / 1024) (n - m) (sides ++ right ∷ []) (at + 64 + subtree_size m))) (sym l_is)
+      ∙ ap (λ (m : ℕ). node ∷ (near ++ subtree_nodes choice (number + l / 1024) (n - l) (sides ++ right ∷ []) (at + 64 + m))) (sym same)
+
+  pub halves : (sides : List Side) (rest : List TreeNode) (at l size_is : ℕ) → wants choice (1024 * number) n ≡ true → 1024 < n → l ≡ left_len n → size_is ≡ subtree_size l
+      → subtree_nodes choice number n sides at ++ rest
+      ≡ parent_node number n sides at
+      ∷ (subtree_nodes choice number l (sides ++ left ∷ []) (at + 64) ++ (subtree_nodes choice (number + l / 1024) (n - l) (sides ++ right ∷ []) (at + 64 + size_is) ++ rest))
+  halves sides rest at l size_is wanted more l_is same =
+      ap (λ (xs : List TreeNode). xs ++ rest) (tree sides at l size_is wanted more l_is same)
+      ∙ ap (λ (xs : List TreeNode). parent_node number n sides at ∷ xs)
+      (append_assoc (subtree_nodes choice number l (sides ++ left ∷ []) (at + 64)) (subtree_nodes choice (number + l / 1024) (n - l) (sides ++ right ∷ []) (at + 64 + size_is)) rest)
+
+  -- nothing is wanted,
   pub find_none : (sides : List Side) (at skip : ℕ) → wants choice (1024 * number) n ≡ false → skip ≡ skip + sum_by size (subtree_nodes choice number n sides at)
   find_none sides at skip skipped =
       let none : sum_by size (subtree_nodes choice number n sides at) ≡ 0 = ap (sum_by size) (subtree_nodes-unwanted choice number n sides at skipped) in omega (arith, none)
@@ -306,12 +328,7 @@ module _ (choice : Choice) (number n : ℕ) where
       let node : TreeNode = parent_node number n sides at in
       let near : List TreeNode = subtree_nodes choice number l (sides ++ left ∷ []) (at + 64) in
       let far : List TreeNode = subtree_nodes choice (number + l / 1024) (n - l) (sides ++ right ∷ []) (at + 64 + subtree_size l) in
-      let tree : subtree_nodes choice number n sides at ≡ node ∷ (near ++ far) =
-      subtree_nodes-parent choice number n sides at wanted more
-      ∙ ap (λ (m : ℕ). node ∷ (subtree_nodes choice number m (sides ++ left ∷ []) (at + 64) ++ subtree_nodes choice (number + m / 1024) (n - m) (sides ++ right ∷ []) (at + 64 + subtree_size m))) (sym l_is) in
-      let all : subtree_nodes choice number n sides at ++ rest ≡ (node ∷ []) ++ (near ++ (far ++ rest)) =
-      ap (λ (xs : List TreeNode). xs ++ rest) tree ∙ ap (λ (xs : List TreeNode). node ∷ xs) (append_assoc near far rest) in
-      subst (λ (xs : List TreeNode). GoesOn s (cut_nodes s xs) skip place k) (sym all)
+      subst (λ (xs : List TreeNode). GoesOn s (cut_nodes s xs) skip place k) (sym (halves sides rest at l (subtree_size l) wanted more l_is refl))
       (goes_after s (node ∷ []) (near ++ (far ++ rest)) skip (skip - 64) place k (omega (arith, past))
       (λ gone. let short : length s < at + 64 = ends_one s choice node gone in omega (arith, short, low)) (on (far ++ rest)))
 
@@ -324,18 +341,12 @@ module _ (choice : Choice) (number n : ℕ) where
       let node : TreeNode = parent_node number n sides at in
       let near : List TreeNode = subtree_nodes choice number l (sides ++ left ∷ []) (at + 64) in
       let far : List TreeNode = subtree_nodes choice (number + l / 1024) (n - l) (sides ++ right ∷ []) (at + 64 + size_is) in
-      let tree : subtree_nodes choice number n sides at ≡ node ∷ (near ++ far) =
-      subtree_nodes-parent choice number n sides at wanted more
-      ∙ ap (λ (m : ℕ). node ∷ (subtree_nodes choice number m (sides ++ left ∷ []) (at + 64) ++ subtree_nodes choice (number + m / 1024) (n - m) (sides ++ right ∷ []) (at + 64 + subtree_size m))) (sym l_is)
-      ∙ ap (λ (m : ℕ). node ∷ (near ++ subtree_nodes choice (number + l / 1024) (n - l) (sides ++ right ∷ []) (at + 64 + m))) (sym same) in
-      let all : subtree_nodes choice number n sides at ++ rest ≡ (node ∷ near) ++ (far ++ rest) =
-      ap (λ (xs : List TreeNode). xs ++ rest) tree ∙ ap (λ (xs : List TreeNode). node ∷ xs) (append_assoc near far rest) in
       let end : ℕ = at + 64 + size_is in
       let near_ends : has_all s near ≡ false → length s < end =
       λ gone. let less : length s < at + 64 + subtree_size l = ends_within s choice number l (sides ++ left ∷ []) (at + 64) gone in omega (arith, less, same) in
       let top_ends : has_all s (node ∷ []) ≡ false → length s < end = λ gone. let less : length s < at + 64 = ends_one s choice node gone in omega (arith, less) in
       let both : has_all s (node ∷ near) ≡ false → length s < end = ends_append s choice end (node ∷ []) near top_ends near_ends in
-      subst (λ (xs : List TreeNode). GoesOn s (cut_nodes s xs) skip place k) (sym all)
+      subst (λ (xs : List TreeNode). GoesOn s (cut_nodes s xs) skip place k) (sym (halves sides rest at l size_is wanted more l_is same))
       (goes_after s (node ∷ near) (far ++ rest) skip left' place k (let sizes : sum_by size (node ∷ near) ≡ 64 + sum_by size near = sum_by-cons size node near in omega (arith, sizes, after, past))
       (λ gone. let short : length s < end = both gone in omega (arith, short, low)) on)
 
@@ -348,12 +359,8 @@ module _ (choice : Choice) (number n : ℕ) where
       let node : TreeNode = parent_node number n sides at in
       let near : List TreeNode = subtree_nodes choice number l (sides ++ left ∷ []) (at + 64) in
       let far : List TreeNode = subtree_nodes choice (number + l / 1024) (n - l) (sides ++ right ∷ []) (at + 64 + size_is) in
-      let tree : subtree_nodes choice number n sides at ≡ node ∷ (near ++ far) =
-      subtree_nodes-parent choice number n sides at wanted more
-      ∙ ap (λ (m : ℕ). node ∷ (subtree_nodes choice number m (sides ++ left ∷ []) (at + 64) ++ subtree_nodes choice (number + m / 1024) (n - m) (sides ++ right ∷ []) (at + 64 + subtree_size m))) (sym l_is)
-      ∙ ap (λ (m : ℕ). node ∷ (near ++ subtree_nodes choice (number + l / 1024) (n - l) (sides ++ right ∷ []) (at + 64 + m))) (sym same) in
       let sizes : sum_by size (subtree_nodes choice number n sides at) ≡ 64 + (sum_by size near + sum_by size far) =
-      ap (sum_by size) tree ∙ sum_by-cons size node (near ++ far) ∙ ap (λ (k : ℕ). 64 + k) (sum_by-append size near far) in
+      ap (sum_by size) (tree sides at l size_is wanted more l_is same) ∙ sum_by-cons size node (near ++ far) ∙ ap (λ (k : ℕ). 64 + k) (sum_by-append size near far) in
       omega (arith, sizes, near_is, far_is, past)
 
   -- where all stands side by side

@@ -1,6 +1,6 @@
 -- An encoding that is verified in one pass, and what it has of a part written in a second.
 use Rattle.std.specs.Borrow.{Bor}
-use Rattle.std.proofs.Common.{◌≡◌, ◌⊎◌, ◌^◌, ◌≤◌, ℕ, List, length, take, Option, Some, None, Result, Ok, Err, IfErr, IfOk, IfSome, inl, inr, refl, sym, subst, ◌∙◌, ap, arith}
+use Rattle.std.proofs.Common.{◌≡◌, ◌⊎◌, ◌^◌, ◌<◌, ℕ, List, length, take, Option, Some, None, Result, Ok, Err, IfErr, IfOk, IfSome, inl, inr, refl, sym, subst, ◌∙◌, ap, arith}
 use Rattle.std.proofs.KnownBytes.{Appends-kept, Appends-nil, Keeps-refl}
 use Rattle.std.proofs.lemmas.List.{take_all}
 use Rattle.std.specs.Io.KnownBytes.{Appends, Keeps}
@@ -19,10 +19,10 @@ use Rattle.bao_decode.specs.declared.copy_pass.PassFault.{PassFault}
 use Rattle.bao_decode.specs.declared.copy_pass.PassFault.TheVariants.{Check, Input, Output}
 use Rattle.bao_decode.specs.CopyPass.{first_fault_of, second_fault_of}
 use Rattle.bao_decode.specs.Ranges.{IsPartText, IsVerifiedText, part_bytes, part_len, part_start, written_count}
-use Rattle.bao_decode.specs.TextPass.{DecodeStops, DecodesKnown, DraftsKnown, IsDecoded, IsTextFault, IsWholeText, LeavesDraft, LeavesWritten, NamesDraftPaths, StopsAs, WriteStops, WritesKnown, task_of_part}
+use Rattle.bao_decode.specs.TextPass.{DecodeStops, DecodesKnown, DraftsKnown, HasPassed, IsDecoded, IsTextFault, IsWholeText, LeavesDraft, LeavesWritten, NamesDraftPaths, StopsAs, WriteStops, WritesKnown, task_of_part}
 
 -- an encoding that is accepted has no first fault, but that it is too long
-long_only : (mode : Mode) (root : List ℕ) (part : Part) (s : List ℕ) (fault : CheckFault) → IsTextFault (task_of_part mode root part) s fault → IsPartText mode root part s → 2 ^ 63 ≤ length s
+long_only : (mode : Mode) (root : List ℕ) (part : Part) (s : List ℕ) (fault : CheckFault) → IsTextFault (task_of_part mode root part) s fault → IsPartText mode root part s → 2 ^ 63 < length s
 long_only mode root part s fault (inl h) accepted = absurd (first_fault-not_accepted mode root s (slice_nodes s (part_start part) (part_len part)) fault h accepted)
 long_only mode root part s fault (inr h) accepted = h.1
 
@@ -36,20 +36,19 @@ module _ (what : List ℕ → List ℕ) (mode : Mode) (root : List ℕ) (part : 
   text_first (Some s) faultless file path old (Check f) answer is stops =
       subst (LeavesWritten what mode root part faultless s file path old old) (sym is) (stops, Keeps-refl old)
   text_first (Some s) faultless file path old Input answer is stops =
-      subst (LeavesWritten what mode root part faultless s file path old old) (sym is) (inr (inl (refl, inl stops, (0, Appends-nil old))))
+      subst (LeavesWritten what mode root part faultless s file path old old) (sym is) (inr (inl (refl, stops, (0, Appends-nil old))))
   text_first (Some s) faultless file path old Output answer is stops = absurd stops
 
   -- the second did
   pub text_second : (contents : Option (List ℕ)) (faultless : Type 0) (file path : Bor (List ℕ)) (old new : Option (List ℕ)) (fault : PassFault) (answer : DecodeFault)
       → answer ≡ second_fault_of file path fault → IfSome contents (λ s. WriteStops what (task_of_part mode root part) faultless s old new fault)
-      → IfSome contents (λ s. IsPartText mode root part s → WritesKnown what mode root part faultless s file path old new (Err answer))
+      → IfSome contents (λ s. HasPassed mode root part s → WritesKnown what mode root part faultless s file path old new (Err answer))
   text_second None faultless file path old new fault answer is stops = tt
-  text_second (Some s) faultless file path old new (Check f) answer is stops = λ accepted.
-      subst (LeavesWritten what mode root part faultless s file path old new) (sym is) (inr (inl (refl, inr (long_only mode root part s f stops.0 accepted), stops.1)))
-  text_second (Some s) faultless file path old new Input answer is stops = λ accepted.
-      subst (LeavesWritten what mode root part faultless s file path old new) (sym is) (inr (inl (refl, inl stops.0, stops.1)))
-  text_second (Some s) faultless file path old new Output answer is stops = λ accepted.
-      subst (LeavesWritten what mode root part faultless s file path old new) (sym is) (inr (inr (refl, accepted, stops)))
+  text_second (Some s) faultless file path old new (Check f) answer is stops = λ passed. absurd (omega (arith, long_only mode root part s f stops.0 passed.0, passed.1))
+  text_second (Some s) faultless file path old new Input answer is stops = λ passed.
+      subst (LeavesWritten what mode root part faultless s file path old new) (sym is) (inr (inl (refl, stops.0, stops.1)))
+  text_second (Some s) faultless file path old new Output answer is stops = λ passed.
+      subst (LeavesWritten what mode root part faultless s file path old new) (sym is) (inr (inr (refl, passed.0, stops)))
 
   -- all was written, and flushed or not
   pub text_flushed_some : (contents old mid new : Option (List ℕ)) (text : List ℕ) (count : ℕ) (result : Result ℕ DecodeFault) → IsWholeText contents mode root part text
@@ -61,26 +60,26 @@ module _ (what : List ℕ → List ℕ) (mode : Mode) (root : List ℕ) (part : 
   pub text_flushed_known : (contents : Option (List ℕ)) (faultless : Type 0) (file path : Bor (List ℕ)) (old mid new : Option (List ℕ)) (text : List ℕ) (count : ℕ)
       (result : Result ℕ DecodeFault) → IsWholeText contents mode root part text → count ≡ written_count part text → Appends old mid (what text) → Keeps mid new
       → IfOk result (λ answer. answer ≡ count) → IfErr result (λ fault. fault ≡ decode.File (Write path))
-      → IfSome contents (λ s. IsPartText mode root part s → WritesKnown what mode root part faultless s file path old new result)
+      → IfSome contents (λ s. HasPassed mode root part s → WritesKnown what mode root part faultless s file path old new result)
   text_flushed_known None faultless file path old mid new text count result whole is written kept same fault_is = tt
-  text_flushed_known (Some s) faultless file path old mid new text count (Ok answer) whole is written kept same fault_is = λ accepted. (
-    (accepted, subst AreBytes whole.known whole.each),
+  text_flushed_known (Some s) faultless file path old mid new text count (Ok answer) whole is written kept same fault_is = λ passed. (
+    (passed.0, subst AreBytes whole.known whole.each),
     same ∙ is ∙ ap (written_count part) whole.known,
     subst (λ (x : List ℕ). Appends old new (what x)) whole.known (Appends-kept old mid new (what text) written kept),
   )
-  text_flushed_known (Some s) faultless file path old mid new text count (Err fault) whole is written kept same fault_is = λ accepted.
+  text_flushed_known (Some s) faultless file path old mid new text count (Err fault) whole is written kept same fault_is = λ passed.
       let bytes : List ℕ = what s in
       let all : what text ≡ take (length bytes) bytes = ap what whole.known ∙ sym (take_all (length bytes) bytes (omega arith)) in
       subst (LeavesWritten what mode root part faultless s file path old new) (sym fault_is)
-      (inr (inr (refl, accepted, (length bytes, subst (Appends old new) all (Appends-kept old mid new (what text) written kept)))))
+      (inr (inr (refl, passed.0, (length bytes, subst (Appends old new) all (Appends-kept old mid new (what text) written kept)))))
 
   -- known bytes that were verified are accepted
   pub text_after : (contents : Option (List ℕ)) (faultless : Type 0) (file path : Bor (List ℕ)) (old new : Option (List ℕ)) (text : List ℕ) (result : Result ℕ DecodeFault)
       → IsWholeText contents mode root part text
-      → IfSome contents (λ s. IsPartText mode root part s → WritesKnown what mode root part faultless s file path old new result)
+      → IfSome contents (λ s. HasPassed mode root part s → WritesKnown what mode root part faultless s file path old new result)
       → IfSome contents (λ s. WritesKnown what mode root part faultless s file path old new result)
   text_after None faultless file path old new text result whole h = tt
-  text_after (Some s) faultless file path old new text result whole h = h (subst (IsPartText mode root part) whole.known whole.accepted)
+  text_after (Some s) faultless file path old new text result whole h = h (subst (HasPassed mode root part) whole.known (whole.accepted, whole.fits))
 
 -- one pass over it writes what it has of the part
 module _ (mode : Mode) (root : List ℕ) (part : Part) where

@@ -1,5 +1,5 @@
 -- An encoding that is verified in blocks, and written as it stands.
-use Rattle.std.proofs.Common.{◌≡◌, ℕ, ◌+◌, ◌-◌, ◌<◌, ◌≤◌, List, [], ◌++◌, length, drop, Option, Some, None, IfSome, sym, ap, subst, ◌∙◌, arith, length-append}
+use Rattle.std.proofs.Common.{◌≡◌, ℕ, ◌+◌, ◌-◌, ◌^◌, ◌<◌, ◌≤◌, List, [], ◌++◌, length, drop, Option, Some, None, IfSome, sym, ap, subst, ◌∙◌, arith, length-append}
 use Rattle.std.proofs.KnownBytes.{Appends-trans}
 use Rattle.std.proofs.lemmas.List.{append_assoc}
 use Rattle.std.specs.Io.KnownBytes.{Appends}
@@ -100,11 +100,11 @@ module _ (mode : Mode) (root : List ℕ) (part : Part) where
 
   -- all of it
   pub copied_all : (contents : Option (List ℕ)) (first last : ℕ) (check : Checking) (at : ℕ) (old new : Option (List ℕ)) (text blob : List ℕ)
-      → IsCopied contents first last check at old new text blob → IsAcceptedAs our_task text → IfSome contents (λ s. length s ≤ at)
+      → IsCopied contents first last check at old new text blob → IsAcceptedAs our_task text → IfSome contents (λ s. length s ≤ at) → at ≤ 2 ^ 63
       → (x : List ℕ) × IsWholeText contents mode root part x × (last - first ≡ written_count part x) × Appends old new x
-  copied_all contents first last check at old new text blob it accepted ends = (
+  copied_all contents first last check at old new text blob it accepted ends fits = (
     text,
-    record { accepted = accepted; each = it.each; known = known_all contents text at it.at_is it.given ends },
+    record { accepted = accepted; each = it.each; fits = omega (arith, fits, it.at_is); known = known_all contents text at it.at_is it.given ends },
     (λ i. it.last_is i - it.first_is i),
     it.written,
   )

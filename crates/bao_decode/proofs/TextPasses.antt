@@ -261,11 +261,11 @@ module _ (mode : Mode) (root : List ℕ) (part : Part) where
 
   -- all of it
   pub begun_all : (contents : Option (List ℕ)) (total : ℕ) (check : Checking) (at done : ℕ) (old new : Option (List ℕ)) (text blob : List ℕ)
-      → IsBegun contents total check at done old new text blob → IsAcceptedAs own_task text → decoded text (part_start part) (part_len part) ≡ blob → IfSome contents (λ s. length s ≤ at)
+      → IsBegun contents total check at done old new text blob → IsAcceptedAs own_task text → decoded text (part_start part) (part_len part) ≡ blob → IfSome contents (λ s. length s ≤ at) → at ≤ 2 ^ 63
       → (x : List ℕ) × IsWholeText contents mode root part x × (last_written part total - first_written part total ≡ written_count part x) × Appends old new (part_bytes part x)
-  begun_all contents total check at done old new text blob it accepted blob_is ends = (
+  begun_all contents total check at done old new text blob it accepted blob_is ends fits = (
     text,
-    record { accepted = accepted; each = it.each; known = known_all contents text at it.at_is it.given ends },
+    record { accepted = accepted; each = it.each; fits = omega (arith, fits, it.at_is); known = known_all contents text at it.at_is it.given ends },
     ap (λ (n : ℕ). last_written part n - first_written part n) (sym it.claims),
     subst (λ (T : Type 0). T) (λ i. Appends old new (drop (skip_of (sym it.claims i)) (take (end_of (sym it.claims i)) (sym blob_is i)))) it.written,
   )

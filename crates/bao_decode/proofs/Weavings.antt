@@ -1,20 +1,20 @@
--- Where the bytes of a combined encoding stand in an outboard encoding and a plain copy.
-use Rattle.std.proofs.Common.{◌≡◌, ℕ, zero, suc, ◌+◌, ◌-◌, ◌*◌, ◌/◌, ◌^◌, ◌<◌, ◌≤◌, min, List, [], ◌∷◌, ◌++◌, length, take, drop, Bool, true, false, if◌then◌else◌, Option, None, Some, IfNone, inl, inr, refl, sym, ap, subst, ◌∙◌, arith, length-append, length-drop}
-use Rattle.std.specs.List.{flat_map}
+-- Where the bytes of a slice stand in an outboard encoding and a plain copy.
+use Rattle.std.proofs.Common.{◌≡◌, ◌≤◌, ◌<◌, ◌+◌, ◌-◌, ◌*◌, ◌/◌, ℕ, min, List, [], ◌∷◌, ◌++◌, length, take, drop, sum_by, Bool, true, false, if◌then◌else◌, Option, None, Some, inl, inr, refl, sym, ap, subst, ◌∙◌, arith, length-append, length-drop}
 use Rattle.std.proofs.Math.Seq.{drop-append-add}
-use Rattle.std.proofs.lemmas.Bool.{and_parts, cases_Bool, cases_lt, leb-true, ltb-true}
-use Rattle.std.proofs.lemmas.List.{append-nil, append_assoc, drop-append-le, drop-drop, drop-take, length-take-le, take-append-le, take-take}
-use Rattle.std.proofs.lemmas.List.Concat.{flat_map-append}
-use Rattle.b3tree.specs.Tree.{left_len}
+use Rattle.std.proofs.lemmas.Bool.{cases_Bool, cases_lt, le-ltb, lt-ltb}
+use Rattle.std.proofs.lemmas.List.{append-nil, drop-append-le, drop-drop, drop-take, length-take, length-take-le, take-append-le, take-take, take_all}
+use Rattle.std.proofs.lemmas.List.Sums.{sum_by-cons}
 use Rattle.bao_read.specs.Given.{ReadsAt}
-use Rattle.bao_text.specs.Choice.{chunk_count, of_combined, wants}
-use Rattle.bao_text.specs.Nodes.{Side, TreeNode, left, right, subtree_nodes, subtree_size}
-use Rattle.bao_text.proofs.Everything.{wants_all}
-use Rattle.bao_text.proofs.SubtreeNodes.{subtree_nodes-leaf, subtree_nodes-parent, subtree_size-parts}
-use Rattle.bao_text.proofs.SubtreeText.{Parts, left_len-Parts}
+use Rattle.b3tree.specs.Tree.{left_len}
+use Rattle.bao_text.specs.declared.choice.Choice.{Choice}
+use Rattle.bao_text.specs.Choice.{of_slice, wants}
+use Rattle.bao_text.specs.Nodes.{Side, TreeNode, left, nodes, right, size, subtree_nodes, subtree_size}
+use Rattle.bao_text.proofs.SubtreeNodes.{parent_node}
+use Rattle.bao_check.proofs.EachNode.{chunk_node, leaf_nodes}
 use Rattle.bao_decode.specs.Cutting.{GoesOn}
-use Rattle.bao_decode.specs.Weaving.{AreThere, are_whole, woven_contents, woven_node, woven_text}
-use Rattle.bao_decode.proofs.Cuttings.{reads_on}
+use Rattle.bao_decode.specs.Forward.{Reaches}
+use Rattle.bao_decode.specs.Weaving.{GoesOnWithin, woven_contents, woven_node, woven_nodes, woven_text}
+use Rattle.bao_decode.proofs.Cuttings.{halves, reads_on}
 
 -- the bytes go on in what they begin with
 goes_within : (source x rest : List ℕ) (from j skip : ℕ) → x ≡ take j (drop from source) → from + j ≤ length source → skip < j → GoesOn source (x ++ rest) skip (from + skip) (j - skip)
@@ -42,225 +42,181 @@ goes_past source x bytes skip j at k size_is past on =
       ends = λ none. let rest : length bytes ≤ skip - j = on.ends none in omega (arith, length-append x bytes, size_is, rest, past);
     }
 
--- the parents of n bytes
-count_parts : (n l : ℕ) → 1024 < n → Parts n l → chunk_count n ≡ chunk_count l + chunk_count (n - l)
-count_parts n l more parts = omega (arith, more, parts.whole, parts.some, parts.below)
+module _ (outline copy : List ℕ) where
+  abbrev own : TreeNode → List ℕ
+  own x = woven_node outline copy x
 
-module _ (total : ℕ) (outline copy : List ℕ) where
-  -- the bytes of nodes
   abbrev woven : List TreeNode → List ℕ
-  woven xs = flat_map (woven_node outline copy) xs
+  woven xs = woven_nodes outline copy xs
 
-  -- those of a subtree
-  abbrev pub subtree : ℕ → ℕ → List Side → ℕ → List ℕ
-  subtree number n sides at = woven (subtree_nodes (of_combined total) number n sides at)
-
-  abbrev There : ℕ → ℕ → ℕ → Type 0
-  There number n at = AreThere total number n at outline copy
-
-  wanted : (number n at : ℕ) → There number n at → wants (of_combined total) (1024 * number) n ≡ true
-  wanted number n at there = wants_all (of_combined total) (1024 * number) n refl (omega (arith, there.inside))
-
-  -- both parts of a subtree are there
-  there_left : (number n l at : ℕ) → 1024 < n → l ≡ left_len n → 1024 * number ≤ at → There number n at → There number l (at + 64)
-  there_left number n l at more l_is low there =
-      let parts : Parts n l = subst (λ (m : ℕ). Parts n m) (sym l_is) (left_len-Parts n more) in
-      let count : chunk_count n ≡ chunk_count l + chunk_count (n - l) = count_parts n l more parts in
-      record {
-        inside = omega (arith, there.inside, parts.some, parts.below);
-        parents = omega (arith, there.parents, count, low);
-        chunks = omega (arith, there.chunks, parts.below);
-      }
-
-  there_right : (number n l at : ℕ) → 1024 < n → l ≡ left_len n → 1024 * number ≤ at → There number n at → There (number + l / 1024) (n - l) (at + 64 + subtree_size l)
-  there_right number n l at more l_is low there =
-      let parts : Parts n l = subst (λ (m : ℕ). Parts n m) (sym l_is) (left_len-Parts n more) in
-      let count : chunk_count n ≡ chunk_count l + chunk_count (n - l) = count_parts n l more parts in
-      record {
-        inside = omega (arith, there.inside, parts.whole, parts.some, parts.below);
-        parents = omega (arith, there.parents, count, low, parts.whole);
-        chunks = omega (arith, there.chunks, parts.whole, parts.below);
-      }
-
-  -- a chunk's bytes
-  chunk_is : (number n : ℕ) (sides : List Side) (at : ℕ) → n ≤ 1024 → There number n at → subtree number n sides at ≡ take n (drop (1024 * number) copy)
-  chunk_is number n sides at one there =
-      ap woven (subtree_nodes-leaf (of_combined total) number n sides at (wanted number n at there) one) ∙ append-nil (take n (drop (1024 * number) copy))
-
-  -- those of a parent, and of the two parts
-  abbrev parent_of : ℕ → ℕ → List ℕ
-  parent_of number at = take 64 (drop (at - 1024 * number) outline)
-
-  parent_len : (number n at : ℕ) → 1024 < n → There number n at → length (parent_of number at) ≡ 64
-  parent_len number n at more there = length-take-le 64 (drop (at - 1024 * number) outline) (omega (arith, length-drop (at - 1024 * number) outline, there.parents, more))
-
-  parts_are : (number n l : ℕ) (sides : List Side) (at : ℕ) → 1024 < n → l ≡ left_len n → There number n at
-      → subtree number n sides at
-      ≡ parent_of number at ++ (subtree number l (sides ++ left ∷ []) (at + 64) ++ subtree (number + l / 1024) (n - l) (sides ++ right ∷ []) (at + 64 + subtree_size l))
-  parts_are number n l sides at more l_is there =
-      let m : ℕ = left_len n in
-      let near : List TreeNode = subtree_nodes (of_combined total) number m (sides ++ left ∷ []) (at + 64) in
-      let far : List TreeNode = subtree_nodes (of_combined total) (number + m / 1024) (n - m) (sides ++ right ∷ []) (at + 64 + subtree_size m) in
-      let both : woven (near ++ far) ≡ woven near ++ woven far = flat_map-append (woven_node outline copy) near far in
-      let all : subtree number n sides at ≡ parent_of number at ++ (woven near ++ woven far) =
-      ap woven (subtree_nodes-parent (of_combined total) number n sides at (wanted number n at there) more) ∙ ap (λ (b : List ℕ). parent_of number at ++ b) both in
-      subst (λ (k : ℕ). subtree number n sides at
-      ≡ parent_of number at ++ (subtree number k (sides ++ left ∷ []) (at + 64) ++ subtree (number + k / 1024) (n - k) (sides ++ right ∷ []) (at + 64 + subtree_size k))) (sym l_is) all
-
-  -- how many bytes they are
-  len_leaf : (number n : ℕ) (sides : List Side) (at : ℕ) → n ≤ 1024 → There number n at → length (subtree number n sides at) ≡ subtree_size n
-  len_leaf number n sides at one there =
-      let size_is : length (take n (drop (1024 * number) copy)) ≡ n = length-take-le n (drop (1024 * number) copy) (omega (arith, length-drop (1024 * number) copy, there.chunks)) in
-      let same : n ≡ subtree_size n = omega (arith, one) in
-      ap length (chunk_is number n sides at one there) ∙ size_is ∙ same
-
-  len_levels : (levels : ℕ) (number n : ℕ) (sides : List Side) (at : ℕ) → n ≤ 1024 * levels + 1024 → 1024 * number ≤ at → There number n at
-      → length (subtree number n sides at) ≡ subtree_size n
-  len_levels zero number n sides at hn low there = len_leaf number n sides at (omega (arith, hn)) there
-  len_levels (suc levels) number n sides at hn low there = elim (cases_lt 1024 n) [
-    | inr one ↦ len_leaf number n sides at one there
-    | inl more ↦
-        let l : ℕ = left_len n in
-        let parts : Parts n l = left_len-Parts n more in
-        let near : List ℕ = subtree number l (sides ++ left ∷ []) (at + 64) in
-        let far : List ℕ = subtree (number + l / 1024) (n - l) (sides ++ right ∷ []) (at + 64 + subtree_size l) in
-        let near_len : length near ≡ subtree_size l =
-        len_levels levels number l (sides ++ left ∷ []) (at + 64) (omega (arith, hn, parts.whole, parts.below)) (omega (arith, low)) (there_left number n l at more refl low there) in
-        let far_len : length far ≡ subtree_size (n - l) =
-        len_levels levels (number + l / 1024) (n - l) (sides ++ right ∷ []) (at + 64 + subtree_size l) (omega (arith, hn, parts.some)) (omega (arith, low, parts.whole))
-        (there_right number n l at more refl low there) in
-        let top : length (parent_of number at) ≡ 64 = parent_len number n at more there in
-        let all : length (subtree number n sides at) ≡ length (parent_of number at) + (length near + length far) =
-        ap length (parts_are number n l sides at more refl there) ∙ length-append (parent_of number at) (near ++ far) ∙ ap (λ (k : ℕ). length (parent_of number at) + k) (length-append near far) in
-        let sum : length (parent_of number at) + (length near + length far) ≡ 64 + subtree_size l + subtree_size (n - l) = omega (arith, top, near_len, far_len) in
-        all ∙ sum ∙ sym (subtree_size-parts n more)
+  -- a node has no more bytes than it asks for,
+  own_few : (x : TreeNode) → length (own x) ≤ size x
+  own_few x = elim (cases_Bool x.is_chunk) [
+    | inl chunk ↦ rw chunk (omega (arith, length-take x.len (drop (1024 * x.number) copy)))
+    | inr parent ↦ rw parent (omega (arith, length-take 64 (drop (x.source - 1024 * x.number) outline)))
   ]
 
+  -- and where it has all of these, the next node follows
+  pub woven_whole : (x : TreeNode) (rest : List TreeNode) → size x ≤ length (own x) → woven (x ∷ rest) ≡ own x ++ woven rest
+  woven_whole x rest all = rw (le-ltb (length (own x)) (size x) all) refl
+
+  woven_short : (x : TreeNode) (rest : List TreeNode) → length (own x) < size x → woven (x ∷ rest) ≡ own x
+  woven_short x rest short = rw (lt-ltb (length (own x)) (size x) short) refl
+
+  -- nodes have no more bytes than they ask for
+  woven_few : (xs : List TreeNode) → length (woven xs) ≤ sum_by size xs
+  woven_few [] = omega arith
+  woven_few (x ∷ xs) = elim (cases_lt (length (own x)) (size x)) [
+    | inl short ↦ omega (arith, ap length (woven_short x xs short), short, sum_by-cons size x xs)
+    | inr all ↦ omega (arith, ap length (woven_whole x xs all) ∙ length-append (own x) (woven xs), own_few x, woven_few xs, sum_by-cons size x xs)
+  ]
+
+  -- within a node,
+  woven_within : (source : List ℕ) (from : ℕ) (x : TreeNode) (rest : List TreeNode) (skip : ℕ) → own x ≡ take (size x) (drop from source) → skip < size x
+      → GoesOn source (woven (x ∷ rest)) skip (from + skip) (size x - skip)
+  woven_within source from x rest skip is within =
+      let k : ℕ = size x in
+      let len : length (own x) ≡ min k (length source - from) = ap length is ∙ length-take k (drop from source) ∙ ap (min k) (length-drop from source) in
+      elim (cases_lt (length (own x)) k) [
+        | inl short ↦
+            let all : woven (x ∷ rest) ≡ drop from source = woven_short x rest short ∙ is ∙ take_all k (drop from source) (omega (arith, len, short, length-drop from source)) in
+            record {
+              part = λ j most. ap (λ (b : List ℕ). take j (drop skip b)) all ∙ ap (take j) (drop-drop skip from source);
+              ends = λ none. omega (arith, ap length all ∙ length-drop from source, none);
+            }
+        | inr all ↦
+            subst (λ (b : List ℕ). GoesOn source b skip (from + skip) (k - skip)) (sym (woven_whole x rest all))
+            (goes_within source (own x) (woven rest) from k skip is (omega (arith, len, all, within)) within)
+      ]
+
+  -- and past nodes
+  woven_past : (source : List ℕ) (xs ys : List TreeNode) (skip over at k : ℕ) → skip ≡ over + sum_by size xs → GoesOnWithin source (woven ys) over at k
+      → GoesOnWithin source (woven (xs ++ ys)) skip at k
+  woven_past source [] ys skip over at k skip_is on = λ there.
+      let same : over ≡ skip = omega (arith, skip_is) in
+      subst (λ (n : ℕ). GoesOn source (woven ys) n at k) same (on (omega (arith, there, same)))
+  woven_past source (x ∷ xs) ys skip over at k skip_is on = λ there.
+      let sum : sum_by size (x ∷ xs) ≡ size x + sum_by size xs = sum_by-cons size x xs in
+      elim (cases_lt (length (own x)) (size x)) [
+        | inl short ↦ absurd (omega (arith, there, ap length (woven_short x (xs ++ ys) short), short, skip_is, sum))
+        | inr all ↦
+            let whole : woven (x ∷ (xs ++ ys)) ≡ own x ++ woven (xs ++ ys) = woven_whole x (xs ++ ys) all in
+            let len : length (own x) ≡ size x = omega (arith, all, own_few x) in
+            let later : GoesOn source (woven (xs ++ ys)) (skip - size x) at k =
+            woven_past source xs ys (skip - size x) over at k (omega (arith, skip_is, sum)) on (omega (arith, there, ap length whole ∙ length-append (own x) (woven (xs ++ ys)), len)) in
+            subst (λ (b : List ℕ). GoesOn source b skip at k) (sym whole) (goes_past source (own x) (woven (xs ++ ys)) skip (size x) at k len (omega (arith, skip_is, sum)) later)
+      ]
+
   -- The search for a byte, one subtree after another: it is in a chunk,
-  pub place_chunk : (number n first size_is : ℕ) (sides : List Side) (at skip : ℕ) (rest : List ℕ) → first ≡ 1024 * number → size_is ≡ n → n ≤ 1024 → skip < size_is → There number n at
-      → GoesOn copy (subtree number n sides at ++ rest) skip (first + skip) (size_is - skip)
-  place_chunk number n first size_is sides at skip rest first_is same one within there =
-      subst (λ (T : Type 0). T) (λ i. GoesOn copy (subtree number n sides at ++ rest) skip (sym first_is i + skip) (sym same i - skip))
-      (goes_within copy (subtree number n sides at) rest (1024 * number) n skip (chunk_is number n sides at one there) there.chunks (omega (arith, within, same)))
+  module _ (choice : Choice) (number n : ℕ) (sides : List Side) (rest : List TreeNode) (at skip : ℕ) (wanted : wants choice (1024 * number) n ≡ true) where
+    abbrev subtree : List TreeNode
+    subtree = subtree_nodes choice number n sides at
 
-  -- or in the parent,
-  pub place_parent : (number n first : ℕ) (sides : List Side) (at skip : ℕ) (rest : List ℕ) → first ≡ 1024 * number → 1024 < n → skip < 64 → There number n at
-      → GoesOn outline (subtree number n sides at ++ rest) skip (at - first + skip) (64 - skip)
-  place_parent number n first sides at skip rest first_is more within there =
-      let near : List ℕ = subtree number (left_len n) (sides ++ left ∷ []) (at + 64) in
-      let far : List ℕ = subtree (number + left_len n / 1024) (n - left_len n) (sides ++ right ∷ []) (at + 64 + subtree_size (left_len n)) in
-      let all : subtree number n sides at ++ rest ≡ parent_of number at ++ ((near ++ far) ++ rest) =
-      ap (λ (b : List ℕ). b ++ rest) (parts_are number n (left_len n) sides at more refl there) ∙ append_assoc (parent_of number at) (near ++ far) rest in
-      subst (λ (T : Type 0). T) (λ i. GoesOn outline (sym all i) skip (at - sym first_is i + skip) (64 - skip))
-      (goes_within outline (parent_of number at) ((near ++ far) ++ rest) (at - 1024 * number) 64 skip refl (omega (arith, there.parents, more)) within)
+    pub place_chunk : (first len : ℕ) → choice.chunks ≡ true → first ≡ 1024 * number → len ≡ n → n ≤ 1024 → skip < len
+        → GoesOnWithin copy (woven (subtree ++ rest)) skip (first + skip) (len - skip)
+    place_chunk first len chunks first_is len_is one within = λ there.
+        subst (λ (T : Type 0). T) (λ i. GoesOn copy (woven (sym (leaf_nodes choice number n sides at wanted one chunks) i ++ rest)) skip (sym first_is i + skip) (sym len_is i - skip))
+        (woven_within copy (1024 * number) (chunk_node number n sides at) rest skip refl (omega (arith, within, len_is)))
 
-  -- or in the left part,
-  pub place_left : (source : List ℕ) (number n l : ℕ) (sides : List Side) (at skip place k : ℕ) (rest : List ℕ) → 1024 < n → l ≡ left_len n → 1024 * number ≤ at → 64 ≤ skip
-      → (There number l (at + 64) → (later : List ℕ) → GoesOn source (subtree number l (sides ++ left ∷ []) (at + 64) ++ later) (skip - 64) place k) → There number n at
-      → GoesOn source (subtree number n sides at ++ rest) skip place k
-  place_left source number n l sides at skip place k rest more l_is low past on there =
-      let near : List ℕ = subtree number l (sides ++ left ∷ []) (at + 64) in
-      let far : List ℕ = subtree (number + l / 1024) (n - l) (sides ++ right ∷ []) (at + 64 + subtree_size l) in
-      let all : subtree number n sides at ++ rest ≡ parent_of number at ++ (near ++ (far ++ rest)) =
-      ap (λ (b : List ℕ). b ++ rest) (parts_are number n l sides at more l_is there) ∙ append_assoc (parent_of number at) (near ++ far) rest
-      ∙ ap (λ (b : List ℕ). parent_of number at ++ b) (append_assoc near far rest) in
-      subst (λ (b : List ℕ). GoesOn source b skip place k) (sym all)
-      (goes_past source (parent_of number at) (near ++ (far ++ rest)) skip 64 place k (parent_len number n at more there) past (on (there_left number n l at more l_is low there) (far ++ rest)))
+    -- or in the parent,
+    pub place_parent : (first : ℕ) → first ≡ 1024 * number → 1024 < n → skip < 64 → GoesOnWithin outline (woven (subtree ++ rest)) skip (at - first + skip) (64 - skip)
+    place_parent first first_is more within = λ there.
+        let node : TreeNode = parent_node number n sides at in
+        let near : List TreeNode = subtree_nodes choice number (left_len n) (sides ++ left ∷ []) (at + 64) in
+        let far : List TreeNode = subtree_nodes choice (number + left_len n / 1024) (n - left_len n) (sides ++ right ∷ []) (at + 64 + subtree_size (left_len n)) in
+        let all : subtree ++ rest ≡ node ∷ (near ++ (far ++ rest)) = halves choice number n sides rest at (left_len n) (subtree_size (left_len n)) wanted more refl refl in
+        subst (λ (T : Type 0). T) (λ i. GoesOn outline (woven (sym all i)) skip (at - sym first_is i + skip) (64 - skip))
+        (woven_within outline (at - 1024 * number) node (near ++ (far ++ rest)) skip refl within)
 
-  -- or in the right part.
-  pub place_right : (source : List ℕ) (number n l size_is : ℕ) (sides : List Side) (at skip place k : ℕ) (rest : List ℕ) → 1024 < n → l ≡ left_len n → size_is ≡ subtree_size l → 1024 * number ≤ at
-      → 64 ≤ skip → size_is ≤ skip - 64
-      → (There (number + l / 1024) (n - l) (at + 64 + size_is) → GoesOn source (subtree (number + l / 1024) (n - l) (sides ++ right ∷ []) (at + 64 + size_is) ++ rest) (skip - 64 - size_is) place k)
-      → There number n at → GoesOn source (subtree number n sides at ++ rest) skip place k
-  place_right source number n l size_is sides at skip place k rest more l_is same low past after on there =
-      let near : List ℕ = subtree number l (sides ++ left ∷ []) (at + 64) in
-      let far : List ℕ = subtree (number + l / 1024) (n - l) (sides ++ right ∷ []) (at + 64 + size_is) in
-      let all : subtree number n sides at ++ rest ≡ parent_of number at ++ (near ++ (far ++ rest)) =
-      ap (λ (b : List ℕ). b ++ rest) (parts_are number n l sides at more l_is there)
-      ∙ ap (λ (m : ℕ). (parent_of number at ++ (near ++ subtree (number + l / 1024) (n - l) (sides ++ right ∷ []) (at + 64 + m))) ++ rest) (sym same)
-      ∙ append_assoc (parent_of number at) (near ++ far) rest
-      ∙ ap (λ (b : List ℕ). parent_of number at ++ b) (append_assoc near far rest) in
-      let near_len : length near ≡ size_is = len_levels l number l (sides ++ left ∷ []) (at + 64) (omega arith) (omega (arith, low)) (there_left number n l at more l_is low there) ∙ sym same in
-      let far_there : There (number + l / 1024) (n - l) (at + 64 + size_is) =
-      subst (λ (m : ℕ). There (number + l / 1024) (n - l) (at + 64 + m)) (sym same) (there_right number n l at more l_is low there) in
-      subst (λ (b : List ℕ). GoesOn source b skip place k) (sym all)
-      (goes_past source (parent_of number at) (near ++ (far ++ rest)) skip 64 place k (parent_len number n at more there) past
-      (goes_past source near (far ++ rest) (skip - 64) size_is place k near_len after (on far_there)))
+    -- or in the left part,
+    pub place_left : (source : List ℕ) (l place k : ℕ) → 1024 < n → 64 ≤ skip → l ≡ left_len n
+        → ((later : List TreeNode) → GoesOnWithin source (woven (subtree_nodes choice number l (sides ++ left ∷ []) (at + 64) ++ later)) (skip - 64) place k)
+        → GoesOnWithin source (woven (subtree ++ rest)) skip place k
+    place_left source l place k more past l_is on =
+        let node : TreeNode = parent_node number n sides at in
+        let near : List TreeNode = subtree_nodes choice number l (sides ++ left ∷ []) (at + 64) in
+        let far : List TreeNode = subtree_nodes choice (number + l / 1024) (n - l) (sides ++ right ∷ []) (at + 64 + subtree_size l) in
+        subst (λ (xs : List TreeNode). GoesOnWithin source (woven xs) skip place k) (sym (halves choice number n sides rest at l (subtree_size l) wanted more l_is refl))
+        (woven_past source (node ∷ []) (near ++ (far ++ rest)) skip (skip - 64) place k (omega (arith, past)) (on (far ++ rest)))
 
-  -- all of it
-  pub whole_parents : are_whole total outline copy ≡ true → 8 + 64 * (chunk_count total - 1) ≤ length outline
-  whole_parents whole = leb-true _ _ (and_parts _ _ whole).0
+    -- or in the right part
+    pub place_right : (source : List ℕ) (l size_is over place k : ℕ) → 1024 < n → 64 ≤ skip → l ≡ left_len n → size_is ≡ subtree_size l
+        → skip - 64 ≡ over + sum_by size (subtree_nodes choice number l (sides ++ left ∷ []) (at + 64))
+        → GoesOnWithin source (woven (subtree_nodes choice (number + l / 1024) (n - l) (sides ++ right ∷ []) (at + 64 + size_is) ++ rest)) over place k
+        → GoesOnWithin source (woven (subtree ++ rest)) skip place k
+    place_right source l size_is over place k more past l_is same after on =
+        let node : TreeNode = parent_node number n sides at in
+        let near : List TreeNode = subtree_nodes choice number l (sides ++ left ∷ []) (at + 64) in
+        let far : List TreeNode = subtree_nodes choice (number + l / 1024) (n - l) (sides ++ right ∷ []) (at + 64 + size_is) in
+        subst (λ (xs : List TreeNode). GoesOnWithin source (woven xs) skip place k) (sym (halves choice number n sides rest at l size_is wanted more l_is same))
+        (woven_past source (node ∷ near) (far ++ rest) skip over place k (omega (arith, sum_by-cons size node near, after, past)) on)
 
-  whole_chunks : are_whole total outline copy ≡ true → total ≤ length copy
-  whole_chunks whole = leb-true _ _ (and_parts _ _ (and_parts _ _ whole).1).0
+-- the length, and then the nodes
+module _ (total start len : ℕ) (outline copy : List ℕ) where
+  abbrev text : List ℕ
+  text = woven_text total start len outline copy
 
-  pub whole_fits : are_whole total outline copy ≡ true → 8 + subtree_size total < 2 ^ 63
-  whole_fits whole = ltb-true _ _ (and_parts _ _ (and_parts _ _ whole).1).1
+  abbrev after_length : List ℕ
+  after_length = woven_nodes outline copy (nodes total start len)
 
-  whole_there : are_whole total outline copy ≡ true → There 0 total 8
-  whole_there whole = record {
-    inside = omega arith;
-    parents = omega (arith, whole_parents whole);
-    chunks = omega (arith, whole_chunks whole);
-  }
+  text_short : length outline < 8 → text ≡ outline
+  text_short short = rw (lt-ltb (length outline) 8 short) refl
 
-  header_len : are_whole total outline copy ≡ true → length (take 8 outline) ≡ 8
-  header_len whole = length-take-le 8 outline (omega (arith, whole_parents whole))
+  pub text_long : 8 ≤ length outline → text ≡ take 8 outline ++ after_length
+  text_long long = rw (le-ltb (length outline) 8 long) refl
 
-  pub woven_len : are_whole total outline copy ≡ true → length (woven_text total outline copy) ≡ 8 + subtree_size total
-  woven_len whole =
-      let nodes_len : length (subtree 0 total [] 8) ≡ subtree_size total = len_levels total 0 total [] 8 (omega arith) (omega arith) (whole_there whole) in
-      omega (arith, length-append (take 8 outline) (subtree 0 total [] 8), header_len whole, nodes_len)
+  text_len : 8 ≤ length outline → length text ≡ 8 + length after_length
+  text_len long = omega (arith, ap length (text_long long) ∙ length-append (take 8 outline) after_length, length-take-le 8 outline long)
 
-  -- the length
-  pub place_header : (at : ℕ) → at < 8 → are_whole total outline copy ≡ true → GoesOn outline (woven_text total outline copy) at at (8 - at)
-  place_header at within whole =
-      let same : 0 + at ≡ at = omega arith in
-      subst (λ (p : ℕ). GoesOn outline (woven_text total outline copy) at p (8 - at)) same
-      (goes_within outline (take 8 outline) (subtree 0 total [] 8) 0 8 at refl (omega (arith, whole_parents whole)) within)
+  pub place_length : (at : ℕ) → at < 8 → GoesOnWithin outline text at at (8 - at)
+  place_length at within = λ there. elim (cases_lt (length outline) 8) [
+    | inl short ↦ record {
+      part = λ k most. ap (λ (b : List ℕ). take k (drop at b)) (text_short short);
+      ends = λ none. omega (arith, ap length (text_short short), none);
+    }
+    | inr long ↦
+        let same : 0 + at ≡ at = omega arith in
+        subst (λ (T : Type 0). T) (λ i. GoesOn outline (sym (text_long long) i) at (same i) (8 - at)) (goes_within outline (take 8 outline) after_length 0 8 at refl (omega (arith, long)) within)
+  ]
 
-  -- and the nodes
-  pub place_nodes : (source : List ℕ) (at from place k : ℕ) → from ≡ at → 8 ≤ from → (There 0 total 8 → GoesOn source (subtree 0 total [] 8 ++ []) (from - 8) place k)
-      → are_whole total outline copy ≡ true → GoesOn source (woven_text total outline copy) at place k
-  place_nodes source at from place k from_is after on whole =
-      subst (λ (p : ℕ). GoesOn source (woven_text total outline copy) p place k) from_is
-      (goes_past source (take 8 outline) (subtree 0 total [] 8) from 8 place k (header_len whole) after
-      (subst (λ (b : List ℕ). GoesOn source b (from - 8) place k) (append-nil (subtree 0 total [] 8)) (on (whole_there whole))))
+  pub place_nodes : (choice : Choice) (source : List ℕ) (at from place k : ℕ) → choice ≡ of_slice total start len → from ≡ at → 8 ≤ from
+      → GoesOnWithin source (woven_nodes outline copy (subtree_nodes choice 0 total [] 8 ++ [])) (from - 8) place k → GoesOnWithin source text at place k
+  place_nodes choice source at from place k choice_is from_is after on = λ there. elim (cases_lt (length outline) 8) [
+    | inl short ↦ absurd (omega (arith, there, ap length (text_short short), short, from_is, after))
+    | inr long ↦
+        let all : subtree_nodes choice 0 total [] 8 ++ [] ≡ nodes total start len = append-nil (subtree_nodes choice 0 total [] 8) ∙ ap (λ (c : Choice). subtree_nodes c 0 total [] 8) choice_is in
+        let later : GoesOnWithin source after_length (at - 8) place k =
+        subst (λ (T : Type 0). T) (λ i. GoesOnWithin source (woven_nodes outline copy (all i)) (from_is i - 8) place k) on in
+        subst (λ (b : List ℕ). GoesOn source b at place k) (sym (text_long long))
+        (goes_past source (take 8 outline) after_length at 8 place k (length-take-le 8 outline long) (omega (arith, from_is, after)) (later (omega (arith, there, text_len long))))
+  ]
 
-  pub place_none : (at from : ℕ) → from ≡ at → 8 ≤ from → subtree_size total ≤ from - 8 → are_whole total outline copy ≡ true → length (woven_text total outline copy) ≤ at
-  place_none at from from_is after past whole = omega (arith, woven_len whole, from_is, after, past)
+  pub place_none : (choice : Choice) (at from over : ℕ) → choice ≡ of_slice total start len → from ≡ at → 8 ≤ from → from - 8 ≡ over + sum_by size (subtree_nodes choice 0 total [] 8)
+      → length text ≤ at
+  place_none choice at from over choice_is from_is after past = elim (cases_lt (length outline) 8) [
+    | inl short ↦ omega (arith, ap length (text_short short), short, from_is, after)
+    | inr long ↦
+        let sum : sum_by size (subtree_nodes choice 0 total [] 8) ≡ sum_by size (nodes total start len) = ap (λ (c : Choice). sum_by size (subtree_nodes c 0 total [] 8)) choice_is in
+        omega (arith, text_len long, woven_few outline copy (nodes total start len), sum, past, from_is, after)
+  ]
 
--- a read of one of the two is one of what they make together
-pub woven_read : (total : ℕ) (in_copy : Bool) (outline copy : Option (List ℕ)) (at place k count : ℕ) (new rest : List ℕ)
-    → ((s c : List ℕ) → are_whole total s c ≡ true → GoesOn (if in_copy then c else s) (woven_text total s c) at place k) → 0 < k
-    → length new ≡ min k (length (new ++ rest)) → count ≤ length new → ReadsAt (if in_copy then copy else outline) place count new
-    → ReadsAt (woven_contents total outline copy) at count (new ++ rest)
-woven_read total in_copy None copy at place k count new rest on some room within read = tt
-woven_read total in_copy (Some s) None at place k count new rest on some room within read = tt
-woven_read total true (Some s) (Some c) at place k count new rest on some room within read = elim (cases_Bool (are_whole total s c)) [
-  | inr gone ↦ subst (λ (b : Bool). ReadsAt (if b then Some (woven_text total s c) else None) at count (new ++ rest)) (sym gone) tt
-  | inl whole ↦
-      subst (λ (b : Bool). ReadsAt (if b then Some (woven_text total s c) else None) at count (new ++ rest)) (sym whole)
-      (reads_on c (woven_text total s c) at place k count new rest (on s c whole) some room within read)
-]
-woven_read total false (Some s) (Some c) at place k count new rest on some room within read = elim (cases_Bool (are_whole total s c)) [
-  | inr gone ↦ subst (λ (b : Bool). ReadsAt (if b then Some (woven_text total s c) else None) at count (new ++ rest)) (sym gone) tt
-  | inl whole ↦
-      subst (λ (b : Bool). ReadsAt (if b then Some (woven_text total s c) else None) at count (new ++ rest)) (sym whole)
-      (reads_on s (woven_text total s c) at place k count new rest (on s c whole) some room within read)
-]
+-- a read of one of the two is one of the slice
+module _ (total start len : ℕ) where
+  pub woven_read : (in_copy : Bool) (outline copy : Option (List ℕ)) (at place k count : ℕ) (new rest : List ℕ)
+      → ((s c : List ℕ) → GoesOnWithin (if in_copy then c else s) (woven_text total start len s c) at place k) → 0 < k → length new ≡ min k (length (new ++ rest)) → count ≤ length new
+      → ReadsAt (if in_copy then copy else outline) place count new → Reaches (woven_contents total start len outline copy) ⊥ at
+      → ReadsAt (woven_contents total start len outline copy) at count (new ++ rest)
+  woven_read in_copy outline copy at place k count new rest on some room within read (inl none) = absurd none
+  woven_read in_copy None copy at place k count new rest on some room within read (inr there) = tt
+  woven_read in_copy (Some s) None at place k count new rest on some room within read (inr there) = tt
+  woven_read true (Some s) (Some c) at place k count new rest on some room within read (inr there) =
+      reads_on c (woven_text total start len s c) at place k count new rest (on s c there) some room within read
+  woven_read false (Some s) (Some c) at place k count new rest on some room within read (inr there) =
+      reads_on s (woven_text total start len s c) at place k count new rest (on s c there) some room within read
 
--- past all of it
-pub woven_past : (total : ℕ) (outline copy : Option (List ℕ)) (at : ℕ) (buf : List ℕ) → ((s c : List ℕ) → are_whole total s c ≡ true → length (woven_text total s c) ≤ at)
-    → ReadsAt (woven_contents total outline copy) at 0 buf
-woven_past total None copy at buf past = tt
-woven_past total (Some s) None at buf past = tt
-woven_past total (Some s) (Some c) at buf past = elim (cases_Bool (are_whole total s c)) [
-  | inr gone ↦ subst (λ (b : Bool). ReadsAt (if b then Some (woven_text total s c) else None) at 0 buf) (sym gone) tt
-  | inl whole ↦ subst (λ (b : Bool). ReadsAt (if b then Some (woven_text total s c) else None) at 0 buf) (sym whole) (refl, λ none more. past s c whole)
-]
-
--- what follows where there is none
-pub with_none : {X : Type 0} {P Q : Type 0} (o : Option X) → (P → Q) → IfNone o P → IfNone o Q
-with_none None follows p = follows p
-with_none (Some x) follows p = tt
+  -- past all of it
+  pub woven_end : (outline copy : Option (List ℕ)) (at : ℕ) (buf : List ℕ) → ((s c : List ℕ) → length (woven_text total start len s c) ≤ at)
+      → ReadsAt (woven_contents total start len outline copy) at 0 buf
+  woven_end None copy at buf past = tt
+  woven_end (Some s) None at buf past = tt
+  woven_end (Some s) (Some c) at buf past = (refl, λ none more. past s c)

@@ -6,3 +6,4 @@ pub mod Cutting
 pub mod Weaving
 pub mod DecodeFaults
 pub mod Opened
+pub mod Forward

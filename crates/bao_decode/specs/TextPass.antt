@@ -1,6 +1,6 @@
 -- What a pass over an encoding has verified, and written of a part of the blob.
 use Rattle.std.specs.Borrow.{Bor}
-use Rattle.std.specs.Prelude.{◌≡◌, ◌⊎◌, ℕ, ◌^◌, ◌≤◌, List, length, Option, IfSome, Result, Ok, Err}
+use Rattle.std.specs.Prelude.{◌≡◌, ◌⊎◌, ℕ, ◌^◌, ◌<◌, ◌≤◌, List, length, Option, IfSome, Result, Ok, Err}
 use Rattle.std.specs.Io.KnownBytes.{Appends, Keeps}
 use Rattle.b3tree.specs.declared.mode.Mode.{Mode}
 use Rattle.b3tree.specs.Valid.{AreBytes}
@@ -22,7 +22,7 @@ task_of_part mode root part = record { mode = mode; root = root; start = part_st
 
 -- this is the first fault of an encoding, or it is longer than any file
 abbrev pub IsTextFault : CheckTask → List ℕ → CheckFault → Type 0
-IsTextFault task text fault = IsFaultAs task text fault ⊎ ((fault ≡ check.Memory) × (2 ^ 63 ≤ length text))
+IsTextFault task text fault = IsFaultAs task text fault ⊎ ((fault ≡ check.Memory) × (2 ^ 63 < length text))
 
 -- why a pass over these bytes ended before it wrote: by their first fault, or by a read, as none of a faultless source does
 abbrev pub StopsAs : CheckTask → Type 0 → List ℕ → PassFault → Type 0
@@ -30,11 +30,16 @@ StopsAs task faultless text (Check fault) = IsTextFault task text fault
 StopsAs task faultless text Input = ¬ faultless
 StopsAs task faultless text Output = ⊥
 
--- all of an encoding was verified, it is made of bytes, and it is the contents, where these are known
+-- all of an encoding was verified, it is made of bytes, no longer than any file, and it is the contents, where these are known
 pub record IsWholeText (contents : Option (List ℕ)) (mode : Mode) (root : List ℕ) (part : Part) (text : List ℕ) : Type 0 where
   pub accepted : IsPartText mode root part text
   pub each : AreBytes text
+  pub fits : length text ≤ 2 ^ 63
   pub known : IfSome contents (λ s. text ≡ s)
+
+-- an encoding that a pass has accepted: it is no longer than any file
+abbrev pub HasPassed : Mode → List ℕ → Part → List ℕ → Type 0
+HasPassed mode root part text = IsPartText mode root part text × (length text ≤ 2 ^ 63)
 
 -- what a pass over these bytes leaves that writes so much of them, where it ends early
 abbrev pub WriteStops : (List ℕ → List ℕ) → CheckTask → Type 0 → List ℕ → Option (List ℕ) → Option (List ℕ) → PassFault → Type 0
@@ -51,11 +56,11 @@ abbrev pub EncodingStops : CheckTask → Type 0 → List ℕ → Option (List �
 EncodingStops task faultless text old new fault = WriteStops (λ all. all) task faultless text old new fault
 
 -- the first fault of an encoding, and nothing was written; or no memory, and nothing was; or a read answered a fault, which one that
--- never fails doesn't, if it is no longer than any file; or the encoding is accepted, and writing to the other path failed
+-- never fails doesn't; or the encoding is accepted, and writing to the other path failed
 abbrev pub LeavesWritten : (List ℕ → List ℕ) → Mode → List ℕ → Part → Type 0 → List ℕ → Bor (List ℕ) → Bor (List ℕ) → Option (List ℕ) → Option (List ℕ) → DecodeFault → Type 0
 LeavesWritten what mode root part faultless text file path old new (decode.File fault) =
     ((fault ≡ Memory) × Keeps old new)
-    ⊎ ((fault ≡ Read file) × ((¬ faultless) ⊎ (2 ^ 63 ≤ length text)) × AppendsBeginning old new (what text))
+    ⊎ ((fault ≡ Read file) × (¬ faultless) × AppendsBeginning old new (what text))
     ⊎ ((fault ≡ Write path) × IsPartText mode root part text × AppendsBeginning old new (what text))
 LeavesWritten what mode root part faultless text file path old new (decode.Check fault) = IsTextFault (task_of_part mode root part) text fault × Keeps old new
 

@@ -7,7 +7,9 @@ ghost use Rattle.bao_check.specs.Beside.{bare_len};
 ghost use Rattle.bao_read.specs.Given.{GivenAt};
 ghost use Rattle.bao_text.specs.Choice.{chunk_count};
 ghost use Rattle.bao_decode.specs.CopyPass.{IsPieceOf, IsWholeCopy, PassStops, PieceStops, fault_from};
+ghost use Rattle.bao_decode.specs.Forward.{Reaches};
 
+use crate::forward::Forward;
 use b3tree::{CHUNK_LEN, bytes_are};
 use bao_check::{CheckFault, Outline, check_bare};
 use bao_read::Source;
@@ -31,18 +33,18 @@ pub(crate) enum PassFault {
     Output,
 }
 
-// Reads the source's bytes from offset `at` on to the front of `buf`, until it is full or the source ends. Returns how many.
-pub(crate) fn fill_most<S: Source>(source: &S, at: u64, buf: &mut [u8]) -> Result<usize, PassFault>
+// Reads bytes from offset `at` on to the front of `buf`, until it is full or they end. Returns how many.
+pub(crate) fn fill_most<F: Forward>(source: &F, at: u64, buf: &mut [u8]) -> Result<usize, PassFault>
     requires { at + length buf.old ≤ 2 ^ 64 }
     ensures size { length buf.new ≡ length buf.old }
     ensures bound { IfOk result (λ count. count ≤ length buf.new) }
-    ensures given { IfOk result (λ count. GivenAt (S.contents source.now) at (take count buf.new)) }
-    ensures end { IfOk result (λ count. count < length buf.new → IfSome (S.contents source.now) (λ s. length s ≤ at + count)) }
-    ensures fault { IfErr result (λ fault. (fault ≡ PassFault.Input) × ¬ S.faultless source.now) }
+    ensures given { Reaches (F.contents source.now) (F.anywhere source.now) at → IfOk result (λ count. GivenAt (F.contents source.now) at (take count buf.new)) }
+    ensures end { IfOk result (λ count. count < length buf.new → IfSome (F.contents source.now) (λ s. length s ≤ at + count)) }
+    ensures fault { IfErr result (λ fault. (fault ≡ PassFault.Input) × ¬ F.faultless source.now) }
 {
     let mut filled = 0;
     'reads: while filled < buf.len() {
-        match source.read_at(&mut buf[filled..], at + filled as u64) {
+        match source.read_on(&mut buf[filled..], at + filled as u64) {
             Ok(0) => return Ok(filled),
             Ok(count) => filled += count,
             Err(_) => return Err(PassFault::Input),

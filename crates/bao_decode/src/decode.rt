@@ -11,7 +11,7 @@ ghost use Rattle.bao_check.specs.declared.fault.CheckFault.TheVariants as CheckF
 ghost use Rattle.bao_decode.specs.Copies.{LeavesUnknown};
 ghost use Rattle.bao_decode.specs.DecodeFaults.{IsQuietDecode, NamesDecodePaths};
 ghost use Rattle.bao_decode.specs.Ranges.{IsFileFault, IsPartText, IsVerifiedText, part_bytes, written_count};
-ghost use Rattle.bao_decode.specs.TextPass.{DecodeStops, DecodesKnown, DraftsKnown, IsDecoded, NamesDraftPaths};
+ghost use Rattle.bao_decode.specs.TextPass.{DecodeStops, DecodesKnown, DraftsKnown, HasPassed, IsDecoded, NamesDraftPaths};
 
 use crate::copy_pass::PassFault;
 use crate::decode_fault::DecodeFault;
@@ -108,7 +108,7 @@ fn write_verified<'a, S: Source, W: Write>(
     requires room { length room.old ≡ 294912 }
     ensures some { IfOk result (λ count. (text : List ℕ) × IsVerifiedText mode.now root.now.0 part.now text × (count ≡ written_count part.now text)
         × Appends (W.contents out.old) (W.contents out.new) (part_bytes part.now text)) }
-    ensures known { IfSome (S.contents source.now) (λ s. IsPartText mode.now root.now.0 part.now s → DecodesKnown mode.now root.now.0 part.now (S.faultless source.now) s file.entry path.entry (W.contents out.old) (W.contents out.new) result) }
+    ensures known { IfSome (S.contents source.now) (λ s. HasPassed mode.now root.now.0 part.now s → DecodesKnown mode.now root.now.0 part.now (S.faultless source.now) s file.entry path.entry (W.contents out.old) (W.contents out.new) result) }
     ensures fault { IfErr result (LeavesUnknown file.entry path.entry (W.contents out.old) (W.contents out.new)) }
 {
     match text_pass(mode, root, part, source, block, room, out) {

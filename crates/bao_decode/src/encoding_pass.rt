@@ -6,10 +6,10 @@ ghost use Rattle.bao_decode.specs.Ranges.{written_count};
 ghost use Rattle.bao_decode.specs.TextPass.{EncodingStops, IsWholeText, task_of_part};
 
 use crate::copy_pass::PassFault;
+use crate::forward::Forward;
 use crate::text_pass::{begin, next_block, written_of};
 use b3tree::{Hash, Mode, bytes_are};
 use bao_check::Decoded;
-use bao_read::Source;
 use bao_text::{LENGTH_LEN, Part, claimed, write_text};
 use std::io::Write;
 
@@ -17,11 +17,11 @@ use std::io::Write;
 /// `out` once it is verified, and returns how many bytes the part has.
 ///
 /// Refuses with the encoding's first fault, or if a read or a write fails; a beginning may have been written.
-pub(crate) fn encoding_pass<S: Source, W: Write>(
+pub(crate) fn encoding_pass<F: Forward, W: Write>(
     mode: &Mode,
     root: &Hash,
     part: &Part,
-    source: &S,
+    source: &F,
     block: &mut [u8],
     room: &mut [u8],
     out: &mut W,
@@ -29,10 +29,10 @@ pub(crate) fn encoding_pass<S: Source, W: Write>(
     requires block { (1024 ≤ length block.old) × (length block.old ≤ 2 ^ 32) }
     requires room { length block.old ≤ length room.old }
     ensures sizes { (length block.new ≡ length block.old) × (length room.new ≡ length room.old) }
-    ensures ok { IfOk result (λ count. (text : List ℕ) × IsWholeText (S.contents source.now) mode.now root.now.0 part.now text × (count ≡ written_count part.now text)
+    ensures ok { IfOk result (λ count. (text : List ℕ) × IsWholeText (F.contents source.now) mode.now root.now.0 part.now text × (count ≡ written_count part.now text)
         × Appends (W.contents out.old) (W.contents out.new) text) }
-    ensures err { IfErr result (λ fault. IfSome (S.contents source.now) (λ s.
-        EncodingStops (task_of_part mode.now root.now.0 part.now) (S.faultless source.now) s (W.contents out.old) (W.contents out.new) fault)) }
+    ensures err { IfErr result (λ fault. IfSome (F.contents source.now) (λ s.
+        EncodingStops (task_of_part mode.now root.now.0 part.now) (F.faultless source.now) s (W.contents out.old) (W.contents out.new) fault)) }
 {
     let (mut checking, header) = begin(mode, root, part, source)?;
     // A lemma for the proof, here and below: no code runs.

@@ -11,6 +11,7 @@ mod cut;
 mod decode;
 mod decode_fault;
 mod encoding_pass;
+mod forward;
 mod origin;
 mod plain_copy;
 mod slicing;

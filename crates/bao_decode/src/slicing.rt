@@ -6,7 +6,7 @@ ghost use Rattle.bao_files.specs.Disks.{Absent, IsKnown, KeepsFiles, Puts, Store
 ghost use Rattle.bao_files.specs.declared.fault.FileFault.TheVariants as FileFault;
 ghost use Rattle.bao_decode.specs.declared.decode_fault.DecodeFault.TheVariants as DecodeFault;
 ghost use Rattle.bao_text.specs.declared.kinds.Part.TheVariants as Part;
-ghost use Rattle.bao_text.specs.Cut.{claimed, cut_text};
+ghost use Rattle.bao_text.specs.Cut.{cut_text};
 ghost use Rattle.bao_text.specs.Texts.{combined_text, outboard_text, slice_text};
 ghost use Rattle.bao_decode.specs.Copies.{LeavesUnknown};
 ghost use Rattle.bao_decode.specs.Cutting.{IsCutOf};
@@ -14,12 +14,13 @@ ghost use Rattle.bao_decode.specs.DecodeFaults.{IsQuietDecode, NamesDecodePaths,
 ghost use Rattle.bao_decode.specs.Opened.{IsNotThere};
 ghost use Rattle.bao_decode.specs.Ranges.{IsVerifiedText, written_count};
 ghost use Rattle.bao_decode.specs.TextPass.{DecodeStops, EncodesKnown};
-ghost use Rattle.bao_decode.specs.Weaving.{CutBesideStops, IsCutBeside, are_whole};
+ghost use Rattle.bao_decode.specs.Weaving.{CutBesideStops, IsCutBeside};
 
 use crate::cut::Cut;
 use crate::decode::rooms;
 use crate::decode_fault::DecodeFault;
 use crate::encoding_pass::encoding_pass;
+use crate::forward::Forward;
 use crate::origin::origin_of;
 use crate::plain_copy::{first_fault, flushed, second_fault};
 use crate::text_pass::verify_pass;
@@ -32,19 +33,19 @@ use std::alloc::Global;
 use std::io::Write;
 
 // Verifies an encoding of the part in a first pass, and writes the encoding itself in a second.
-fn write_encoding<'a, S: Source, W: Write>(
+fn write_encoding<'a, F: Forward, W: Write>(
     alloc: Global,
     mode: &Mode,
     root: &Hash,
     part: &Part,
-    source: &S,
+    source: &F,
     file: &'a str,
     out: &mut W,
     path: &'a str,
 ) -> Result<u64, DecodeFault<'a>>
     ensures some { IfOk result (λ count. (text : List ℕ) × IsVerifiedText mode.now root.now.0 part.now text × (count ≡ written_count part.now text)
         × Appends (W.contents out.old) (W.contents out.new) text) }
-    ensures known { IfSome (S.contents source.now) (λ s. EncodesKnown mode.now root.now.0 part.now (S.faultless source.now) s file.entry path.entry (W.contents out.old) (W.contents out.new) result) }
+    ensures known { IfSome (F.contents source.now) (λ s. EncodesKnown mode.now root.now.0 part.now (F.faultless source.now) s file.entry path.entry (W.contents out.old) (W.contents out.new) result) }
     ensures fault { IfErr result (LeavesUnknown file.entry path.entry (W.contents out.old) (W.contents out.new)) }
 {
     let Some((mut block, mut room)) = rooms(alloc) else {
@@ -170,7 +171,8 @@ pub fn slice_on<'a, D: Disk>(
 /// has.
 ///
 /// The slice is verified and written as by [`slice_on`]. Its length and parents are read from the outboard encoding,
-/// and its chunks from the copy. Neither file is checked as a whole. Both must be regular.
+/// and its chunks from the copy. Neither file is checked as a whole, nor has to be whole: what the slice doesn't need may
+/// be missing. Both must be regular.
 ///
 /// Refuses with `File` and `Read` if one of the two can't be opened or read, or isn't regular; the outboard encoding
 /// comes first. A failed read names the copy, except that of the encoding's length. Refuses with `Check` if the slice
@@ -194,7 +196,7 @@ pub fn slice_beside_on<'a, D: Disk>(
         → length (combined_text mode.now blob) < 2 ^ 63 → OnOk result (D.at disk.new path.now ≡ Stored (slice_text mode.now blob start len)) }
     ensures kept { OnErr result (KeepsFiles (D.at disk.old) (D.at disk.new)) }
     ensures refused { IfErr result (λ fault. IsKnown (D.at disk.old path.now) → (outline bytes : List ℕ) → D.at disk.old outboard.now ≡ Stored outline
-        → D.at disk.old copy.now ≡ Stored bytes → are_whole (claimed outline) outline bytes ≡ true
+        → D.at disk.old copy.now ≡ Stored bytes
         → CutBesideStops mode.now root.now.0 start len (D.faultless disk.old) outline bytes outboard.entry copy.entry path.entry fault) }
     ensures absent { IfErr result (λ fault. D.at disk.old outboard.now ≡ Absent → IsNotThere outboard.entry fault) }
     ensures no_copy { IfErr result (λ fault. D.at disk.old copy.now ≡ Absent → IsNotThere copy.entry fault ⊎ (fault ≡ DecodeFault.File (FileFault.Read outboard.entry))) }
@@ -206,11 +208,20 @@ pub fn slice_beside_on<'a, D: Disk>(
     };
     let beside = origin_of(alloc, disk, outboard, &out, path)?;
     let plain = origin_of(alloc, disk, copy, &out, path)?;
-    let woven = match Woven::of(&beside, &plain) {
+    let woven = match Woven::of(&beside, &plain, start, len) {
         Ok(woven) => woven,
         Err(fault) => return Err(first_fault(fault, outboard)),
     };
-    let count = write_slice(alloc, mode, root, start, len, &woven, copy, &mut out, path)?;
+    let count = write_encoding(
+        alloc,
+        mode,
+        root,
+        &Part::Slice { start, len },
+        &woven,
+        copy,
+        &mut out,
+        path,
+    )?;
     disk.finish(out, path)?;
     Ok(count)
 }

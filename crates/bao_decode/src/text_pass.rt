@@ -11,9 +11,9 @@ ghost use Rattle.bao_decode.specs.Ranges.{first_decoded, first_written, last_wri
 ghost use Rattle.bao_decode.specs.TextPass.{IsWholeText, TextStops, StopsAs, task_of_part};
 
 use crate::copy_pass::{PassFault, fill_most};
+use crate::forward::Forward;
 use b3tree::{CHUNK_LEN, Hash, Mode, bytes_are};
 use bao_check::{CheckFault, Checking, Decoded};
-use bao_read::Source;
 use bao_text::{Choice, LENGTH_LEN, Part, claimed, write_text};
 use std::io::Write;
 
@@ -65,16 +65,16 @@ fn between(bytes: &[u8], at: u64, from: u64, to: u64) -> &[u8]
 }
 
 // Reads and verifies the length at the start of an encoding. Returns the check, which has taken it, and its bytes.
-pub(crate) fn begin<S: Source>(
+pub(crate) fn begin<F: Forward>(
     mode: &Mode,
     root: &Hash,
     part: &Part,
-    source: &S,
+    source: &F,
 ) -> Result<(Checking, [u8; LENGTH_LEN]), PassFault>
     ensures size { IfOk result (λ begun. length begun.1 ≡ 8) }
-    ensures given { IfOk result (λ begun. GivenAt (S.contents source.now) 0 begun.1) }
+    ensures given { IfOk result (λ begun. GivenAt (F.contents source.now) 0 begun.1) }
     ensures decodes { IfOk result (λ begun. HasDecodedAs begun.0 (task_of_part mode.now root.now.0 part.now) begun.1 []) }
-    ensures fault { IfErr result (λ fault. IfSome (S.contents source.now) (λ s. StopsAs (task_of_part mode.now root.now.0 part.now) (S.faultless source.now) s fault)) }
+    ensures fault { IfErr result (λ fault. IfSome (F.contents source.now) (λ s. StopsAs (task_of_part mode.now root.now.0 part.now) (F.faultless source.now) s fault)) }
 {
     let (start, len) = slice_of(part);
     let mut checking = Checking::of_slice(mode, root, start, len);
@@ -91,9 +91,9 @@ pub(crate) fn begin<S: Source>(
 
 // Reads the encoding's next block, from offset `at` on, verifies its complete nodes, and copies the bytes of their chunks to the
 // front of `room`. Returns `None` at the end of an accepted encoding.
-pub(crate) fn next_block<S: Source>(
+pub(crate) fn next_block<F: Forward>(
     checking: &mut Checking,
-    source: &S,
+    source: &F,
     at: u64,
     block: &mut [u8],
     room: &mut [u8],
@@ -102,13 +102,13 @@ pub(crate) fn next_block<S: Source>(
     requires room { length block.old ≤ length room.old }
     ensures sizes { (length block.new ≡ length block.old) × (length room.new ≡ length room.old) }
     ensures some { IfOk result (λ next. IfSome next (λ step. (1 ≤ step.taken) × (step.filled ≤ step.taken) × (step.filled ≤ length room.new) × (at + step.taken ≤ 2 ^ 63 + 2 ^ 32))) }
-    ensures step { (task : CheckTask) (taken blob : List ℕ) → HasDecodedAs checking.old task taken blob → at ≡ length taken
-        → IfOk result (λ next. IfSome next (λ step. (more : List ℕ) × (length more ≡ step.taken) × (more ≡ take step.taken block.new) × GivenAt (S.contents source.now) at more
+    ensures step { (task : CheckTask) (taken blob : List ℕ) → HasDecodedAs checking.old task taken blob → at ≡ length taken → GivenAt (F.contents source.now) 0 taken
+        → IfOk result (λ next. IfSome next (λ step. (more : List ℕ) × (length more ≡ step.taken) × (more ≡ take step.taken block.new) × GivenAt (F.contents source.now) at more
         × HasDecodedAs checking.new task (taken ++ more) (blob ++ take step.filled room.new))) }
     ensures last { (task : CheckTask) (taken blob : List ℕ) → HasDecodedAs checking.old task taken blob → at ≡ length taken
-        → IfOk result (λ next. next ≡ None → IsAcceptedAs task taken × (decoded taken task.start task.len ≡ blob) × IfSome (S.contents source.now) (λ s. length s ≤ at)) }
-    ensures fault { (task : CheckTask) (taken : List ℕ) → HasTakenAs checking.old task taken → at ≡ length taken → GivenAt (S.contents source.now) 0 taken
-        → IfErr result (λ fault. IfSome (S.contents source.now) (λ s. StopsAs task (S.faultless source.now) s fault)) }
+        → IfOk result (λ next. next ≡ None → IsAcceptedAs task taken × (decoded taken task.start task.len ≡ blob) × IfSome (F.contents source.now) (λ s. length s ≤ at) × (at ≤ 2 ^ 63)) }
+    ensures fault { (task : CheckTask) (taken : List ℕ) → HasTakenAs checking.old task taken → at ≡ length taken → GivenAt (F.contents source.now) 0 taken
+        → IfErr result (λ fault. IfSome (F.contents source.now) (λ s. StopsAs task (F.faultless source.now) s fault)) }
 {
     if at > LAST_PLACE {
         return Err(PassFault::Check(CheckFault::Memory));
@@ -131,19 +131,19 @@ pub(crate) fn next_block<S: Source>(
 /// Reads an encoding once, in blocks, and verifies it as that of this part of the blob with this root.
 ///
 /// Refuses with the encoding's first fault, or if a read fails.
-pub(crate) fn verify_pass<S: Source>(
+pub(crate) fn verify_pass<F: Forward>(
     mode: &Mode,
     root: &Hash,
     part: &Part,
-    source: &S,
+    source: &F,
     block: &mut [u8],
     room: &mut [u8],
 ) -> Result<(), PassFault>
     requires block { (1024 ≤ length block.old) × (length block.old ≤ 2 ^ 32) }
     requires room { length block.old ≤ length room.old }
     ensures sizes { (length block.new ≡ length block.old) × (length room.new ≡ length room.old) }
-    ensures ok { IfOk result (λ _. (text : List ℕ) × IsWholeText (S.contents source.now) mode.now root.now.0 part.now text) }
-    ensures err { IfErr result (λ fault. IfSome (S.contents source.now) (λ s. StopsAs (task_of_part mode.now root.now.0 part.now) (S.faultless source.now) s fault)) }
+    ensures ok { IfOk result (λ _. (text : List ℕ) × IsWholeText (F.contents source.now) mode.now root.now.0 part.now text) }
+    ensures err { IfErr result (λ fault. IfSome (F.contents source.now) (λ s. StopsAs (task_of_part mode.now root.now.0 part.now) (F.faultless source.now) s fault)) }
 {
     let (mut checking, header) = begin(mode, root, part, source)?;
     // A lemma for the proof, here and below: no code runs.
@@ -166,11 +166,11 @@ pub(crate) fn verify_pass<S: Source>(
 /// bytes of the part to `out` once it is verified, and returns how many bytes the part has.
 ///
 /// Refuses with the encoding's first fault, or if a read or a write fails; a beginning may have been written.
-pub(crate) fn text_pass<S: Source, W: Write>(
+pub(crate) fn text_pass<F: Forward, W: Write>(
     mode: &Mode,
     root: &Hash,
     part: &Part,
-    source: &S,
+    source: &F,
     block: &mut [u8],
     room: &mut [u8],
     out: &mut W,
@@ -178,10 +178,10 @@ pub(crate) fn text_pass<S: Source, W: Write>(
     requires block { (1024 ≤ length block.old) × (length block.old ≤ 2 ^ 32) }
     requires room { length block.old ≤ length room.old }
     ensures sizes { (length block.new ≡ length block.old) × (length room.new ≡ length room.old) }
-    ensures ok { IfOk result (λ count. (text : List ℕ) × IsWholeText (S.contents source.now) mode.now root.now.0 part.now text × (count ≡ written_count part.now text)
+    ensures ok { IfOk result (λ count. (text : List ℕ) × IsWholeText (F.contents source.now) mode.now root.now.0 part.now text × (count ≡ written_count part.now text)
         × Appends (W.contents out.old) (W.contents out.new) (part_bytes part.now text)) }
-    ensures err { IfErr result (λ fault. IfSome (S.contents source.now) (λ s.
-        TextStops (task_of_part mode.now root.now.0 part.now) (S.faultless source.now) part.now s (W.contents out.old) (W.contents out.new) fault)) }
+    ensures err { IfErr result (λ fault. IfSome (F.contents source.now) (λ s.
+        TextStops (task_of_part mode.now root.now.0 part.now) (F.faultless source.now) part.now s (W.contents out.old) (W.contents out.new) fault)) }
 {
     let (mut checking, header) = begin(mode, root, part, source)?;
     // A lemma for the proof, here and below: no code runs.

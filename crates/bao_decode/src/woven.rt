@@ -1,18 +1,18 @@
-// The combined encoding that consists of an outboard encoding and a plain copy, read by position.
+// The slice of an outboard encoding and a plain copy, read in order.
 
-ghost use Rattle.std.specs.Prelude.{◌≡◌, ◌+◌, ◌-◌, ◌*◌, ◌^◌, ◌<◌, ◌≤◌, ◌++◌, ℕ, List, true, length, if◌then◌else◌, IfErr, IfNone, IfOk, IfSome};
-ghost use Rattle.std.specs.List.{flat_map};
-ghost use Rattle.bao_text.specs.Choice.{chunk_count, of_combined};
-ghost use Rattle.bao_text.specs.Nodes.{Side, subtree_nodes, subtree_size};
+ghost use Rattle.std.specs.Prelude.{◌≡◌, ◌+◌, ◌-◌, ◌*◌, ◌^◌, ◌<◌, ◌≤◌, ◌++◌, ℕ, List, true, length, sum_by, if◌then◌else◌, IfErr, IfNone, IfOk, IfSome};
+ghost use Rattle.bao_text.specs.Choice.{chunk_count};
+ghost use Rattle.bao_text.specs.Nodes.{Side, TreeNode, size, subtree_nodes, subtree_size};
 ghost use Rattle.bao_decode.specs.CopyPass.{StopsShort};
-ghost use Rattle.bao_decode.specs.Cutting.{ClaimsLength, GoesOn};
-ghost use Rattle.bao_decode.specs.Weaving.{AreThere, are_whole, woven_node, woven_text};
+ghost use Rattle.bao_decode.specs.Cutting.{ClaimsLength};
+ghost use Rattle.bao_decode.specs.Weaving.{GoesOnWithin, woven_nodes, woven_text};
 
 use crate::copy_pass::PassFault;
 use crate::cut::{HEADER_LEN, NODE_LEN, claimed_length};
+use crate::forward::Forward;
 use b3tree::{CHUNK_LEN, left_len};
 use bao_read::Source;
-use bao_text::subtree_size;
+use bao_text::{Choice, subtree_size};
 use std::io;
 
 // `len` adjacent bytes of one of the two, from offset `at` on.
@@ -23,49 +23,62 @@ struct Stretch {
     len: u128,
 }
 
-// Finds byte `skip` of the subtree over `n` bytes from chunk `number` on, which begins at offset `at` of the combined encoding, with the bytes
-// of its node that follow. A parent's offset in the outboard encoding is smaller by the bytes of the chunks before it.
-fn place_of(number: u64, n: u64, at: u128, skip: u128) -> Option<Stretch>
+// Finds byte `skip` of the wanted nodes of a subtree, with the bytes of its node that follow. If they have fewer bytes, returns how many are left
+// to skip. The subtree is over `n` bytes from chunk `number` on, and begins at offset `at` of the combined encoding. A parent's offset in the
+// outboard encoding is smaller by the bytes of the chunks before it.
+fn place_of(choice: &Choice, number: u64, n: u64, at: u128, skip: u128) -> Result<Stretch, u128>
     requires range { 1024 * number + n ≤ 2 ^ 64 - 1 }
     requires room { at + subtree_size n < 2 ^ 128 }
     requires low { 1024 * number ≤ at }
     requires parents { at - 1024 * number + 64 * (chunk_count n - 1) < 2 ^ 64 }
-    ensures some { IfSome result (λ place. (total : ℕ) (outline copy : List ℕ) → AreThere total number n at outline copy → (sides : List Side) (rest : List ℕ)
-        → GoesOn (if place.is_in_copy then copy else outline) (flat_map (woven_node outline copy) (subtree_nodes (of_combined total) number n sides at) ++ rest) skip place.at place.len) }
-    ensures within { IfSome result (λ place. (0 < place.len) × (place.at < 2 ^ 64)) }
-    ensures none { IfNone result (subtree_size n ≤ skip) }
+    requires chunks { choice.now.chunks ≡ true }
+    ensures found { IfOk result (λ place. (outline copy : List ℕ) (sides : List Side) (rest : List TreeNode)
+        → GoesOnWithin (if place.is_in_copy then copy else outline) (woven_nodes outline copy (subtree_nodes choice.now number n sides at ++ rest)) skip place.at place.len) }
+    ensures within { IfOk result (λ place. (0 < place.len) × (place.at < 2 ^ 64)) }
+    ensures after { IfErr result (λ left. (sides : List Side) → skip ≡ left + sum_by size (subtree_nodes choice.now number n sides at)) }
 {
-    let first = u128::from(CHUNK_LEN as u64 * number);
+    let first = CHUNK_LEN as u64 * number;
+    if !choice.wants(first, n) {
+        return Err(skip);
+    }
+    let base = u128::from(first);
     if n <= CHUNK_LEN as u64 {
         let len = u128::from(n);
         if skip >= len {
-            return None;
+            return Err(skip - len);
         }
-        return Some(Stretch {
+        return Ok(Stretch {
             is_in_copy: true,
-            at: first + skip,
+            at: base + skip,
             len: len - skip,
         });
     }
+    if choice.covers(first, n) {
+        let size = subtree_size(n);
+        if skip >= size {
+            return Err(skip - size);
+        }
+    }
     if skip < NODE_LEN {
-        return Some(Stretch {
+        return Ok(Stretch {
             is_in_copy: false,
-            at: at - first + skip,
+            at: at - base + skip,
             len: NODE_LEN - skip,
         });
     }
     let left_len = left_len(n);
     let left_at = at + NODE_LEN;
-    let left_size = subtree_size(left_len);
-    let below = skip - NODE_LEN;
-    if below < left_size {
-        return place_of(number, left_len, left_at, below);
-    }
+    let near = place_of(choice, number, left_len, left_at, skip - NODE_LEN);
+    let Err(left) = near else {
+        return near;
+    };
     let middle = number + left_len / CHUNK_LEN as u64;
-    place_of(middle, n - left_len, left_at + left_size, below - left_size)
+    let right_at = left_at + subtree_size(left_len);
+    place_of(choice, middle, n - left_len, right_at, left)
 }
 
-/// The combined encoding that consists of an outboard encoding and a plain copy, neither of them checked, as a source.
+/// The slice (`start`, `len`) of the combined encoding that consists of an outboard encoding and a plain copy, neither of
+/// them checked. It ends at the first byte that its file lacks.
 ///
 /// A read returns bytes of one node. It takes no memory, and borrows both.
 #[derive(Drop)]
@@ -74,13 +87,20 @@ pub(crate) struct Woven<'a, S: Source> {
     copy: &'a S,
     // The length that the outboard encoding claims.
     total: u64,
+    start: u64,
+    len: u64,
 }
 
 impl<'a, S: Source> Woven<'a, S> {
-    /// Returns that encoding, and reads the length that the outboard encoding claims. Refuses with `Short` at 0 if that
+    /// Returns that slice, and reads the length that the outboard encoding claims. Refuses with `Short` at 0 if that
     /// encoding has fewer than 8 bytes, and if a read fails.
-    pub(crate) fn of(outboard: &'a S, copy: &'a S) -> Result<Woven<'a, S>, PassFault>
-        ensures same { IfOk result (λ woven. (woven.outboard.now ≡ outboard.now) × (woven.copy.now ≡ copy.now)) }
+    pub(crate) fn of(
+        outboard: &'a S,
+        copy: &'a S,
+        start: u64,
+        len: u64,
+    ) -> Result<Woven<'a, S>, PassFault>
+        ensures same { IfOk result (λ woven. (woven.outboard.now ≡ outboard.now) × (woven.copy.now ≡ copy.now) × (woven.start ≡ start) × (woven.len ≡ len)) }
         ensures claims { IfOk result (λ woven. ClaimsLength (S.contents outboard.now) woven.total) }
         ensures fault { IfErr result (λ fault. StopsShort (S.contents outboard.now) (S.faultless outboard.now) fault) }
     {
@@ -89,15 +109,17 @@ impl<'a, S: Source> Woven<'a, S> {
             outboard,
             copy,
             total,
+            start,
+            len,
         })
     }
 
-    // Finds the combined encoding's byte `at`, with the bytes of its node that follow, if the encoding has it.
+    // Finds the slice's byte `at`, with the bytes of its node that follow, if the slice has it.
     fn place_at(&self, at: u64) -> Option<Stretch>
-        ensures some { IfSome result (λ place. (outline copy : List ℕ) → are_whole self.now.total outline copy ≡ true
-            → GoesOn (if place.is_in_copy then copy else outline) (woven_text self.now.total outline copy) at place.at place.len) }
+        ensures some { IfSome result (λ place. (outline copy : List ℕ)
+            → GoesOnWithin (if place.is_in_copy then copy else outline) (woven_text self.now.total self.now.start self.now.len outline copy) at place.at place.len) }
         ensures within { IfSome result (λ place. (0 < place.len) × (place.at < 2 ^ 64)) }
-        ensures none { IfNone result ((outline copy : List ℕ) → are_whole self.now.total outline copy ≡ true → length (woven_text self.now.total outline copy) ≤ at) }
+        ensures none { IfNone result ((outline copy : List ℕ) → length (woven_text self.now.total self.now.start self.now.len outline copy) ≤ at) }
     {
         let at = u128::from(at);
         if at < HEADER_LEN {
@@ -107,18 +129,19 @@ impl<'a, S: Source> Woven<'a, S> {
                 len: HEADER_LEN - at,
             });
         }
-        place_of(0, self.total, HEADER_LEN, at - HEADER_LEN)
+        let choice = Choice::of_slice(self.total, self.start, self.len);
+        place_of(&choice, 0, self.total, HEADER_LEN, at - HEADER_LEN).ok()
     }
 }
 
-impl<S: Source> Source for Woven<'_, S> {
+impl<S: Source> Forward for Woven<'_, S> {
     ghost use Rattle.bao_decode.specs.Weaving.{woven_contents};
 
-    ghost contents = { λ woven. woven_contents woven.total (S.contents woven.outboard.now) (S.contents woven.copy.now) };
+    ghost contents = { λ woven. woven_contents woven.total woven.start woven.len (S.contents woven.outboard.now) (S.contents woven.copy.now) };
 
     ghost faultless = { λ woven. S.faultless woven.outboard.now × S.faultless woven.copy.now };
 
-    fn read_at(&self, buf: &mut [u8], at: u64) -> io::Result<usize> {
+    fn read_on(&self, buf: &mut [u8], at: u64) -> io::Result<usize> {
         let Some(place) = self.place_at(at) else {
             return Ok(0);
         };

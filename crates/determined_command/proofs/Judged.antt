@@ -5,10 +5,10 @@ use Rattle.std.proofs.lemmas.Option.{same_Some}
 use Rattle.b3tree.specs.declared.mode.Mode.{Mode}
 use Rattle.clap.specs.Words.{Text, subcommand_of}
 use Rattle.hex.specs.Hex.{decode_of}
-use Rattle.bao_text.specs.Cut.{claimed, cut_text}
+use Rattle.bao_text.specs.Cut.{cut_text}
 use Rattle.bao_decode.specs.Ranges.{IsPartText, part_bytes}
 use Rattle.bao_decode.specs.TextPass.{IsTextFault, task_of_part}
-use Rattle.bao_decode.specs.Weaving.{woven_text}
+use Rattle.bao_decode.specs.Weaving.{cut_beside}
 use Rattle.bao_decode.proofs.Cuttings.{cut_text-few}
 use Rattle.bao_files.specs.Disks.{AreOf, FileState, Absent, IsKnown, Stored, Unknown}
 use Rattle.bao_text.specs.declared.kinds.Part.{Part}
@@ -24,7 +24,6 @@ use Rattle.bao_command.specs.Tasks.{IsRight, PrintsLine}
 use Rattle.bao_tasks.specs.Replayed.{IsRefusedRun, IsRun, IsStoppedRun}
 use Rattle.determined_program.proofs.Tasks.{one_request}
 use Rattle.determined_program.specs.Requests.{SameRequest, SameTask}
-use Rattle.determined_tasks.proofs.Cuts.{woven_short}
 use Rattle.determined_tasks.proofs.Decoded.{IsFault as IsCopyFaultBeside, beside_apart}
 use Rattle.determined_tasks.proofs.Replays.{refused_accepted, run_accepted, run_stopped}
 use Rattle.determined_tasks.proofs.Reruns.{of_known}
@@ -65,14 +64,13 @@ module _ (at : List ℕ → FileState) (m : Mode) (sure : Type 0) (xs : List ℕ
       let no : Some outboard.now ≡ None = same.3 in cc
   judged (CutSlice root start len (Some outboard) file out) (CutSlice root' start' len' (Some outboard') file' out') same known judge right refused =
       let path : outboard.now ≡ outboard'.now = same_Some outboard.now outboard'.now same.3 in
-      let woven = woven_text (claimed known.0) known.0 known.1 in
-      let one : xs ≡ cut_text woven start len = beside_same at outboard.now file.now known.0 known.1 start len xs known.2 known.3 known.4 right.1 in
+      let one : xs ≡ cut_beside known.0 known.1 start len = beside_same at outboard.now file.now known.0 known.1 start len xs known.2 known.3 right.1 in
       let key : refused.0 ≡ right.0.0 = one_key root.now root'.now right.0.0 refused.0 same.0 right.0.1.0 refused.1.0 in
       let fault = refused.1.1.1 (subst (λ (p : List ℕ). IsKnown (at p)) same.5 judge.0) known.0 known.1 (subst (λ (p : List ℕ). at p ≡ Stored known.0) path known.2)
-      (subst (λ (p : List ℕ). at p ≡ Stored known.1) same.4 known.3) known.4 in
-      let also : HasFault (IsTextFault (task_of_part m right.0.0 (Slice start len)) (cut_text woven start len)) =
-      subst (λ (T : Type 0). T) (λ i. HasFault (IsTextFault (task_of_part m (key i) (Slice (sym same.1 i) (sym same.2 i))) (cut_text woven (sym same.1 i) (sym same.2 i)))) fault in
-      accepted_apart m right.0.0 (Slice start len) (cut_text woven start len) (woven_short known.0 known.1 start len known.4)
+      (subst (λ (p : List ℕ). at p ≡ Stored known.1) same.4 known.3) in
+      let also : HasFault (IsTextFault (task_of_part m right.0.0 (Slice start len)) (cut_beside known.0 known.1 start len)) =
+      subst (λ (T : Type 0). T) (λ i. HasFault (IsTextFault (task_of_part m (key i) (Slice (sym same.1 i) (sym same.2 i))) (cut_beside known.0 known.1 (sym same.1 i) (sym same.2 i)))) fault in
+      accepted_apart m right.0.0 (Slice start len) (cut_beside known.0 known.1 start len) known.4
       (subst (IsPartText m right.0.0 (Slice start len)) one right.0.1.1.0) also
   judged (Decode root part file out) (Decode root' part' file' out') same known judge right refused =
       let there : at file.now ≡ Stored xs = stored_there (at file.now) xs known right.1 in

@@ -1,6 +1,6 @@
 -- What two runs of one command line print and write, over the same known files.
 use Rattle.std.specs.Borrow.{Bor}
-use Rattle.std.proofs.Common.{◌≡◌, ◌++◌, ◌^◌, ◌<◌, ℕ, zero, suc, true, List, [], ◌∷◌, map, length, get_or, slice_get, Option, None, Some, Ok, IfSome, inl, inr, refl, ap, sym, subst, ◌∙◌}
+use Rattle.std.proofs.Common.{◌≡◌, ◌++◌, ◌^◌, ◌<◌, ℕ, zero, suc, List, [], ◌∷◌, map, length, get_or, slice_get, Option, None, Some, Ok, IfSome, inl, inr, refl, ap, sym, subst, ◌∙◌}
 use Rattle.std.specs.Option.{option_copied}
 use Rattle.std.proofs.lemmas.Option.{same_Some}
 use Rattle.std.specs.Io.KnownBytes.{Appends}
@@ -9,7 +9,7 @@ use Rattle.b3tree.specs.declared.values.Hash.{Hash as Root32}
 use Rattle.b3tree.specs.Hashing.{hash, stream}
 use Rattle.b3tree.specs.Modes.{keyed}
 use Rattle.clap.specs.Words.{Text, subcommand_of}
-use Rattle.bao_text.specs.Cut.{claimed, cut_text}
+use Rattle.bao_text.specs.Cut.{cut_text}
 use Rattle.bao_files.specs.Disks.{AreOf, FileState, IsKnown, Puts, Stored}
 use Rattle.bao_files.specs.Encoded.{encoding_text}
 use Rattle.bao_files.specs.Keys.{GivesKey}
@@ -17,7 +17,7 @@ use Rattle.bao_files.specs.Printed.{digits_line, ok_line}
 use Rattle.bao_text.specs.declared.kinds.Part.TheVariants.{Slice}
 use Rattle.bao_decode.specs.Cutting.{IsCutOf}
 use Rattle.bao_decode.specs.Ranges.{part_bytes}
-use Rattle.bao_decode.specs.Weaving.{IsCutBeside, are_whole, woven_text}
+use Rattle.bao_decode.specs.Weaving.{IsCutBeside, cut_beside}
 use Rattle.hex.specs.Hex.{decode_of}
 use Rattle.bao_tasks.specs.Replayed.{IsRun}
 use Rattle.bao_request.specs.CommandLine.{AsksFor, AsksForHelp, program_app}
@@ -107,14 +107,13 @@ module _ (at : List ℕ → FileState) where
       let all : cut.0 ≡ text = subst (λ (s : FileState). AreOf s cut.0) there cut.1 in
       subst (λ (t : List ℕ). xs ≡ cut_text t start len) all (cut.2 (subst (λ (t : List ℕ). length t < 2 ^ 64) (sym all) small))
 
-  -- or out of a known copy beside a known outboard encoding that are whole
+  -- or out of a known copy beside a known outboard encoding
   pub beside_same : (outboard copy outline bytes : List ℕ) (start len : ℕ) (xs : List ℕ) → at outboard ≡ Stored outline → at copy ≡ Stored bytes
-      → are_whole (claimed outline) outline bytes ≡ true → IsCutBeside (at outboard) (at copy) start len xs → xs ≡ cut_text (woven_text (claimed outline) outline bytes) start len
-  beside_same outboard copy outline bytes start len xs at_outboard at_copy whole cut =
+      → IsCutBeside (at outboard) (at copy) start len xs → xs ≡ cut_beside outline bytes start len
+  beside_same outboard copy outline bytes start len xs at_outboard at_copy cut =
       let o : cut.0 ≡ outline = subst (λ (s : FileState). AreOf s cut.0) at_outboard cut.2 in
       let c : cut.1 ≡ bytes = subst (λ (s : FileState). AreOf s cut.1) at_copy cut.3 in
-      let also : are_whole (claimed cut.0) cut.0 cut.1 ≡ true = (λ i. are_whole (claimed (o i)) (o i) (c i)) ∙ whole in
-      cut.4 (subst IsKnown (sym at_outboard) tt) (subst IsKnown (sym at_copy) tt) also ∙ (λ i. cut_text (woven_text (claimed (o i)) (o i) (c i)) start len)
+      cut.4 (subst IsKnown (sym at_outboard) tt) (subst IsKnown (sym at_copy) tt) ∙ (λ i. cut_beside (o i) (c i) start len)
 
   module _ (a b : List ℕ → FileState) (m : Mode) (xs ys : List ℕ) where
     -- what is put at OUT is one text, at one path
@@ -145,12 +144,12 @@ module _ (at : List ℕ → FileState) where
         let no : Some outboard.now ≡ None = same.3 in cc
     task_same (CutSlice root start len (Some outboard) file out) (CutSlice root' start' len' (Some outboard') file' out') same known ours theirs did also =
         let path : outboard.now ≡ outboard'.now = same_Some outboard.now outboard'.now same.3 in
-        let one : xs ≡ cut_text (woven_text (claimed known.0) known.0 known.1) start len =
-        beside_same outboard.now file.now known.0 known.1 start len xs known.2 known.3 known.4 ours.1 in
-        let other : ys ≡ cut_text (woven_text (claimed known.0) known.0 known.1) start' len' =
+        let one : xs ≡ cut_beside known.0 known.1 start len =
+        beside_same outboard.now file.now known.0 known.1 start len xs known.2 known.3 ours.1 in
+        let other : ys ≡ cut_beside known.0 known.1 start' len' =
         beside_same outboard'.now file'.now known.0 known.1 start' len' ys (subst (λ (p : List ℕ). at p ≡ Stored known.0) path known.2)
-        (subst (λ (p : List ℕ). at p ≡ Stored known.1) same.4 known.3) known.4 theirs.1 in
-        let bytes : xs ≡ ys = one ∙ (λ i. cut_text (woven_text (claimed known.0) known.0 known.1) (same.1 i) (same.2 i)) ∙ sym other in
+        (subst (λ (p : List ℕ). at p ≡ Stored known.1) same.4 known.3) theirs.1 in
+        let bytes : xs ≡ ys = one ∙ (λ i. cut_beside known.0 known.1 (same.1 i) (same.2 i)) ∙ sym other in
         (λ i. part_line (Slice (same.1 i) (same.2 i)) (bytes i), put_same out.now out'.now xs ys same.5 bytes did also)
     task_same (Decode root part file out) (Decode root' part' file' out') same known ours theirs did also =
         let bytes : xs ≡ ys = bytes_same file.now file'.now same.2 known ours.1 theirs.1 in

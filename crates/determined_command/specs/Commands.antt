@@ -1,5 +1,5 @@
 -- What two runs of one command line have in common.
-use Rattle.std.specs.Prelude.{◌≡◌, ◌≢◌, ◌⊎◌, ℕ, ◌^◌, ◌<◌, true, List, length, Option, None, Some, Ok, IfSome, IsSomeAnd}
+use Rattle.std.specs.Prelude.{◌≡◌, ◌≢◌, ◌⊎◌, ℕ, ◌^◌, ◌<◌, List, length, Option, None, Some, Ok, IfSome, IsSomeAnd}
 use Rattle.std.specs.Io.KnownBytes.{Appends}
 use Rattle.std.specs.Option.{option_copied}
 use Rattle.b3tree.specs.declared.mode.Mode.{Mode}
@@ -8,8 +8,7 @@ use Rattle.b3tree.specs.Valid.{AreBytes}
 use Rattle.clap.specs.Words.{Text}
 use Rattle.bao_check.specs.Accepted.{IsAccepted, outboard_nodes}
 use Rattle.hex.specs.Hex.{decode_of}
-use Rattle.bao_text.specs.Cut.{claimed}
-use Rattle.bao_decode.specs.Weaving.{are_whole}
+use Rattle.bao_decode.specs.Weaving.{cut_beside}
 use Rattle.bao_files.specs.Disks.{Absent, FileState, IsKnown, Stored}
 use Rattle.gather.specs.Large.{fixed_as}
 use Rattle.store_core.specs.Laws.{IsBlob}
@@ -32,14 +31,14 @@ abbrev pub BothKeep : Option (List ℕ) → Option (List ℕ) → Option (List �
 BothKeep None one other = Unit {0}
 BothKeep (Some all) one other = (one ≡ Some all) × (other ≡ Some all)
 
--- It is known of which bytes the task's line is: of a file that is hashed, encoded, decoded or cut out of, or of an outboard encoding and a copy that
--- have all bytes of the length that the one claims, or of a schedule and all files of its pieces. A blob that is gathered is only known by its hash.
+-- It is known of which bytes the task's line is: of a file that is hashed, encoded, decoded or cut out of, or of an outboard encoding and a copy whose
+-- slice isn't longer than any file, or of a schedule and all files of its pieces. A blob that is gathered is only known by its hash.
 abbrev pub IsOfKnown : (List ℕ → FileState) → Task → Type 0
 IsOfKnown at (Hash from count file) = IsKnown (at file.now)
 IsOfKnown at (Encode encoding file out) = IsKnown (at file.now)
 IsOfKnown at (CutSlice root start len None file out) = (text : List ℕ) × (at file.now ≡ Stored text) × (length text < 2 ^ 64)
 IsOfKnown at (CutSlice root start len (Some outboard) file out) =
-    (outline : List ℕ) × (bytes : List ℕ) × (at outboard.now ≡ Stored outline) × (at file.now ≡ Stored bytes) × (are_whole (claimed outline) outline bytes ≡ true)
+    (outline : List ℕ) × (bytes : List ℕ) × (at outboard.now ≡ Stored outline) × (at file.now ≡ Stored bytes) × (length (cut_beside outline bytes start len) < 2 ^ 63)
 IsOfKnown at (Decode root part file out) = IsKnown (at file.now)
 IsOfKnown at (DecodeCopy root outboard copy out) = IsKnown (at copy.now)
 IsOfKnown at (Gather root workers capacity long outboard salvage encode missing files out) = ⊥

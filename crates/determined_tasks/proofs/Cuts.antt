@@ -1,14 +1,11 @@
 -- Slices that are cut out of known files.
-use Rattle.std.proofs.Common.{◌≡◌, ◌^◌, ◌<◌, ℕ, List, length, true, Some, Result, Ok, Err, IfErr, IfOk, OnOk, inl, inr, sym, ap, subst, ◌∙◌, arith}
+use Rattle.std.proofs.Common.{◌≡◌, ◌^◌, ◌<◌, ℕ, List, length, Some, Result, Ok, Err, IfErr, IfOk, OnOk, inl, inr, sym, ap, subst, ◌∙◌}
 use Rattle.std.specs.Borrow.{Bor}
 use Rattle.b3tree.specs.declared.mode.Mode.{Mode}
-use Rattle.bao_text.specs.Cut.{claimed, cut_text}
 use Rattle.bao_decode.specs.Ranges.{IsPartText, written_count}
-use Rattle.bao_decode.specs.Weaving.{CutBesideStops, are_whole, woven_text}
+use Rattle.bao_decode.specs.Weaving.{CutBesideStops, cut_beside}
 use Rattle.bao_decode.specs.declared.decode_fault.DecodeFault.{DecodeFault}
 use Rattle.bao_decode.specs.declared.decode_fault.DecodeFault.TheVariants.{File}
-use Rattle.bao_decode.proofs.Cuttings.{cut_text-few}
-use Rattle.bao_decode.proofs.Weavings.{whole_fits, woven_len}
 use Rattle.bao_files.specs.Disks.{FileState, Puts}
 use Rattle.bao_files.specs.declared.fault.FileFault.TheVariants as file
 use Rattle.bao_text.specs.declared.kinds.Part.{Part}
@@ -17,12 +14,6 @@ use Rattle.determined_files.proofs.OnDisks.{puts_same}
 use Rattle.determined_files.specs.Agreeing.{AgreeUnless, SameWhereKnown}
 use Rattle.determined_tasks.specs.Copies.{MayComeBeside, MayComeOfCopy}
 use Rattle.determined_tasks.proofs.Decoded.{decodes_agree}
-
--- it isn't longer than any file
-pub woven_short : (outline bytes : List ℕ) (start len : ℕ) → are_whole (claimed outline) outline bytes ≡ true
-    → length (cut_text (woven_text (claimed outline) outline bytes) start len) < 2 ^ 63
-woven_short outline bytes start len whole =
-    omega (arith, cut_text-few (woven_text (claimed outline) outline bytes) start len, woven_len (claimed outline) outline bytes whole, whole_fits (claimed outline) outline bytes whole)
 
 -- an accepted slice, and how many bytes it has, of the text that was cut out
 pub part_is : (mode : Mode) (root : List ℕ) (part : Part) (xs cut : List ℕ) (m : ℕ) → xs ≡ cut → IsPartText mode root part xs → m ≡ written_count part xs
@@ -38,9 +29,9 @@ both_cut a b one other same path cut (Ok x) (Ok y) p q =
 both_cut a b one other same path cut (Ok x) (Err f) p q = tt
 both_cut a b one other same path cut (Err e) s p q = tt
 
-module _ (mode : Mode) (root : List ℕ) (start len : ℕ) (outline bytes : List ℕ) (whole : are_whole (claimed outline) outline bytes ≡ true) (outboard copy path : Bor (List ℕ)) where
+module _ (mode : Mode) (root : List ℕ) (start len : ℕ) (outline bytes : List ℕ) (short : length (cut_beside outline bytes start len) < 2 ^ 63) (outboard copy path : Bor (List ℕ)) where
   abbrev woven : List ℕ
-  woven = cut_text (woven_text (claimed outline) outline bytes) start len
+  woven = cut_beside outline bytes start len
 
   abbrev Good : Type 0
   Good = IsPartText mode root (Slice start len) woven
@@ -84,10 +75,10 @@ module _ (mode : Mode) (root : List ℕ) (start len : ℕ) (outline bytes : List
   slices_beside_agree faultless also_faultless (Ok m) (Err f) p p' q (inl read) = theirs_first faultless also_faultless (Ok m) f read
   slices_beside_agree faultless also_faultless (Err e) (Err f) p (inr h) q (inl read) = theirs_first faultless also_faultless (Err e) f read
   slices_beside_agree faultless also_faultless (Ok m) (Ok n) p p' q q' =
-      wider faultless also_faultless (Ok m) (Ok n) (decodes_agree mode root (Slice start len) woven (woven_short outline bytes start len whole) faultless also_faultless copy path (Ok m) (Ok n) p tt q tt)
+      wider faultless also_faultless (Ok m) (Ok n) (decodes_agree mode root (Slice start len) woven short faultless also_faultless copy path (Ok m) (Ok n) p tt q tt)
   slices_beside_agree faultless also_faultless (Ok m) (Err f) p p' q (inr k) =
-      wider faultless also_faultless (Ok m) (Err f) (decodes_agree mode root (Slice start len) woven (woven_short outline bytes start len whole) faultless also_faultless copy path (Ok m) (Err f) p tt tt k)
+      wider faultless also_faultless (Ok m) (Err f) (decodes_agree mode root (Slice start len) woven short faultless also_faultless copy path (Ok m) (Err f) p tt tt k)
   slices_beside_agree faultless also_faultless (Err e) (Ok n) p (inr h) q q' =
-      wider faultless also_faultless (Err e) (Ok n) (decodes_agree mode root (Slice start len) woven (woven_short outline bytes start len whole) faultless also_faultless copy path (Err e) (Ok n) tt h q tt)
+      wider faultless also_faultless (Err e) (Ok n) (decodes_agree mode root (Slice start len) woven short faultless also_faultless copy path (Err e) (Ok n) tt h q tt)
   slices_beside_agree faultless also_faultless (Err e) (Err f) p (inr h) q (inr k) =
-      wider faultless also_faultless (Err e) (Err f) (decodes_agree mode root (Slice start len) woven (woven_short outline bytes start len whole) faultless also_faultless copy path (Err e) (Err f) tt h tt k)
+      wider faultless also_faultless (Err e) (Err f) (decodes_agree mode root (Slice start len) woven short faultless also_faultless copy path (Err e) (Err f) tt h tt k)

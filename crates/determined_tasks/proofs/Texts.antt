@@ -35,14 +35,13 @@ module _ (what : List ℕ → List ℕ) (mode : Mode) (root : List ℕ) (part : 
   one x y (inr h) k = absurd (omega (arith, h.1, low))
   one x y (inl h) (inr k) = absurd (omega (arith, k.1, low))
 
-  -- no read of so short an encoding has to fail
+  -- what a pass over it leaves
   comes : (faultless : Type 0) (file path : Bor (List ℕ)) (old new : Option (List ℕ)) (r : Result ℕ DecodeFault) → WritesKnown what mode root part faultless text file path old new r
       → Comes Good IsFault (written_count part text) (what text) apart one faultless file path old new r
   comes faultless file path old new (Ok count) h = (h.0.0, h.1, h.2)
   comes faultless file path old new (Err (Check fault)) h = h
   comes faultless file path old new (Err (File fault)) (inl h) = inl h
-  comes faultless file path old new (Err (File fault)) (inr (inl (is, inl fails, began))) = inr (inl (is, fails, began))
-  comes faultless file path old new (Err (File fault)) (inr (inl (is, inr long, began))) = absurd (omega (arith, long, low))
+  comes faultless file path old new (Err (File fault)) (inr (inl h)) = inr (inl h)
   comes faultless file path old new (Err (File fault)) (inr (inr h)) = inr (inr h)
 
   pub text_answers : (faultless also_faultless : Type 0) (file path : Bor (List ℕ)) (old also a b : Option (List ℕ)) (r s : Result ℕ DecodeFault)

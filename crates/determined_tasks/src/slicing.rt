@@ -1,12 +1,12 @@
 // Slices that are cut out of files, and verified.
 
-ghost use Rattle.std.specs.Prelude.{◌≡◌, ◌^◌, ◌<◌, ℕ, List, length, OnErr, OnOk, true};
+ghost use Rattle.std.specs.Prelude.{◌≡◌, ◌^◌, ◌<◌, ℕ, List, length, OnErr, OnOk};
 ghost use Rattle.bao_decode.specs.Ranges.{IsPartText};
-ghost use Rattle.bao_decode.specs.Weaving.{are_whole, woven_text};
+ghost use Rattle.bao_decode.specs.Weaving.{cut_beside};
 ghost use Rattle.bao_decode.specs.declared.decode_fault.DecodeFault.TheVariants as DecodeFault;
 ghost use Rattle.bao_files.specs.Disks.{Absent, IsKnown, Stored};
 ghost use Rattle.bao_files.specs.declared.fault.FileFault.TheVariants as FileFault;
-ghost use Rattle.bao_text.specs.Cut.{claimed, cut_text};
+ghost use Rattle.bao_text.specs.Cut.{cut_text};
 ghost use Rattle.bao_text.specs.declared.kinds.Part.TheVariants as Part;
 ghost use Rattle.determined_files.specs.Agreeing.{AgreeUnless, SameWhereKnown};
 ghost use Rattle.determined_tasks.specs.Copies.{MayComeBeside, MayComeOfCopy};
@@ -44,7 +44,7 @@ pub fn slice_on_determined<'a, D: Disk, E: Disk>(
     )
 }
 
-// The same for a plain copy beside an outboard encoding, if the two have all bytes of the length that the encoding claims.
+// The same for a plain copy beside an outboard encoding, if the slice isn't longer than any file.
 pub fn slice_beside_on_determined<'a, D: Disk, E: Disk>(
     alloc: Global,
     ours: &mut D,
@@ -59,12 +59,12 @@ pub fn slice_beside_on_determined<'a, D: Disk, E: Disk>(
 ) -> (Result<u64, DecodeFault<'a>>, Result<u64, DecodeFault<'a>>)
     requires { (at : List ℕ) → D.at ours.old at ≡ E.at theirs.old at }
     ensures answer { IsKnown (D.at ours.old path.now) → (outline bytes : List ℕ) → D.at ours.old outboard.now ≡ Stored outline → D.at ours.old copy.now ≡ Stored bytes
-        → are_whole (claimed outline) outline bytes ≡ true → AgreeUnless (λ m n. m ≡ n) (MayComeBeside (IsPartText mode.now root.now.0 (Part.Slice start len) (cut_text (woven_text (claimed outline) outline bytes) start len)) (D.faultless ours.old) outboard.entry copy.entry path.entry)
-        (MayComeBeside (IsPartText mode.now root.now.0 (Part.Slice start len) (cut_text (woven_text (claimed outline) outline bytes) start len)) (E.faultless theirs.old) outboard.entry copy.entry path.entry) result.0 result.1 }
+        → length (cut_beside outline bytes start len) < 2 ^ 63 → AgreeUnless (λ m n. m ≡ n) (MayComeBeside (IsPartText mode.now root.now.0 (Part.Slice start len) (cut_beside outline bytes start len)) (D.faultless ours.old) outboard.entry copy.entry path.entry)
+        (MayComeBeside (IsPartText mode.now root.now.0 (Part.Slice start len) (cut_beside outline bytes start len)) (E.faultless theirs.old) outboard.entry copy.entry path.entry) result.0 result.1 }
     ensures absent { D.at ours.old outboard.now ≡ Absent
         → AgreeUnless (λ _ _. ⊥) (λ fault. fault ≡ DecodeFault.File FileFault.Memory) (λ fault. fault ≡ DecodeFault.File FileFault.Memory) result.0 result.1 }
     ensures put { (outline bytes : List ℕ) → D.at ours.old outboard.now ≡ Stored outline → D.at ours.old copy.now ≡ Stored bytes
-        → are_whole (claimed outline) outline bytes ≡ true → OnOk result.0 (OnOk result.1 (SameWhereKnown (D.at ours.old) (D.at ours.new) (E.at theirs.new))) }
+        → OnOk result.0 (OnOk result.1 (SameWhereKnown (D.at ours.old) (D.at ours.new) (E.at theirs.new))) }
     ensures kept { OnErr result.0 (OnErr result.1 (SameWhereKnown (D.at ours.old) (D.at ours.new) (E.at theirs.new))) }
 {
     (

@@ -1,10 +1,9 @@
-use Rattle.std.proofs.Common.{◌≡◌, ◌⊎◌, ◌∙◌, ◌^◌, ◌<◌, ℕ, List, length, true, None, Some, Result, Ok, Err, IfErr, inl, inr, ap, sym}
+use Rattle.std.proofs.Common.{◌≡◌, ◌⊎◌, ◌∙◌, ◌^◌, ◌<◌, ℕ, List, length, None, Some, Result, Ok, Err, IfErr, inl, inr, ap, sym}
 use Rattle.std.specs.Borrow.{Bor}
 use Rattle.b3tree.specs.declared.mode.Mode.{Mode}
-use Rattle.bao_text.specs.Cut.{claimed}
 use Rattle.bao_decode.specs.Opened.{IsNotThere}
 use Rattle.bao_decode.specs.TextPass.{DecodeStops}
-use Rattle.bao_decode.specs.Weaving.{CutBesideStops, are_whole}
+use Rattle.bao_decode.specs.Weaving.{CutBesideStops}
 use Rattle.bao_decode.specs.declared.decode_fault.DecodeFault.{DecodeFault}
 use Rattle.bao_files.specs.Disks.{Absent, FileState, IsKnown, Stored}
 use Rattle.bao_text.specs.declared.kinds.Part.TheVariants.{Slice}
@@ -31,14 +30,13 @@ module _ (at : List ℕ → FileState) (mode : Mode) (key : List ℕ) (start len
 
   cut_beside_refused : (outboard : Bor (List ℕ)) (result : Result ℕ DecodeFault) → IfErr result (λ fault. at outboard.now ≡ Absent → IsNotThere outboard fault)
       → IfErr result (λ fault. at file.now ≡ Absent → IsNotThere file fault ⊎ (fault ≡ decode.File (files.Read outboard)))
-      → IfErr result (λ fault. IsKnown (at path.now) → (outline bytes : List ℕ) → at outboard.now ≡ Stored outline → at file.now ≡ Stored bytes → are_whole (claimed outline) outline bytes ≡ true
+      → IfErr result (λ fault. IsKnown (at path.now) → (outline bytes : List ℕ) → at outboard.now ≡ Stored outline → at file.now ≡ Stored bytes
       → CutBesideStops mode key start len faultless outline bytes outboard file path fault)
       → IfErr result (λ fault. decode_status_of fault ≡ 1 → IsRefusedCut at mode start len (Some outboard) file.now path.now key)
   cut_beside_refused outboard (Ok count) absent no_copy stops = tt
   cut_beside_refused outboard (Err fault) absent no_copy stops = λ is. (
     is_there (at outboard.now) outboard fault is absent,
-    λ known outline bytes there also whole.
-        beside_refused mode key faultless start len outline bytes outboard file path fault is (stops known outline bytes there also whole),
+    λ known outline bytes there also. beside_refused mode key faultless start len outline bytes outboard file path fault is (stops known outline bytes there also),
     λ none. elim (no_copy none) [
       | inl lacks ↦ not_there file fault is lacks
       | inr read ↦ file_refuses_none (files.Read outboard) (ap decode_status_of (sym read) ∙ is)

@@ -1,4 +1,4 @@
-use Rattle.std.proofs.Common.{◌≡◌, ◌+◌, ◌*◌, ℕ, List, ◌++◌, length, take, drop, refl, sym, ap, subst, ◌∙◌, arith, rules}
+use Rattle.std.proofs.Common.{◌≡◌, ◌+◌, ◌*◌, ℕ, List, ◌++◌, length, take, drop, inl, refl, sym, ap, subst, ◌∙◌, arith, rules}
 use Rattle.std.proofs.lemmas.List.{length-take-le, take-append-le}
 use Rattle.bao_check.specs.Outline.{outline_claimed}
 use Rattle.bao_read.specs.Given.{GivenAt}
@@ -22,7 +22,7 @@ returns-in-Ok-clause-piece g c =
     record {
       are = are;
       each = c.bytes_are.ensures;
-      given = subst (GivenAt contents (1024 * c.args.first)) (sym same) c.in_ok-len.ensures.given;
+      given = subst (GivenAt contents (1024 * c.args.first)) (sym same) (c.in_ok-len.ensures.given (inl tt));
       ends = λ last.
           ends_known contents (1024 * c.args.first + len) total (omega (arith, part_len, are.ends, last, c.requires.chunks.0))
           (c.in_ok-len.ensures.end (omega (arith, size, part_len, are.ends, c.asked_len-room.ensures.last (last ∙ ap chunk_count (sym c.claimed-total.ensures)))));
@@ -47,6 +47,6 @@ returns-in-Err-clause-fault g c =
     (λ last. c.asked_len-room.ensures.last (last ∙ ap chunk_count (sym claims)) ∙ omega (arith, claims))
     (λ less. c.asked_len-room.ensures.other (omega (arith, less, claims)) ∙ omega (arith, claims))
     (omega (arith, part_len, size, c.in_ok-len.ensures.bound))
-    (subst (GivenAt contents (1024 * c.args.first)) (sym same) c.in_ok-len.ensures.given)
+    (subst (GivenAt contents (1024 * c.args.first)) (sym same) (c.in_ok-len.ensures.given (inl tt)))
     (λ less. ends_known contents (1024 * c.args.first + len) (1024 * c.args.first + length part) (omega (arith, part_len)) (c.in_ok-len.ensures.end (omega (arith, less, part_len, size))))
     c.in-Err.ensures.fault

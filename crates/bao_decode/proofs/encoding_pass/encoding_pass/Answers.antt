@@ -15,8 +15,8 @@ use Rattle.bao_decode.proofs.encoding_pass.encoding_pass.Goals as goal
 
 pub returns-in_err-taken-clause-err : goal.returns-in_err-taken-clause-err
 returns-in_err-taken-clause-err g c =
-    let contents = g.S.Source.contents c.args.source.now in
-    let faultless = g.S.Source.faultless c.args.source.now in
+    let contents = g.F.Forward.contents c.args.source.now in
+    let faultless = g.F.Forward.faultless c.args.source.now in
     let task = task_of_part c.args.mode.now c.args.root.now.0 c.args.part.now in
     let old = g.W.Write.contents c.args.out.now in
     let new = g.W.Write.contents c.blocks-2.out in
@@ -30,33 +30,33 @@ returns-in_err-taken-clause-err g c =
 
 pub slice_bounds-write_text-end-in-Some : goal.slice_bounds-write_text-end-in-Some
 slice_bounds-write_text-end-in-Some g c =
-    let contents = g.S.Source.contents c.args.source.now in
+    let contents = g.F.Forward.contents c.args.source.now in
     let task = task_of_part c.args.mode.now c.args.root.now.0 c.args.part.now in
     let copied = c.blocks-2.invariant.copied in
     let Step : Decoded → Type 0 = λ step. (more : List ℕ) × (length more ≡ step.taken) × (more ≡ take step.taken c.next_block.new.block) × GivenAt contents c.blocks-2.at more
     × HasDecodedAs c.next_block.new.checking task (copied.0 ++ more) (copied.1 ++ take step.filled c.next_block.new.room) in
-    let next : Step c.in-Some.field-0 = some_of c.in_ok-taken.field-0 c.in-Some.field-0 Step c.in-Some.is (c.in_ok-taken.ensures.step task copied.0 copied.1 copied.2.decodes copied.2.at_is) in
+    let next : Step c.in-Some.field-0 = some_of c.in_ok-taken.field-0 c.in-Some.field-0 Step c.in-Some.is (c.in_ok-taken.ensures.step task copied.0 copied.1 copied.2.decodes copied.2.at_is copied.2.given) in
     omega (arith, sym next.1 ∙ ap length next.2 ∙ length-take c.in-Some.field-0.taken c.next_block.new.block)
 
 pub slice_bounds-write_text-end-in-Some-2 : goal.slice_bounds-write_text-end-in-Some-2
 slice_bounds-write_text-end-in-Some-2 g c =
-    let contents = g.S.Source.contents c.args.source.now in
+    let contents = g.F.Forward.contents c.args.source.now in
     let task = task_of_part c.args.mode.now c.args.root.now.0 c.args.part.now in
     let copied = c.blocks-2.invariant.copied in
     let Step : Decoded → Type 0 = λ step. (more : List ℕ) × (length more ≡ step.taken) × (more ≡ take step.taken c.next_block.new.block) × GivenAt contents c.blocks-2.at more
     × HasDecodedAs c.next_block.new.checking task (copied.0 ++ more) (copied.1 ++ take step.filled c.next_block.new.room) in
-    let next : Step c.in-Some.field-0 = some_of c.in_ok-taken.field-0 c.in-Some.field-0 Step c.in-Some.is (c.in_ok-taken.ensures.step task copied.0 copied.1 copied.2.decodes copied.2.at_is) in
+    let next : Step c.in-Some.field-0 = some_of c.in_ok-taken.field-0 c.in-Some.field-0 Step c.in-Some.is (c.in_ok-taken.ensures.step task copied.0 copied.1 copied.2.decodes copied.2.at_is copied.2.given) in
     sym next.1 ∙ ap length next.2
 
 pub returns-in-Err-write_text-clause-err : goal.returns-in-Err-write_text-clause-err
 returns-in-Err-write_text-clause-err g c =
-    let contents = g.S.Source.contents c.args.source.now in
-    let faultless = g.S.Source.faultless c.args.source.now in
+    let contents = g.F.Forward.contents c.args.source.now in
+    let faultless = g.F.Forward.faultless c.args.source.now in
     let task = task_of_part c.args.mode.now c.args.root.now.0 c.args.part.now in
     let copied = c.blocks-2.invariant.copied in
     let Step : Decoded → Type 0 = λ step. (more : List ℕ) × (length more ≡ step.taken) × (more ≡ take step.taken c.next_block.new.block) × GivenAt contents c.blocks-2.at more
     × HasDecodedAs c.next_block.new.checking task (copied.0 ++ more) (copied.1 ++ take step.filled c.next_block.new.room) in
-    let next : Step c.in-Some.field-0 = some_of c.in_ok-taken.field-0 c.in-Some.field-0 Step c.in-Some.is (c.in_ok-taken.ensures.step task copied.0 copied.1 copied.2.decodes copied.2.at_is) in
+    let next : Step c.in-Some.field-0 = some_of c.in_ok-taken.field-0 c.in-Some.field-0 Step c.in-Some.is (c.in_ok-taken.ensures.step task copied.0 copied.1 copied.2.decodes copied.2.at_is copied.2.given) in
     let old = g.W.Write.contents c.args.out.now in
     let mid = g.W.Write.contents c.blocks-2.out in
     let new = g.W.Write.contents c.write_text-in-Some.new.out in
@@ -65,14 +65,14 @@ returns-in-Err-write_text-clause-err g c =
 
 pub blocks-2-preserved : goal.blocks-2-preserved
 blocks-2-preserved g c =
-    let contents = g.S.Source.contents c.args.source.now in
+    let contents = g.F.Forward.contents c.args.source.now in
     let task = task_of_part c.args.mode.now c.args.root.now.0 c.args.part.now in
     let copied = c.blocks-2.invariant.copied in
     let Some_ : Decoded → Type 0 = λ step. (1 ≤ step.taken) × (step.filled ≤ step.taken) × (step.filled ≤ length c.next_block.new.room) × (c.blocks-2.at + step.taken ≤ 2 ^ 63 + 2 ^ 32) in
     let some : Some_ c.in-Some.field-0 = some_of c.in_ok-taken.field-0 c.in-Some.field-0 Some_ c.in-Some.is c.in_ok-taken.ensures.some in
     let Step : Decoded → Type 0 = λ step. (more : List ℕ) × (length more ≡ step.taken) × (more ≡ take step.taken c.next_block.new.block) × GivenAt contents c.blocks-2.at more
     × HasDecodedAs c.next_block.new.checking task (copied.0 ++ more) (copied.1 ++ take step.filled c.next_block.new.room) in
-    let next : Step c.in-Some.field-0 = some_of c.in_ok-taken.field-0 c.in-Some.field-0 Step c.in-Some.is (c.in_ok-taken.ensures.step task copied.0 copied.1 copied.2.decodes copied.2.at_is) in
+    let next : Step c.in-Some.field-0 = some_of c.in_ok-taken.field-0 c.in-Some.field-0 Step c.in-Some.is (c.in_ok-taken.ensures.step task copied.0 copied.1 copied.2.decodes copied.2.at_is copied.2.given) in
     let piece : List ℕ = take c.in-Some.field-0.filled c.next_block.new.room in
     let old = g.W.Write.contents c.args.out.now in
     let mid = g.W.Write.contents c.blocks-2.out in
@@ -92,9 +92,9 @@ blocks-2-preserved g c =
 
 pub returns-clause-ok : goal.returns-clause-ok
 returns-clause-ok g c =
-    let contents = g.S.Source.contents c.args.source.now in
+    let contents = g.F.Forward.contents c.args.source.now in
     let task = task_of_part c.args.mode.now c.args.root.now.0 c.args.part.now in
     let copied = c.blocks-2.invariant.copied in
     let last = c.in_ok-taken.ensures.last task copied.0 copied.1 copied.2.decodes copied.2.at_is c.in_default.is in
     copied_all c.args.mode.now c.args.root.now.0 c.args.part.now contents c.written_of-first.result.0 c.written_of-first.result.1 c.blocks-2.checking c.blocks-2.at
-    (g.W.Write.contents c.args.out.now) (g.W.Write.contents c.blocks-2.out) copied.0 copied.1 copied.2 last.0 last.2
+    (g.W.Write.contents c.args.out.now) (g.W.Write.contents c.blocks-2.out) copied.0 copied.1 copied.2 last.0 last.2 last.3

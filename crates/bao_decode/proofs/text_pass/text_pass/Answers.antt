@@ -25,15 +25,15 @@ blocks-2-init g c =
       begun = (
         header,
         [],
-        begun_none c.args.mode.now c.args.root.now.0 c.args.part.now (g.S.Source.contents c.args.source.now) c.claimed-total.result c.in_ok-checking.checking (g.W.Write.contents c.args.out.now)
+        begun_none c.args.mode.now c.args.root.now.0 c.args.part.now (g.F.Forward.contents c.args.source.now) c.claimed-total.result c.in_ok-checking.checking (g.W.Write.contents c.args.out.now)
             header c.in_ok-checking.ensures.size c.bytes_are.ensures c.in_ok-checking.ensures.given c.in_ok-checking.ensures.decodes c.claimed-total.ensures,
       );
     }
 
 pub returns-in_err-checking-clause-err : goal.returns-in_err-checking-clause-err
 returns-in_err-checking-clause-err g c =
-    let contents = g.S.Source.contents c.args.source.now in
-    let faultless = g.S.Source.faultless c.args.source.now in
+    let contents = g.F.Forward.contents c.args.source.now in
+    let faultless = g.F.Forward.faultless c.args.source.now in
     let task = task_of_part c.args.mode.now c.args.root.now.0 c.args.part.now in
     let old = g.W.Write.contents c.args.out.now in
     let fault = c.in_err-checking.field-0.0 in
@@ -44,8 +44,8 @@ returns-in_err-checking-clause-err g c =
 
 pub returns-in_err-taken-clause-err : goal.returns-in_err-taken-clause-err
 returns-in_err-taken-clause-err g c =
-    let contents = g.S.Source.contents c.args.source.now in
-    let faultless = g.S.Source.faultless c.args.source.now in
+    let contents = g.F.Forward.contents c.args.source.now in
+    let faultless = g.F.Forward.faultless c.args.source.now in
     let task = task_of_part c.args.mode.now c.args.root.now.0 c.args.part.now in
     let old = g.W.Write.contents c.args.out.now in
     let new = g.W.Write.contents c.blocks-2.out in
@@ -59,7 +59,7 @@ returns-in_err-taken-clause-err g c =
 
 pub returns-in-Err-clause-err : goal.returns-in-Err-clause-err
 returns-in-Err-clause-err g c =
-    let contents = g.S.Source.contents c.args.source.now in
+    let contents = g.F.Forward.contents c.args.source.now in
     let part = c.args.part.now in
     let total : ℕ = c.claimed-total.result in
     let task = task_of_part c.args.mode.now c.args.root.now.0 part in
@@ -70,7 +70,7 @@ returns-in-Err-clause-err g c =
     let some : Some_ c.in-Some.field-0 = some_of c.in_ok-taken.field-0 c.in-Some.field-0 Some_ c.in-Some.is c.in_ok-taken.ensures.some in
     let Step : Decoded → Type 0 = λ step. (more : List ℕ) × (length more ≡ step.taken) × (more ≡ take step.taken c.next_block.new.block) × GivenAt contents c.blocks-2.at more
     × HasDecodedAs c.next_block.new.checking task (begun.0 ++ more) (begun.1 ++ take step.filled c.next_block.new.room) in
-    let next : Step c.in-Some.field-0 = some_of c.in_ok-taken.field-0 c.in-Some.field-0 Step c.in-Some.is (c.in_ok-taken.ensures.step task begun.0 begun.1 begun.2.decodes begun.2.at_is) in
+    let next : Step c.in-Some.field-0 = some_of c.in_ok-taken.field-0 c.in-Some.field-0 Step c.in-Some.is (c.in_ok-taken.ensures.step task begun.0 begun.1 begun.2.decodes begun.2.at_is begun.2.given) in
     let piece : List ℕ = take filled c.next_block.new.room in
     let skip : c.saturating_sub-skip.result ≡ skip_of c.args.mode.now c.args.root.now.0 part total =
     c.saturating_sub-skip.ensures ∙ (λ i. c.written_of-first.ensures.first i - c.decoded_from-base.ensures i) in
@@ -78,7 +78,7 @@ returns-in-Err-clause-err g c =
     c.saturating_sub-end.ensures ∙ (λ i. c.written_of-first.ensures.last i - c.decoded_from-base.ensures i) in
     let sent : c.between.result.now ≡ positions c.blocks-2.done (skip_of c.args.mode.now c.args.root.now.0 part total) (end_of c.args.mode.now c.args.root.now.0 part total) piece =
     c.between.ensures ∙ (λ i. positions c.blocks-2.done (skip i) (end i) piece) in
-    let faultless = g.S.Source.faultless c.args.source.now in
+    let faultless = g.F.Forward.faultless c.args.source.now in
     let mid = g.W.Write.contents c.blocks-2.out in
     let new = g.W.Write.contents c.write_text.new.out in
     begun_output c.args.mode.now c.args.root.now.0 part contents faultless total c.blocks-2.checking c.next_block.new.checking c.blocks-2.at c.blocks-2.done
@@ -87,7 +87,7 @@ returns-in-Err-clause-err g c =
 
 pub overflow_add-done : goal.overflow_add-done
 overflow_add-done g c =
-    let contents = g.S.Source.contents c.args.source.now in
+    let contents = g.F.Forward.contents c.args.source.now in
     let part = c.args.part.now in
     let total : ℕ = c.claimed-total.result in
     let task = task_of_part c.args.mode.now c.args.root.now.0 part in
@@ -100,7 +100,7 @@ overflow_add-done g c =
 
 pub blocks-2-smaller : goal.blocks-2-smaller
 blocks-2-smaller g c =
-    let contents = g.S.Source.contents c.args.source.now in
+    let contents = g.F.Forward.contents c.args.source.now in
     let part = c.args.part.now in
     let total : ℕ = c.claimed-total.result in
     let task = task_of_part c.args.mode.now c.args.root.now.0 part in
@@ -113,7 +113,7 @@ blocks-2-smaller g c =
 
 pub blocks-2-preserved : goal.blocks-2-preserved
 blocks-2-preserved g c =
-    let contents = g.S.Source.contents c.args.source.now in
+    let contents = g.F.Forward.contents c.args.source.now in
     let part = c.args.part.now in
     let total : ℕ = c.claimed-total.result in
     let task = task_of_part c.args.mode.now c.args.root.now.0 part in
@@ -124,7 +124,7 @@ blocks-2-preserved g c =
     let some : Some_ c.in-Some.field-0 = some_of c.in_ok-taken.field-0 c.in-Some.field-0 Some_ c.in-Some.is c.in_ok-taken.ensures.some in
     let Step : Decoded → Type 0 = λ step. (more : List ℕ) × (length more ≡ step.taken) × (more ≡ take step.taken c.next_block.new.block) × GivenAt contents c.blocks-2.at more
     × HasDecodedAs c.next_block.new.checking task (begun.0 ++ more) (begun.1 ++ take step.filled c.next_block.new.room) in
-    let next : Step c.in-Some.field-0 = some_of c.in_ok-taken.field-0 c.in-Some.field-0 Step c.in-Some.is (c.in_ok-taken.ensures.step task begun.0 begun.1 begun.2.decodes begun.2.at_is) in
+    let next : Step c.in-Some.field-0 = some_of c.in_ok-taken.field-0 c.in-Some.field-0 Step c.in-Some.is (c.in_ok-taken.ensures.step task begun.0 begun.1 begun.2.decodes begun.2.at_is begun.2.given) in
     let piece : List ℕ = take filled c.next_block.new.room in
     let skip : c.saturating_sub-skip.result ≡ skip_of c.args.mode.now c.args.root.now.0 part total =
     c.saturating_sub-skip.ensures ∙ (λ i. c.written_of-first.ensures.first i - c.decoded_from-base.ensures i) in
@@ -151,10 +151,10 @@ blocks-2-preserved g c =
 
 pub returns-clause-ok : goal.returns-clause-ok
 returns-clause-ok g c =
-    let contents = g.S.Source.contents c.args.source.now in
+    let contents = g.F.Forward.contents c.args.source.now in
     let task = task_of_part c.args.mode.now c.args.root.now.0 c.args.part.now in
     let begun = c.blocks-2.invariant.begun in
     let last = c.in_ok-taken.ensures.last task begun.0 begun.1 begun.2.decodes begun.2.at_is c.in_default.is in
     let all = begun_all c.args.mode.now c.args.root.now.0 c.args.part.now contents c.claimed-total.result c.blocks-2.checking c.blocks-2.at c.blocks-2.done
-    (g.W.Write.contents c.args.out.now) (g.W.Write.contents c.blocks-2.out) begun.0 begun.1 begun.2 last.0 last.1 last.2 in
+    (g.W.Write.contents c.args.out.now) (g.W.Write.contents c.blocks-2.out) begun.0 begun.1 begun.2 last.0 last.1 last.2 last.3 in
     (all.0, all.1, (λ i. c.written_of-first.ensures.last i - c.written_of-first.ensures.first i) ∙ all.2, all.3)

@@ -8,7 +8,7 @@ invariant-blocks-2 g l = record {
   room : length l.room ≡ length l.initial.room;
   most : l.at ≤ 2 ^ 63 + 2 ^ 32;
   less : l.done ≤ l.at;
-  begun : (text blob : List ℕ) × IsBegun l.mode l.root.0 l.part (g.S.Source.contents l.source) l.total l.checking l.at l.done (g.W.Write.contents l.initial.out) (g.W.Write.contents l.out) text blob;
+  begun : (text blob : List ℕ) × IsBegun l.mode l.root.0 l.part (g.F.Forward.contents l.source) l.total l.checking l.at l.done (g.W.Write.contents l.initial.out) (g.W.Write.contents l.out) text blob;
 }
 
 abbrev pub decreases-blocks-2 : goal.decreases-blocks-2

@@ -26,7 +26,7 @@ blocks-2-init g c =
         (
           first_written part (claimed header),
           last_written part (claimed header),
-          copied_none c.args.mode.now c.args.root.now.0 part (g.S.Source.contents c.args.source.now) (claimed header) (first_written part (claimed header)) (last_written part (claimed header))
+          copied_none c.args.mode.now c.args.root.now.0 part (g.F.Forward.contents c.args.source.now) (claimed header) (first_written part (claimed header)) (last_written part (claimed header))
               c.in_ok-checking.checking None None header c.in_ok-checking.ensures.size c.bytes_are.ensures c.in_ok-checking.ensures.given c.in_ok-checking.ensures.decodes refl refl refl tt,
         ),
       );
@@ -34,8 +34,8 @@ blocks-2-init g c =
 
 pub returns-in_err-taken-clause-err : goal.returns-in_err-taken-clause-err
 returns-in_err-taken-clause-err g c =
-    let contents = g.S.Source.contents c.args.source.now in
-    let faultless = g.S.Source.faultless c.args.source.now in
+    let contents = g.F.Forward.contents c.args.source.now in
+    let faultless = g.F.Forward.faultless c.args.source.now in
     let task = task_of_part c.args.mode.now c.args.root.now.0 c.args.part.now in
     let taken = c.blocks-2.invariant.taken in
     let it = taken.2.2 in
@@ -46,7 +46,7 @@ returns-in_err-taken-clause-err g c =
 
 pub blocks-2-preserved : goal.blocks-2-preserved
 blocks-2-preserved g c =
-    let contents = g.S.Source.contents c.args.source.now in
+    let contents = g.F.Forward.contents c.args.source.now in
     let task = task_of_part c.args.mode.now c.args.root.now.0 c.args.part.now in
     let taken = c.blocks-2.invariant.taken in
     let it = taken.2.2 in
@@ -54,7 +54,7 @@ blocks-2-preserved g c =
     let some : Some_ c.in-Some.field-0 = some_of c.in_ok-taken.field-0 c.in-Some.field-0 Some_ c.in-Some.is c.in_ok-taken.ensures.some in
     let Step : Decoded → Type 0 = λ step. (more : List ℕ) × (length more ≡ step.taken) × (more ≡ take step.taken c.next_block.new.block) × GivenAt contents c.blocks-2.at more
     × HasDecodedAs c.next_block.new.checking task (taken.0 ++ more) (taken.1 ++ take step.filled c.next_block.new.room) in
-    let next : Step c.in-Some.field-0 = some_of c.in_ok-taken.field-0 c.in-Some.field-0 Step c.in-Some.is (c.in_ok-taken.ensures.step task taken.0 taken.1 it.decodes it.at_is) in
+    let next : Step c.in-Some.field-0 = some_of c.in_ok-taken.field-0 c.in-Some.field-0 Step c.in-Some.is (c.in_ok-taken.ensures.step task taken.0 taken.1 it.decodes it.at_is it.given) in
     let piece : List ℕ = take c.in-Some.field-0.filled c.next_block.new.room in
     record {
       block = c.next_block.ensures.sizes.0 ∙ c.blocks-2.invariant.block;
@@ -75,10 +75,10 @@ blocks-2-preserved g c =
 
 pub returns-clause-ok : goal.returns-clause-ok
 returns-clause-ok g c =
-    let contents = g.S.Source.contents c.args.source.now in
+    let contents = g.F.Forward.contents c.args.source.now in
     let task = task_of_part c.args.mode.now c.args.root.now.0 c.args.part.now in
     let taken = c.blocks-2.invariant.taken in
     let it = taken.2.2 in
     let last = c.in_ok-taken.ensures.last task taken.0 taken.1 it.decodes it.at_is c.in_default.is in
-    let all = copied_all c.args.mode.now c.args.root.now.0 c.args.part.now contents taken.2.0 taken.2.1 c.blocks-2.checking c.blocks-2.at None None taken.0 taken.1 it last.0 last.2 in
+    let all = copied_all c.args.mode.now c.args.root.now.0 c.args.part.now contents taken.2.0 taken.2.1 c.blocks-2.checking c.blocks-2.at None None taken.0 taken.1 it last.0 last.2 last.3 in
     (all.0, all.1)

@@ -7,7 +7,7 @@ invariant-blocks-2 g l = record {
   block : length l.block ≡ length l.fn.block;
   room : length l.room ≡ length l.fn.room;
   most : l.at ≤ 2 ^ 63 + 2 ^ 32;
-  taken : (text blob : List ℕ) × ((first last : ℕ) × IsCopied l.mode l.root.0 l.part (g.S.Source.contents l.source) first last l.checking l.at None None text blob);
+  taken : (text blob : List ℕ) × ((first last : ℕ) × IsCopied l.mode l.root.0 l.part (g.F.Forward.contents l.source) first last l.checking l.at None None text blob);
 }
 
 abbrev pub decreases-blocks-2 : goal.decreases-blocks-2
