@@ -1,5 +1,5 @@
 -- What a seat with which all others were joined knows of its store.
-use Rattle.crews.proofs.Common.{◌≡◌, ◌⊎◌, ℕ, ◌/◌, ◌%◌, ◌<◌, ◌==◌, true, false, not, ◌&&◌, ◌||◌, List, [], ◌∷◌, ◌++◌, append-nil, map, Contains, is_some, refl, sym, ap, subst, ◌∙◌, inl, inr, eq-eqb, eqb-true, lt-ltb, and_from, and_parts, both_ways, cases_Bool, or_left, Contains-append_left, Contains-append_right, Contains-head, Contains-tail, IsWanted, IsNone, some_bytes, Fixed, Call, Commit, Give, Length, Parents, Read, Serve, Settle, Take, Event, Piece, Named, SeatView, after, after_call, AreOfOthers, IsLegal, is_by, run, state_after, has_bit, in_mask, Name, has_name, least_name, holds_chunk, State, claims, empty, is_among, is_claimed, is_held, mine, names_of, claims_last, held_lasts, legal-append, others_parts, run-append, same_name-refl, right_there, Gripped, AreAllNames, LooksRound, Called, event_of}
+use Rattle.crews.proofs.Common.{◌≡◌, ◌⊎◌, ℕ, ◌/◌, ◌%◌, ◌<◌, ◌==◌, true, false, not, ◌&&◌, ◌||◌, List, [], ◌∷◌, ◌++◌, append-nil, append_assoc, map, Contains, is_some, Option, None, Some, refl, sym, ap, subst, ◌∙◌, inl, inr, eq-eqb, eqb-true, lt-ltb, and_from, and_parts, both_ways, cases_Bool, or_left, Contains-append_left, Contains-append_right, Contains-head, Contains-tail, IsWanted, IsNone, some_bytes, Fixed, Call, Commit, Give, Length, Parents, Read, Serve, Settle, Take, Event, Piece, Named, SeatView, after, after_call, IsLegal, run, state_after, has_bit, in_mask, Name, has_name, least_name, holds_chunk, State, claims, empty, is_among, is_claimed, is_held, mine, names_of, claims_last, held_lasts, legal-append, run-append, same_name-refl, right_there, Gripped, AreAllNames, LooksRound, Called, event_of}
 use Rattle.crews.specs.Lasting.{HoldsOn, IsAlone, IsBusyOn, alone_on}
 use Rattle.crews.specs.Seats.{GoneOn, fixed_of}
 use Rattle.crews.proofs.Sharing.{goes_on, sees_on}
@@ -54,16 +54,16 @@ pub claims_owned : (names : List Name) (history : List Event)
     → is_claimed (state_after history) c ≡ true → claims names (state_after history) c ≡ true
 claims_owned names history own = run_owned names empty history own (λ c is. let no : false ≡ true = is in cc)
 
--- others' calls of which each is the seat's are none
-none_between : (names : List Name) (events : List Event) → AreOfOthers names events → ((e : Event) → Contains events e → is_by names e ≡ true) → events ≡ []
-none_between names [] others by = refl
-none_between names (e ∷ events) others by = absurd (both_ways _ (others_parts names e events others).0 (by e (Contains-head events e)))
+-- what is held after a part of what was seen is so after whatever follows
+pub holds_after : (seat : Gripped) (there rest : List Event) (c : ℕ) → seat.view.seen ≡ there ++ rest → is_held (state_after there) c ≡ true → HoldsOn seat c
+holds_after seat there rest c seen held more legal =
+    let same : seat.view.seen ++ more ≡ there ++ (rest ++ more) = ap (λ (h : List Event). h ++ more) seen ∙ append_assoc there rest more in
+    let got = some_bytes ((state_after there).held c) held in
+    subst (λ (h : List Event). is_held (state_after h) c ≡ true) (sym same)
+    (ap is_some (held_lasts seat.view.fixed there (rest ++ more) c got.0 (subst (λ (h : List Event). IsLegal seat.view.fixed h) same legal) got.1))
 
--- what is held after all that was seen is so after whatever follows
 pub holds_on : (seat : Gripped) (c : ℕ) → is_held (state_after seat.view.seen) c ≡ true → HoldsOn seat c
-holds_on seat c held more legal =
-    let there = some_bytes ((state_after seat.view.seen).held c) held in
-    ap is_some (held_lasts seat.view.fixed seat.view.seen more c there.0 legal there.1)
+holds_on seat c held = holds_after seat seat.view.seen [] c (sym (append-nil seat.view.seen)) held
 
 -- looking round is no call
 pub looks_on : (handed : Piece → Type 0) (old new : Gripped) → LooksRound old.view new.view → GoneOn handed old new 0 0
@@ -76,13 +76,13 @@ seen_own then new all looked e h =
     (subst (λ (es : List Event). Contains es e) (sym looked.sees.goes_on.seen_is)
     (Contains-append_left (then.seen ++ looked.sees.between) [] e (Contains-append_left then.seen looked.sees.between e h)))
 
--- a chunk that is wanted and not granted, and isn't held, the seat claims, if it is alone
-rest_claimed : (old then new : Gripped) (group want granted : ℕ) → Called (Take group want granted) old.view then.view → LooksRound then.view new.view
-    → (c : ℕ) → IsWanted group want c → c < (fixed_of old).capacity → in_mask group granted c ≡ false → is_held (state_after old.view.seen) c ≡ false → IsBusyOn old c
-rest_claimed old then new group want granted called looked c wanted below miss not_held = λ alone.
+-- a chunk that is claimed where a seat takes, the seat claims itself, if it is alone
+taken_own : (old then new : Gripped) (group want granted c : ℕ) (called : Called (Take group want granted) old.view then.view) → LooksRound then.view new.view
+    → is_claimed (state_after (old.view.seen ++ called.between)) c ≡ true → IsAlone old.view
+    → claims (names_of old.view) (state_after (old.view.seen ++ called.between)) c ≡ true
+taken_own old then new group want granted c called looked claimed alone =
     let names : List Name = names_of old.view in
     let there : List Event = old.view.seen ++ called.between in
-    let s : State = state_after there in
     let all : AreAllNames then.view.names = subst (λ (ns : List Named). AreAllNames ns) (sym called.goes_on.names_are) alone.all in
     let same : names_of new.view ≡ names =
     ap (λ (ns : List Named). map (λ (named : Named). named.name) ns) (looked.sees.goes_on.names_are ∙ called.goes_on.names_are) in
@@ -90,37 +90,57 @@ rest_claimed old then new group want granted called looked c wanted below miss n
     (λ e h.
     seen_own then.view new.view all looked e (subst (λ (es : List Event). Contains es e) (sym called.goes_on.seen_is)
     (Contains-append_left there (event_of old.view (Take group want granted) ∷ []) e h))) in
-    let none : called.between ≡ [] = none_between names called.between called.goes_on.others (λ e h.
-    subst (λ (ns : List Name). is_by ns e ≡ true) same
-    (by_them (names_of new.view) new.view.seen e (mine_there e (Contains-append_right old.view.seen called.between e h))).1) in
     let alone_new : IsAlone new.view =
     alone_on IsNone then new 0 0 (looks_on IsNone then new looked)
     (alone_on IsNone old then 0 0 (goes_on IsNone old then (Take group want granted) tt called) alone) in
     let own : (e : Event) (name : Name) → Contains there e → has_name e.who name ≡ true → has_name names name ≡ true =
     (λ e name h has. subst (λ (ns : List Name). has_name ns name ≡ true) same (alone_new.own e name (mine_there e h) has)) in
-    let right = right_there (Take group want granted) old.view then.view called in
-    let room : c < then.view.fixed.capacity = subst (λ (f : Fixed). c < f.capacity) (sym called.goes_on.fixed_is) below in
-    let legal : IsLegal then.view.fixed there = (legal-append then.view.fixed empty there (event_of old.view (Take group want granted) ∷ [])
-    (subst (λ (h : List Event). IsLegal then.view.fixed h) called.goes_on.seen_is called.goes_on.legal)).0 in
-    let at : there ≡ old.view.seen = ap (λ (es : List Event). old.view.seen ++ es) none ∙ append-nil old.view.seen in
-    elim (cases_Bool (is_claimed s c)) [
-      | inl claimed ↦
-          sym (claims_last then.view.fixed old.view.seen called.between names c legal called.goes_on.others) ∙ claims_owned names there own c claimed
-      | inr unclaimed ↦
-          let free_there : not (is_held s c || is_claimed s c) ≡ true = rw (ap (λ (h : List Event). is_held (state_after h) c) at ∙ not_held) (rw unclaimed refl) in
-          let granted_too = right.bits c wanted.0 ∙ and_from _ _ wanted.1 (and_from _ _ (lt-ltb c then.view.fixed.capacity room) free_there) in
-          absurd (both_ways _ miss (and_from (c / 64 == group) (has_bit granted (c % 64)) (eq-eqb (c / 64) group wanted.0) granted_too))
-    ]
+    claims_owned names there own c claimed
 
+cases_claim : (o : Option Name) → (is_some o ≡ false) ⊎ ((name : Name) × (o ≡ Some name))
+cases_claim None = inl refl
+cases_claim (Some name) = inr (name, refl)
+
+-- a chunk that is wanted and not granted is held, or it is claimed, by the seat itself or by somebody else
 pub rest_there : (old then new : Gripped) (group want granted : ℕ) → Called (Take group want granted) old.view then.view → LooksRound then.view new.view
-    → (c : ℕ) → IsWanted group want c → c < (fixed_of old).capacity → (in_mask group granted c ≡ true) ⊎ HoldsOn old c ⊎ IsBusyOn old c
-rest_there old then new group want granted called looked c wanted below = elim (cases_Bool (in_mask group granted c)) [
-  | inl hit ↦ inl hit
-  | inr miss ↦ elim (cases_Bool (is_held (state_after old.view.seen) c)) [
-    | inl held ↦ inr (inl (holds_on old c held))
-    | inr not_held ↦ inr (inr (rest_claimed old then new group want granted called looked c wanted below miss not_held))
-  ]
-]
+    → (c : ℕ) → IsWanted group want c → c < (fixed_of old).capacity → (in_mask group granted c ≡ true) ⊎ HoldsOn new c ⊎ IsBusyOn old new c
+rest_there old then new group want granted called looked c wanted below =
+    let names : List Name = names_of old.view in
+    let there : List Event = old.view.seen ++ called.between in
+    let s : State = state_after there in
+    let call : Event = event_of old.view (Take group want granted) in
+    let seen : new.view.seen ≡ there ++ (call ∷ looked.sees.between) =
+    looked.sees.goes_on.seen_is ∙ append-nil (then.view.seen ++ looked.sees.between) ∙ ap (λ (h : List Event). h ++ looked.sees.between) called.goes_on.seen_is
+    ∙ append_assoc there (call ∷ []) looked.sees.between in
+    let legal : IsLegal then.view.fixed there =
+    (legal-append then.view.fixed empty there (call ∷ []) (subst (λ (h : List Event). IsLegal then.view.fixed h) called.goes_on.seen_is called.goes_on.legal)).0 in
+    elim (cases_Bool (in_mask group granted c)) [
+      | inl hit ↦ inl hit
+      | inr miss ↦ elim (cases_Bool (is_held s c)) [
+        | inl held ↦ inr (inl (holds_after new there (call ∷ looked.sees.between) c seen held))
+        | inr not_held ↦ elim (cases_claim (s.claim c)) [
+          | inl unclaimed ↦
+              let right = right_there (Take group want granted) old.view then.view called in
+              let room : c < then.view.fixed.capacity = subst (λ (f : Fixed). c < f.capacity) (sym called.goes_on.fixed_is) below in
+              let free_there : not (is_held s c || is_claimed s c) ≡ true = rw not_held (rw unclaimed refl) in
+              let granted_too = right.bits c wanted.0 ∙ and_from _ _ wanted.1 (and_from _ _ (lt-ltb c then.view.fixed.capacity room) free_there) in
+              absurd (both_ways _ miss (and_from (c / 64 == group) (has_bit granted (c % 64)) (eq-eqb (c / 64) group wanted.0) granted_too))
+          | inr (name, claimed) ↦ elim (cases_Bool (has_name names name)) [
+            | inl ours ↦
+                let own : claims names s c ≡ true = subst (λ (o : Option Name). is_among names o ≡ true) (sym claimed) ours in
+                inr (inr (inl (sym (claims_last then.view.fixed old.view.seen called.between names c legal called.goes_on.others) ∙ own)))
+            | inr theirs ↦ inr (inr (inr (
+              λ alone.
+                  let some : is_claimed s c ≡ true = ap is_some claimed in
+                  let own : is_among names (Some name) ≡ true =
+                  subst (λ (o : Option Name). is_among names o ≡ true) claimed (taken_own old then new group want granted c called looked some alone) in
+                  both_ways _ theirs own,
+              record { before = called.between; after = call ∷ looked.sees.between; seen_is = seen; name = name; claimed = claimed; of = theirs },
+            )))
+          ]
+        ]
+      ]
+    ]
 
 -- a chunk that was committed is held
 pub held_there : (old new : Gripped) (group : ℕ) (piece : Piece) (committed : ℕ) → Called (Commit group piece committed) old.view new.view

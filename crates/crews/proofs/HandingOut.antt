@@ -2,7 +2,7 @@
 use Rattle.crews.proofs.Common.{◌≡◌, ◌⊎◌, ℕ, ◌≤◌, IsTrue, List, [], ◌++◌, append-nil, length, Contains, sym, subst, arith, inl, inr, sum_by, both_ways, Contains-append_cases, IsKeyed, All-first, All-from_members, All-member, chunk_count, Report, IsFilled, IsServed, HasFailed, IsToldTooLarge, Reports, IsHanded, HasCollision, IsTooLarge, AreFrom, IsFrom, pair_of, large_pair, unfinished_named, large_wider, served, Fixed, Call, Commit, Give, Length, Parents, Read, Serve, Settle, Take, Event, Piece, Named, SeatView, IsLegal, IsBlob, empty, mine, legal-append, Gripped, AreAllNames, LooksRound}
 use Rattle.crews.specs.Closing.{CallsAreFrom, IsLeft}
 use Rattle.crews.specs.Going.{goes}
-use Rattle.crews.specs.Lasting.{HoldsOn, IsBusyOn, RecordsOn, alone_on}
+use Rattle.crews.specs.Lasting.{HoldsOn, IsBusyOn, RecordsOn, alone_on, busy_alone}
 use Rattle.crews.specs.Seats.{GoneOn, fixed_of as fixed_at}
 use Rattle.crews.specs.Wholes.{OnlyReads, ReadOn, WasUnfinished}
 use Rattle.crews.proofs.Alone.{seen_own}
@@ -60,7 +60,7 @@ unfinished_pair handed fixed start seat finished blob same keyed is legal left f
     (filled.is was.before there)
     (λ long c below. elim (filled.chunks long c below) [
       | inl held ↦ held was.before there
-      | inr busy ↦ absurd (both_ways _ (left.unclaimed c) (busy left.alone))
+      | inr busy ↦ absurd (both_ways _ (left.unclaimed c) (busy_alone start seat c left.alone busy))
     ]) was.unfinished)
 
 -- The closing rounds over holders of which some give the blob's slices that are asked for, and what their seat finds afterwards:

@@ -9,3 +9,4 @@ pub mod HandedOver
 pub mod Rereading
 pub mod HandingOut
 pub mod Giving
+pub mod InTurn

@@ -7,8 +7,8 @@ use Rattle.std.specs.Prelude.{◌<◌, slice_index_or, slice_set}
 use Rattle.gather.proofs.Forming.{later_parts}
 use Rattle.gather.specs.Parts.{IsFor}
 use Rattle.gather.specs.declared.grain.Grain.TheVariants.{Group as ByGroup}
-use Rattle.crews.specs.Filling.{Closes, Fills}
-use Rattle.crews.specs.Lasting.{alone_on}
+use Rattle.crews.specs.Filling.{Closes, Fills, IsBusyBeside}
+use Rattle.crews.proofs.InTurn.{beside_from}
 use Rattle.crews.specs.Crews.{Each, IsHandedTo, Worked, WorkedOn, all_of, all_faults, faults_of}
 use Rattle.crews.specs.Going.{goes}
 use Rattle.crews.specs.Seats.{GoneOn, SeenBinds, fixed_of as fixed_at}
@@ -102,35 +102,34 @@ module _ {H : Type 0} (assembly : Assembly) (gives : H → ℕ → ℕ → List 
 pub each_wider : {C : Type 0} (R Q : C → C → Type 0) (xs ys : List C) → ((x y : C) → R x y → Q x y) → Each R xs ys → Each Q xs ys
 each_wider R Q xs ys wider each = record { len = each.len; each = λ i d below. wider _ _ (each.each i d below) }
 
--- what a crew's closing round comes to, its two rounds do
-closes_then : {H : Type 0} (assembly : Assembly) (form : Form) (gives : H → ℕ → ℕ → List ℕ → Type 0) (count : H → ℕ) (blob : List ℕ) (first second third : Crew H)
-    → IsFor form (fixed_of assembly) blob → IsServed (fixed_of assembly) blob → Worked assembly (made_of form gives) count first second → Closes assembly form gives count second third → Fills form gives (fixed_of assembly) blob first third
-closes_then assembly form gives count blob first second third is served begun closes have =
-    let F : Fixed = fixed_of assembly in
-    elim (closes.fills blob is served (later_parts form ByGroup gives F.mode blob _ _ begun.holders have)) [
-      | inl failed ↦ inl failed
-      | inr (inl large) ↦ inr (inl (large.0, large_wider _ (IsHanded (made_of form gives) first.holders.items) begun.reports.no_more F large.1))
-      | inr (inr (filled, full)) ↦
-          inr (inr (
-            record {
-              recorded = filled.recorded;
-              is = filled.is;
-              chunks = λ long n below. elim (filled.chunks long n below) [
-                | inl held ↦ inl held
-                | inr busy ↦ inr (λ alone. begun.claimed n (busy (alone_on _ first.seat second.seat _ _ begun.reports.gains alone)))
-              ];
-            },
-            full,
-          ))
-    ]
-
+-- what all crews' closing rounds come to, their two rounds do
 pub all_fill : {H : Type 0} (assembly : Assembly) (form : Form) (gives : H → ℕ → ℕ → List ℕ → Type 0) (count : H → ℕ) (blob : List ℕ) (first second third : List (Crew H))
     → IsFor form (fixed_of assembly) blob → IsServed (fixed_of assembly) blob
-    → Each (Worked assembly (made_of form gives) count) first second → Each (Closes assembly form gives count) second third → Each (Fills form gives (fixed_of assembly) blob) first third
+    → Each (Worked assembly (made_of form gives) count) first second → Each (Closes assembly form gives count (IsBusyBeside second)) second third
+    → Each (Fills form gives (fixed_of assembly) blob (IsBusyBeside first)) first third
 all_fill assembly form gives count blob first second third is served begun closes = record {
   len = closes.len ∙ begun.len;
-  each = λ i d below.
-      closes_then assembly form gives count blob _ _ _ is served (begun.each i d below) (closes.each i d (omega (arith, below, begun.len)));
+  each = λ i d below have.
+      let F : Fixed = fixed_of assembly in
+      let worked = begun.each i d below in
+      elim ((closes.each i d (omega (arith, below, begun.len))).fills blob is served (later_parts form ByGroup gives F.mode blob _ _ worked.holders have)) [
+        | inl failed ↦ inl failed
+        | inr (inl large) ↦ inr (inl (large.0, large_wider _ (IsHanded (made_of form gives) (slice_index_or first i d).holders.items) worked.reports.no_more F large.1))
+        | inr (inr (filled, full)) ↦
+            inr (inr (
+              record {
+                recorded = filled.recorded;
+                is = filled.is;
+                chunks = λ long n within. elim (filled.chunks long n within) [
+                  | inl held ↦ inl held
+                  | inr busy ↦ inr (beside_from first second
+                      (each_wider _ _ first second (λ x y w. record { names_are = w.reports.gains.names_are; claims = w.claimed }) begun) _ (slice_index_or first i d).seat (slice_index_or second i d).seat
+                      (slice_index_or third i d).seat _ _ n worked.reports.gains worked.claimed busy)
+                ];
+              },
+              full,
+            ))
+      ];
 }
 
 -- a round over one more of them

@@ -3,6 +3,7 @@ pub mod Going
 pub mod Lasting
 pub mod Crews
 pub mod Filling
+pub mod Turns
 pub mod Finished
 pub mod Peers
 pub mod Joined

@@ -22,6 +22,7 @@ mod crewing;
 mod gathering;
 mod handing;
 mod joining;
+mod meeting;
 mod peer;
 mod reading;
 mod rounds;

@@ -4,9 +4,12 @@ ghost use Rattle.gather.specs.Forms.{made_of};
 ghost use Rattle.gather.specs.Parts.{IsFor};
 ghost use Rattle.store_shared.specs.Seats.{IsSeatOf, fixed_of};
 ghost use Rattle.crews.specs.Crews.{Each, Worked, WorkedOn, all_of};
-ghost use Rattle.crews.specs.Filling.{Closes, Fills};
+ghost use Rattle.crews.specs.Filling.{Closes, Fills, IsBusyBeside};
+ghost use Rattle.crews.specs.Lasting.{IsBusyOn};
+ghost use Rattle.crews.specs.Turns.{Turns};
 
 use crate::crew::Crew;
+use crate::meeting::all_meet;
 use crate::shared::Shared;
 use bao_read::Gate;
 use gather::{Form, Holder, Place, Report, closing_round, work_as};
@@ -67,7 +70,7 @@ fn go_round<H: Holder>(
     requires of { IsSeatOf assembly.now crew.old.seat }
     requires number { (number < crews) × (crews ≤ 64) }
     ensures worked { WorkedOn assembly.now (made_of form.now H.gives) H.count crew.old crew.new }
-    ensures fills { (blob : List ℕ) → IsFor form.now (fixed_of assembly.now) blob → IsServed (fixed_of assembly.now) blob → Fills form.now H.gives (fixed_of assembly.now) blob crew.old crew.new }
+    ensures fills { (blob : List ℕ) → IsFor form.now (fixed_of assembly.now) blob → IsServed (fixed_of assembly.now) blob → Fills form.now H.gives (fixed_of assembly.now) blob IsBusyOn crew.old crew.new }
 {
     let place = Place {
         number: number as u32,
@@ -95,9 +98,28 @@ fn close<H: Holder>(
 )
     requires of { IsSeatOf assembly.now crew.old.seat }
     requires number { (number < crews) × (crews ≤ 64) }
-    ensures { Closes assembly.now form.now H.gives H.count crew.old crew.new }
+    ensures { Closes assembly.now form.now H.gives H.count IsBusyOn crew.old crew.new }
 {
     go_round(alloc, assembly, form, number, crews, crew);
+}
+
+// One crew's closing round, while the others make no call. All meet before it and after it, so that each claim that the crew finds is known
+// to be another crew's from before, or of somebody outside.
+fn close_in_turn<H: Holder>(
+    alloc: Global,
+    assembly: &Assembly,
+    form: &Form<'_>,
+    number: usize,
+    crews: &mut [Crew<H>],
+)
+    requires count { (number < length crews.old) × (length crews.old ≤ 64) }
+    requires of { All (λ crew. IsSeatOf assembly.now crew.seat) crews.old }
+    ensures { Turns assembly.now form.now H.gives H.count number crews.old crews.new }
+{
+    all_meet(assembly, crews);
+    let workers = crews.len();
+    close(alloc, assembly, form, number, workers, &mut crews[number]);
+    all_meet(assembly, crews);
 }
 
 // The closing round, each crew in turn.
@@ -109,11 +131,10 @@ pub(crate) fn last_round<H: Holder>(
 )
     requires count { length crews.old ≤ 64 }
     requires of { All (λ crew. IsSeatOf assembly.now crew.seat) crews.old }
-    ensures { Each (Closes assembly.now form.now H.gives H.count) crews.old crews.new }
+    ensures { Each (Closes assembly.now form.now H.gives H.count (IsBusyBeside crews.old)) crews.old crews.new }
 {
-    let workers = crews.len();
-    for number in 0..workers {
-        close(alloc, assembly, form, number, workers, &mut crews[number]);
+    for number in 0..crews.len() {
+        close_in_turn(alloc, assembly, form, number, crews);
     }
 }
 

@@ -9,7 +9,7 @@ ghost use Rattle.store_core.specs.Laws.{IsBlob};
 ghost use Rattle.store_shared.specs.Seats.{IsSeatOf, fixed_of};
 ghost use Rattle.crews.specs.Crews.{Each, IsHandedTo, Worked, all_faults, all_of};
 ghost use Rattle.crews.specs.Beside.{IsOfStore};
-ghost use Rattle.crews.specs.Filling.{Fills};
+ghost use Rattle.crews.specs.Filling.{Fills, IsBusyBeside};
 ghost use Rattle.crews.specs.Seats.{SeenBinds};
 
 use crate::crew::Crew;
@@ -40,7 +40,7 @@ fn run_as<R: Threads + Sync, H: Holder + Send, G: Gate + Sync>(
     ensures too_large { IsTrue result.too_large → IsTooLarge (IsHandedTo (made_of form.now H.gives) crews.old) (fixed_of assembly.now) }
     ensures longer { IsTrue result.too_large → AreLonger (IsHandedTo (made_of form.now H.gives) crews.old) (fixed_of assembly.now) }
     ensures available { (blob : List ℕ) → IsBlob (fixed_of assembly.now) blob → (fixed_of assembly.now).base ≡ 0 → chunk_count (length blob) ≤ (fixed_of assembly.now).capacity → IsFor form.now (fixed_of assembly.now) blob
-        → Each (Fills form.now H.gives (fixed_of assembly.now) blob) crews.old crews.new }
+        → Each (Fills form.now H.gives (fixed_of assembly.now) blob (IsBusyBeside crews.old)) crews.old crews.new }
 {
     // For the prover alone: the flags of a mode are apart from the tree's.
     assembly.mode().is_keyed();
@@ -76,9 +76,10 @@ fn run_as<R: Threads + Sync, H: Holder + Send, G: Gate + Sync>(
 ///
 /// It suffices that a worker's holders have a blob with the root between them that fits the store, as for
 /// `gather::run_one`. If no memory was refused to that worker in this call, and no accepted slice certifies a
-/// length that is too large, its seat then knows a length recorded. If that length is the blob's and the seat is
-/// the only one, each chunk is held, or the worker had claimed it before, and each parent is held. This isn't said
-/// of a seat that isn't alone: another one, of these workers or not, may have claimed a chunk meanwhile.
+/// length that is too large, its seat then knows a length recorded. If that length is the blob's, each chunk is
+/// held, or one of the workers had claimed it before the call, or the worker found it claimed by a seat that is
+/// none of theirs: the history that its seat has seen since names when, and by whom. A seat that is the only one
+/// finds none such, and each parent is then held too.
 pub fn run<R: Threads + Sync, H: Holder + Send, G: Gate + Sync>(
     rt: &R,
     alloc: Global,
@@ -96,7 +97,7 @@ pub fn run<R: Threads + Sync, H: Holder + Send, G: Gate + Sync>(
     ensures too_large { IsTrue result.too_large → IsTooLarge (IsHandedTo H.gives crews.old) (fixed_of assembly.now) }
     ensures longer { IsTrue result.too_large → AreLonger (IsHandedTo H.gives crews.old) (fixed_of assembly.now) }
     ensures available { (blob : List ℕ) → IsBlob (fixed_of assembly.now) blob → (fixed_of assembly.now).base ≡ 0 → chunk_count (length blob) ≤ (fixed_of assembly.now).capacity
-        → Each (Fills Slices H.gives (fixed_of assembly.now) blob) crews.old crews.new }
+        → Each (Fills Slices H.gives (fixed_of assembly.now) blob (IsBusyBeside crews.old)) crews.old crews.new }
 {
     run_as(rt, alloc, assembly, &Form::Slices, crews, gate)
 }
@@ -133,7 +134,7 @@ pub fn run_bare<R: Threads + Sync, H: Holder + Send, G: Gate + Sync>(
     ensures too_large { IsTrue result.too_large → IsTooLarge (IsHandedTo (IsMadeBeside outline.now H.gives) crews.old) (fixed_of assembly.now) }
     ensures longer { IsTrue result.too_large → AreLonger (IsHandedTo (IsMadeBeside outline.now H.gives) crews.old) (fixed_of assembly.now) }
     ensures available { (blob : List ℕ) → IsBlob (fixed_of assembly.now) blob → (fixed_of assembly.now).base ≡ 0 → chunk_count (length blob) ≤ (fixed_of assembly.now).capacity → IsOutlineFor (fixed_of assembly.now) outline.now blob
-        → Each (Fills (Bare outline.entry) H.gives (fixed_of assembly.now) blob) crews.old crews.new }
+        → Each (Fills (Bare outline.entry) H.gives (fixed_of assembly.now) blob (IsBusyBeside crews.old)) crews.old crews.new }
 {
     run_as(rt, alloc, assembly, &Form::Bare(outline), crews, gate)
 }

@@ -32,7 +32,7 @@ impl Shelf for Shared<'_> {
 
     ghost has_parent = { λ seat m. HasParentOn seat m };
 
-    ghost busy = { λ seat c. IsBusyOn seat c };
+    ghost busy = { λ old new c. IsBusyOn old new c };
 
     ghost lasts = { lasts };
 

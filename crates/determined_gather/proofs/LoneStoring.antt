@@ -32,7 +32,7 @@ use Rattle.store_shared.specs.declared.assembly.Assembly.{Assembly}
 use Rattle.store_shared.specs.Seats.{Gripped, IsSeatOf, fixed_of as fixed_of_store}
 use Rattle.gather.specs.Available.{IsWanted}
 use Rattle.gather.specs.Holders.{IsIt, IsNone}
-use Rattle.crews.specs.Lasting.{HoldsOn, IsAlone, alone_on, lasts}
+use Rattle.crews.specs.Lasting.{HoldsOn, IsAlone, alone_on, busy_alone, lasts}
 use Rattle.crews.specs.Seats.{claims_of, fixed_of}
 use Rattle.crews.proofs.Alone.{held_there, looks_on, rest_there}
 use Rattle.crews.proofs.Knowing.{all_there, granted_there, unstored_refused}
@@ -74,12 +74,10 @@ module _ (old taken looked committed : Gripped) (group granted mask : ℕ) (piec
       elim (rest_there old taken looked group (2 ^ 64 - 1) granted takes looks c (all_wanted group c here) below) [
         | inl hit ↦ committed_first c here has (still_claimed c (granted_there old taken group (2 ^ 64 - 1) granted takes c hit).1)
         | inr (inl held) ↦
-            lasts.chunk (IsIt piece) looked committed _ _ c (goes_on (IsIt piece) looked committed (Commit group piece mask) refl commits)
-            (lasts.chunk IsNone taken looked 0 0 c (looks_on IsNone taken looked looks)
-            (lasts.chunk IsNone old taken _ _ c (goes_on IsNone old taken (Take group (2 ^ 64 - 1) granted) tt takes) held))
+            lasts.chunk (IsIt piece) looked committed _ _ c (goes_on (IsIt piece) looked committed (Commit group piece mask) refl commits) held
         | inr (inr busy) ↦
             committed_first c here has
-            (still_claimed c (takes.claims_are c ∙ or_right (in_mask group granted c) (claims_of old c) (busy ready.alone)))
+            (still_claimed c (takes.claims_are c ∙ or_right (in_mask group granted c) (claims_of old c) (busy_alone old looked c ready.alone busy)))
       ]
 
   keeps_taken : Keeps (state_after old.view.seen) (state_after taken.view.seen)

@@ -1,8 +1,10 @@
 // What crews' rounds leave to nobody.
 
-ghost use Rattle.std.specs.Prelude.{◌≡◌, ◌⊎◌, ◌≤◌, ℕ, List, false, length};
+ghost use Rattle.std.specs.Prelude.{◌≡◌, ◌⊎◌, ◌<◌, ◌≤◌, All, ℕ, List, false, length};
 ghost use Rattle.bao_text.specs.Choice.{chunk_count};
+ghost use Rattle.crews.specs.Crews.{Each};
 ghost use Rattle.crews.specs.Lasting.{IsAlone};
+ghost use Rattle.determined_gather.specs.Crews.{HasChunksBeside};
 ghost use Rattle.determined_gather.specs.Serves.{HasEveryNode};
 ghost use Rattle.gather.specs.Available.{HaveSlices};
 ghost use Rattle.gather.specs.Counts.{HasFailed, IsToldTooLarge};
@@ -40,4 +42,25 @@ pub fn run_alone_fills<R: Threads + Sync, H: Holder + Send>(
     // For the prover alone: the flags of a mode are apart from the tree's.
     assembly.mode().is_keyed();
     run(rt, alloc, assembly, from_mut(crew), &Open);
+}
+
+// Of crews that claim nothing, each whose holders have the blob's slices between them has seen every chunk held in the end, or claimed by
+// somebody who is none of them. Memory was refused to it in this call otherwise, or a collision is exhibited.
+pub fn run_fills<R: Threads + Sync, H: Holder + Send>(
+    rt: &R,
+    alloc: Global,
+    assembly: &Assembly,
+    crews: &mut [Crew<H>],
+)
+    requires count { (0 < length crews.old) × (length crews.old ≤ 64) }
+    requires of { All (λ crew. IsSeatOf assembly.now crew.seat) crews.old }
+    requires free { All (λ crew. (c : ℕ) → seat_claims crew.seat.view c ≡ false) crews.old }
+    ensures { (blob : List ℕ) → IsBlob (fixed_of assembly.now) blob → (fixed_of assembly.now).base ≡ 0 → chunk_count (length blob) ≤ (fixed_of assembly.now).capacity
+        → Each (λ old new. HaveSlices ByGroup H.gives (fixed_of assembly.now).mode blob old.holders.items
+        → HasFailed new.report ⊎ IsToldTooLarge new.report (IsHanded H.gives old.holders.items) (fixed_of assembly.now)
+        ⊎ HasChunksBeside crews.old old.seat.view new.seat.view blob ⊎ ((l : ℕ) × CollisionSettled (fixed_of assembly.now) new.seat.view.seen blob l)) crews.old crews.new }
+{
+    // For the prover alone: the flags of a mode are apart from the tree's.
+    assembly.mode().is_keyed();
+    run(rt, alloc, assembly, crews, &Open);
 }

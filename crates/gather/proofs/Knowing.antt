@@ -1,7 +1,7 @@
 -- What a call of a one-thread store leaves its worker to know.
-use Rattle.gather.proofs.Common.{◌≡◌, ◌≢◌, ℕ, ◌↔◌, ◌⊎◌, inl, inr, ap, not, is_some, IsErrOf, IsOf, IsMaskOf, both_ways, cases_Bool, ◌/◌, ◌%◌, ◌==◌, true, ◌&&◌, Option, None, Some, Result, Ok, Err, IfErr, IfOk, IfSome, OnErr, MatchResult, refl, sym, subst, ◌∙◌, eqb-true, eq-eqb, and_from, and_parts, Checked, StoreFault, Take, Commit, Piece, Settling, Settled, Known, Differs, OtherRoot, TooLarge, Stored, Store, is_free, settling, has_bit, in_mask, holds_chunk, length_of, piece_of, State, claims, is_held, DidStore, IsEvent, IsSame, IsUnstored, Settles, fixed_of, state_of}
+use Rattle.gather.proofs.Common.{◌≡◌, ◌≢◌, ◌<◌, ◌||◌, ℕ, ◌↔◌, ◌⊎◌, lt-ltb, is_claimed, inl, inr, ap, not, is_some, IsErrOf, IsOf, IsMaskOf, both_ways, cases_Bool, ◌/◌, ◌%◌, ◌==◌, true, ◌&&◌, Option, None, Some, Result, Ok, Err, IfErr, IfOk, IfSome, OnErr, MatchResult, refl, sym, subst, ◌∙◌, eqb-true, eq-eqb, and_from, and_parts, Checked, StoreFault, Take, Commit, Piece, Settling, Settled, Known, Differs, OtherRoot, TooLarge, Stored, Store, is_free, settling, has_bit, in_mask, holds_chunk, length_of, piece_of, State, claims, is_held, DidStore, IsEvent, IsSame, IsUnstored, Settles, fixed_of, state_of}
 use Rattle.gather.specs.Available.{IsOfOtherLength, IsWanted, Keeps, KeepsBut}
-use Rattle.gather.specs.Lasting.{HasParent, HoldsChunk, Records}
+use Rattle.gather.specs.Lasting.{HasParent, HoldsChunk, IsBusy, Records}
 use Rattle.store_core.specs.Pieces.{holds_parent}
 use Rattle.store_core.specs.declared.fault.StoreFault.TheVariants as fault
 use Rattle.gather.specs.Worked.{worker, worker_claims}
@@ -16,6 +16,24 @@ take_granted old new group want (Ok granted) event = λ c hit.
     let wanted : IsWanted group want c = (here, (and_parts _ _ both).0) in
     (wanted, subst (λ (s : State). claims worker s c ≡ true) (sym event.after) (rw hit refl))
 take_granted old new group want (Err fault) event = tt
+
+-- a chunk that is wanted and not granted is held or claimed
+pub take_rest : (old new : Store) (group want : ℕ) (result : Result ℕ StoreFault) → IfOk result (λ granted. IsEvent old new worker (Take group want granted))
+    → IfOk result (λ granted. (c : ℕ) → IsWanted group want c → c < (fixed_of old).capacity → (in_mask group granted c ≡ true) ⊎ HoldsChunk new c ⊎ IsBusy old new c)
+take_rest old new group want (Ok granted) event = λ c wanted below. elim (cases_Bool (in_mask group granted c)) [
+  | inl hit ↦ inl hit
+  | inr miss ↦ elim (cases_Bool (is_held (state_of old) c)) [
+    | inl held ↦ inr (inl (subst (λ (s : State). is_held s c ≡ true) (sym event.after) held))
+    | inr not_held ↦ elim (cases_Bool (is_claimed (state_of old) c)) [
+      | inl claimed ↦ inr (inr claimed)
+      | inr unclaimed ↦
+          let free : not (is_held (state_of old) c || is_claimed (state_of old) c) ≡ true = rw not_held (rw unclaimed refl) in
+          let bit = event.right.bits c wanted.0 ∙ and_from _ _ wanted.1 (and_from _ _ (lt-ltb c (fixed_of old).capacity below) free) in
+          absurd (both_ways _ miss (and_from (c / 64 == group) (has_bit granted (c % 64)) (eq-eqb (c / 64) group wanted.0) bit))
+    ]
+  ]
+]
+take_rest old new group want (Err fault) event = tt
 
 keeps_same : (old new : Store) → IsSame old new → Keeps (worker_claims old) (worker_claims new)
 keeps_same old new same c is = subst (λ (s : State). claims worker s c ≡ true) (sym same.state) is

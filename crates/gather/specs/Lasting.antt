@@ -31,8 +31,9 @@ HoldsChunk store c = is_held (state_of store) c ≡ true
 abbrev pub HasParent : Store → ℕ → Type 0
 HasParent store m = is_some ((state_of store).parents m) ≡ true
 
-abbrev pub IsBusy : Store → ℕ → Type 0
-IsBusy store c = is_claimed (state_of store) c ≡ true
+-- a chunk was claimed before: in a one-thread store nobody else claims one meanwhile
+abbrev pub IsBusy : Store → Store → ℕ → Type 0
+IsBusy old new c = is_claimed (state_of old) c ≡ true
 
 -- a chunk that is held stays so
 call_holds : (fixed : Fixed) (s : State) (who : List Name) (call : Call) → IsRightReply fixed s who call → (c : ℕ) → is_held s c ≡ true
@@ -93,8 +94,8 @@ some_claims : (names : List Name) (o : Option Name) → is_among names o ≡ tru
 some_claims names None is = let no : false ≡ true = is in cc
 some_claims names (Some name) is = refl
 
-work_frees : (handed : Piece → Type 0) (s t : Store) (n q c : ℕ) → HasWorked handed s t n q → Among (worker_claims s) (worker_claims t) → IsBusy t c → IsBusy s c ⊎ HoldsChunk t c
-work_frees handed s t n q c worked among busy =
+work_frees : (handed : Piece → Type 0) (s t u : Store) (n q c : ℕ) → HasWorked handed s t n q → Among (worker_claims s) (worker_claims t) → IsBusy t u c → IsBusy s u c ⊎ HoldsChunk t c
+work_frees handed s t u n q c worked among busy =
     elim (run_claims (state_of s) worked.events worked.own c (subst (λ (x : State). is_claimed x c ≡ true) worked.after busy)) [
       | inl same ↦
           inl (subst (λ (o : Option Name). is_some o ≡ true) same (subst (λ (x : State). is_claimed x c ≡ true) worked.after busy))
@@ -121,4 +122,5 @@ lasts_work = record {
       subst (λ (x : State). is_held x c ≡ true) (sym worked.after) (run_holds (fixed_of s) (state_of s) worked.events worked.legal c is);
   parent = work_parent;
   frees = work_frees;
+  later = λ handed s t u n q c worked busy. busy;
 }

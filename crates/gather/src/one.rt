@@ -51,7 +51,7 @@ impl Shelf for Alone {
 
     ghost has_parent = { λ store m. HasParent store m };
 
-    ghost busy = { λ store c. IsBusy store c };
+    ghost busy = { λ old new c. IsBusy old new c };
 
     ghost lasts = { lasts_work };
 

@@ -49,8 +49,8 @@ pub trait Shelf {
     // A parent is known to be held, by the chunk that its right part begins with.
     ghost has_parent: { Self.Seat → ℕ → Type 0 };
 
-    // Somebody may claim a chunk.
-    ghost busy: { Self.Seat → ℕ → Type 0 };
+    // Somebody claimed a chunk before the one, or between the two.
+    ghost busy: { Self.Seat → Self.Seat → ℕ → Type 0 };
 
     // What is known lasts.
     ghost lasts: { Lasts gained claims records holds has_parent busy };
@@ -71,7 +71,7 @@ pub trait Shelf {
         ensures claims { MatchResult result (λ granted. AmongAnd (claims seat.old) group granted (claims seat.new)) (λ _. Among (claims seat.old) (claims seat.new)) }
         ensures granted { IfOk result (λ granted. (c : ℕ) → in_mask group granted c ≡ true → IsWanted group want c × (claims seat.new c ≡ true)) }
         ensures rest { IfOk result (λ granted. (c : ℕ) → IsWanted group want c → c < (fixed_of seat.old).capacity
-            → (in_mask group granted c ≡ true) ⊎ holds seat.old c ⊎ busy seat.old c) }
+            → (in_mask group granted c ≡ true) ⊎ holds seat.new c ⊎ busy seat.old seat.new c) }
         ensures refused { IfErr result (λ fault. (fault ≡ Memory) ⊎ ((fixed_of seat.old).capacity ≤ 64 * group)) };
 
     /// Ends the seat's claims to chunks of `mask`, and returns the mask of those that it had.

@@ -212,7 +212,7 @@ pub(crate) fn work_part<S: Shelf, H: Holder>(
     ensures served { (blob : List ℕ) → IsFor form.now (S.fixed_of seat.old) blob → IsServed (S.fixed_of seat.old) blob
         → HasSlice (made_of form.now H.gives) (S.fixed_of seat.old).mode blob part.now.start (checked_len form.now part.now) holders.old
         → ((c : ℕ) → IsWanted group want c → (c < chunk_count (length blob)) × (holds_chunk (slice_of (S.fixed_of seat.old) blob part.now.start (checked_len form.now part.now)) c ≡ true))
-        → HasFailedSince report.old report.new ⊎ ((c : ℕ) → IsWanted group want c → S.holds seat.new c ⊎ S.busy seat.old c) }
+        → HasFailedSince report.old report.new ⊎ ((c : ℕ) → IsWanted group want c → S.holds seat.new c ⊎ S.busy seat.old seat.new c) }
 {
     report.fits();
     let granted = match shelf.take(seat, group, want) {

@@ -4,7 +4,7 @@ use Rattle.gather.proofs.Serving.{failed_since}
 use Rattle.gather.specs.declared.grain.Grain.TheVariants.{Chunk as ByChunk}
 use Rattle.gather.specs.Parts.{HaveParts, IsFor}
 use Rattle.crews.specs.Going.{goes}
-use Rattle.crews.specs.Lasting.{alone_on}
+use Rattle.crews.specs.Lasting.{busy_from}
 use Rattle.crews.specs.Seats.{GoneOn, fixed_of}
 use Rattle.crews.proofs.closing.closing_rounds.Goals as goal
 
@@ -43,6 +43,6 @@ returns-in-Chunk-clause-served g c = λ blob of served have.
           inr (inr (record {
             recorded = filled.recorded;
             is = filled.is;
-            chunks = λ long n below. elim (filled.chunks long n below) [ inl held ↦ inl held | inr busy ↦ inr (λ alone. first.claims n (busy (alone_on _ c.args.seat.now mid _ _ first.reports.gains alone))) ];
+            chunks = λ long n below. elim (filled.chunks long n below) [ inl held ↦ inl held | inr busy ↦ inr (busy_from _ c.args.seat.now mid c.salvage.new.seat _ _ n first.reports.gains first.claims busy) ];
           }))
     ]

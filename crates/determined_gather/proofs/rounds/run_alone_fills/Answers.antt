@@ -1,8 +1,9 @@
 use Rattle.std.proofs.Common.{◌≡◌, ◌∙◌, ℕ, List, [], ◌∷◌, slice_index_or, sym, subst, inl, inr, arith}
+use Rattle.std.proofs.lemmas.Bool.{both_ways}
 use Rattle.b3tree.specs.Valid.{IsKeyed}
 use Rattle.b3tree.specs.declared.mode.Mode.{Mode}
 use Rattle.crews.specs.Crews.{Each, Worked}
-use Rattle.crews.specs.Filling.{Fills}
+use Rattle.crews.specs.Filling.{Fills, IsBusyBeside}
 use Rattle.crews.specs.declared.crew.Crew.{Crew}
 use Rattle.gather.proofs.Forming.{slices_parts}
 use Rattle.gather.specs.declared.form.Form.TheVariants.{Slices}
@@ -20,11 +21,15 @@ returns g c = λ blob is first room have.
     let news : List (Crew g.row.H.Denot) = c.run.new.crews in
     let worked = (subst (λ (crews : List (Crew g.row.H.Denot)). Each (Worked c.args.assembly.now gives g.H.Holder.count) crews news) c.from_mut.ensures.value c.run.ensures.each).each 0 old (omega arith) in
     let fills =
-    (subst (λ (crews : List (Crew g.row.H.Denot)). Each (Fills Slices gives F blob) crews news) c.from_mut.ensures.value (c.run.ensures.available blob is first room)).each 0 old (omega arith) in
+    (subst (λ (crews : List (Crew g.row.H.Denot)). Each (Fills Slices gives F blob (IsBusyBeside crews)) crews news) c.from_mut.ensures.value (c.run.ensures.available blob is first room)).each 0 old (omega arith) in
     elim (fills (slices_parts Slices ByGroup gives F.mode blob old.holders.items tt have)) [
       | inl failed ↦ inl failed
       | inr (inl large) ↦ inr (inl large)
       | inr (inr (filled, full)) ↦
-          inr (inr (every_node _ F old.seat _ _ _ blob (subst (λ (mode : Mode). IsKeyed mode) c.mode.ensures c.is_keyed.ensures) is worked.of.knows.fixed_is worked.of.knows.legal worked.reports.gains
-          c.requires.alone c.requires.free filled full))
+          let never : (n : ℕ) → IsBusyBeside (old ∷ []) old.seat (slice_index_or news 0 old).seat n → ⊥ = λ n busy. elim busy [
+            | inl claims ↦ both_ways _ (c.requires.free n) claims
+            | inr (others, is) ↦ others c.requires.alone
+          ] in
+          inr (inr (every_node _ F old.seat _ _ _ blob (IsBusyBeside (old ∷ [])) (subst (λ (mode : Mode). IsKeyed mode) c.mode.ensures c.is_keyed.ensures) is worked.of.knows.fixed_is worked.of.knows.legal worked.reports.gains
+          c.requires.alone.all never filled full))
     ]

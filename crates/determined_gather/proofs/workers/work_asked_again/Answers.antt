@@ -30,7 +30,7 @@ returns g c = λ blob served have.
             is = filled.is;
             chunks = λ long n below. elim (filled.chunks long n below) [
               | inl held ↦ inl held
-              | inr busy ↦ elim (g.S.Shelf.lasts.frees _ _ _ first.reports.chunks first.reports.parents n first.reports.gains first.claims busy) [
+              | inr busy ↦ elim (g.S.Shelf.lasts.frees _ _ _ _ first.reports.chunks first.reports.parents n first.reports.gains first.claims busy) [
                 | inl was ↦ inr was
                 | inr held ↦ inl (g.S.Shelf.lasts.chunk _ _ _ second.reports.chunks second.reports.parents n second.reports.gains held)
               ]

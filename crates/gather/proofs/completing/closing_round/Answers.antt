@@ -1,6 +1,6 @@
 use Rattle.gather.proofs.Common.{◌≡◌, ◌==◌, ℕ, Fixed, both_ways, cases_Bool, eq-eqb, eqb-true, inl, inr, length, subst, sym}
 use Rattle.gather.specs.declared.grain.Grain.TheVariants.{Group as ByGroup}
-use Rattle.gather.specs.Available.{HasAllParents, IsFilled, IsServed}
+use Rattle.gather.specs.Available.{IsFilled, IsServed}
 use Rattle.gather.specs.Forms.{made_of}
 use Rattle.gather.specs.Parts.{HaveParts, IsFor}
 use Rattle.gather.proofs.Forming.{later_parts}
@@ -38,7 +38,7 @@ returns-clause-complete g c = λ blob are served have.
             is = then;
             chunks = λ long k below. elim (filled.chunks long k below) [
               | inl held ↦ inl (g.S.Shelf.lasts.chunk _ _ _ second.reports.chunks second.reports.parents k gains held)
-              | inr busy ↦ inr busy
+              | inr busy ↦ inr (g.S.Shelf.lasts.later _ _ _ _ second.reports.chunks second.reports.parents k gains busy)
             ];
           } in
           elim (cases_Bool (n == length blob)) [

@@ -74,14 +74,14 @@ loop-chunk-preserved g c = (
           | inr before ↦ inr (λ n early there. elim (cases_lt n at) [
             | inl sooner ↦ elim (before n sooner there) [
               | inl held ↦ inl (g.S.Shelf.lasts.chunk _ _ _ met.reports.chunks met.reports.parents n met.reports.gains held)
-              | inr busy ↦ inr busy
+              | inr busy ↦ inr (g.S.Shelf.lasts.later _ _ _ _ met.reports.chunks met.reports.parents n met.reports.gains busy)
             ]
             | inr not_sooner ↦
                 let one : n ≡ at = omega (arith, early, not_sooner) in
                 let hit = subst (λ (k : ℕ). has_bit c.with_bit-want.result (k % 64) ≡ true) (sym one) c.with_bit-want.ensures.same in
                 elim (filled n (omega (arith, one), hit)) [
                   | inl held ↦ inl held
-                  | inr busy ↦ elim (g.S.Shelf.lasts.frees _ _ _ x.invariant.1.chunks x.invariant.1.parents n x.invariant.1.gains x.invariant.2 busy) [
+                  | inr busy ↦ elim (g.S.Shelf.lasts.frees _ _ _ _ x.invariant.1.chunks x.invariant.1.parents n x.invariant.1.gains x.invariant.2 busy) [
                     | inl was ↦ inr was
                     | inr held ↦ inl (g.S.Shelf.lasts.chunk _ _ _ met.reports.chunks met.reports.parents n met.reports.gains held)
                   ]

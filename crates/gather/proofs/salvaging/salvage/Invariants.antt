@@ -14,5 +14,5 @@ invariant-loop-chunk g l = g.S.Shelf.has l.shelf l.seat
     × Among (g.S.Shelf.claims l.fn.seat) (g.S.Shelf.claims l.seat)
     × AreLater (made_of l.form g.H.Holder.gives) l.fn.holders l.holders
     × ((blob : List ℕ) → IsFor l.form (g.S.Shelf.fixed_of l.fn.seat) blob → IsServed (g.S.Shelf.fixed_of l.fn.seat) blob → HaveParts l.form ByChunk g.H.Holder.gives (g.S.Shelf.fixed_of l.fn.seat).mode blob l.fn.holders → l.length ≡ length blob
-    → HasFailedSince l.fn.report l.report ⊎ ((c : ℕ) → c < l.chunk → c < chunk_count (length blob) → g.S.Shelf.holds l.seat c ⊎ g.S.Shelf.busy l.fn.seat c))
+    → HasFailedSince l.fn.report l.report ⊎ ((c : ℕ) → c < l.chunk → c < chunk_count (length blob) → g.S.Shelf.holds l.seat c ⊎ g.S.Shelf.busy l.fn.seat l.seat c))
     × g.S.Shelf.records l.seat l.length

@@ -44,13 +44,13 @@ loop-step-preserved g c = (
           | inr before ↦ inr (λ k n early at below. elim (cases_lt k x.step) [
             | inl sooner ↦ elim (before k n sooner at below) [
               | inl held ↦ inl (g.S.Shelf.lasts.chunk _ _ _ met.reports.chunks met.reports.parents n met.reports.gains held)
-              | inr busy ↦ inr busy
+              | inr busy ↦ inr (g.S.Shelf.lasts.later _ _ _ _ met.reports.chunks met.reports.parents n met.reports.gains busy)
             ]
             | inr not_sooner ↦
                 let now : k ≡ x.step = omega (arith, early, not_sooner) in
                 elim (filled n (wanted_there c.chunk_count-chunks.result _ c.mask_below.result c.mask_below.ensures n (at ∙ ap (λ (j : ℕ). (c.from.result * c.min-groups.result / c.from-2.result + j) % c.min-groups.result) now) (omega (arith, chunks, below)))) [
                   | inl held ↦ inl held
-                  | inr busy ↦ elim (g.S.Shelf.lasts.frees _ _ _ x.invariant.1.chunks x.invariant.1.parents n x.invariant.1.gains x.invariant.2 busy) [
+                  | inr busy ↦ elim (g.S.Shelf.lasts.frees _ _ _ _ x.invariant.1.chunks x.invariant.1.parents n x.invariant.1.gains x.invariant.2 busy) [
                     | inl was ↦ inr was
                     | inr held ↦ inl (g.S.Shelf.lasts.chunk _ _ _ met.reports.chunks met.reports.parents n met.reports.gains held)
                   ]

@@ -56,6 +56,11 @@ loop-holder-preserved g c =
               | inr none ↦ inr none
             ]
       ],
+      λ n asked below. elim (x.invariant.8 n asked below) [
+        | inl granted ↦ inl granted
+        | inr (inl held) ↦ inr (inl (g.S.Shelf.lasts.chunk _ _ _ met.reports.chunks met.reports.parents n met.reports.gains held))
+        | inr (inr busy) ↦ inr (inr (g.S.Shelf.lasts.later _ _ _ _ met.reports.chunks met.reports.parents n met.reports.gains busy))
+      ],
     )
 
 pub returns-then-eq-clause-reports : goal.returns-then-eq-clause-reports
@@ -96,8 +101,8 @@ returns-then-left-eq0-2 g c =
           (sym same) x.invariant.1;
       later = subst (λ holders. AreLater (made_of c.args.form.now g.H.Holder.gives) c.args.holders.now holders) (sym same) x.invariant.3;
       claims = among_and_none _ _ group (subst (λ (left : ℕ). AmongAnd (g.S.Shelf.claims c.args.seat.now) group left (g.S.Shelf.claims x.seat)) c.if-left-eq0-2.true x.invariant.2);
-      served = λ blob are served has wanted. inr (λ n asked. elim (c.in-Ok.ensures.rest n asked (omega (arith, (wanted n asked).0, served.room))) [
-        | inr (inl held) ↦ inl (g.S.Shelf.lasts.chunk _ _ _ x.invariant.1.chunks x.invariant.1.parents n x.invariant.1.gains held)
+      served = λ blob are served has wanted. inr (λ n asked. elim (x.invariant.8 n asked (omega (arith, (wanted n asked).0, served.room))) [
+        | inr (inl held) ↦ inl held
         | inr (inr busy) ↦ inr busy
         | inl granted ↦ elim (x.invariant.6 n granted) [
           | inl left ↦ let in_none : in_mask group 0 n ≡ true = subst (λ (mask : ℕ). in_mask group mask n ≡ true) c.if-left-eq0-2.true left.0 in absurd (both_ways _ (in_mask_zero group n) in_none)
@@ -118,9 +123,9 @@ returns-clause-served g c = λ blob are served has wanted.
     ] in
     elim (x.invariant.7 blob are served has over (λ n granted. (wanted n (c.in-Ok.ensures.granted n granted).0).1)) [
       | inl failed ↦ inl failed
-      | inr none ↦ inr (λ n asked. elim (c.in-Ok.ensures.rest n asked (omega (arith, (wanted n asked).0, served.room))) [
-        | inr (inl held) ↦ inl (on n (g.S.Shelf.lasts.chunk _ _ _ x.invariant.1.chunks x.invariant.1.parents n x.invariant.1.gains held))
-        | inr (inr busy) ↦ inr busy
+      | inr none ↦ inr (λ n asked. elim (x.invariant.8 n asked (omega (arith, (wanted n asked).0, served.room))) [
+        | inr (inl held) ↦ inl (on n held)
+        | inr (inr busy) ↦ inr (g.S.Shelf.lasts.later _ _ _ _ _ _ n still busy)
         | inl granted ↦ elim (x.invariant.6 n granted) [
           | inl left ↦ absurd (both_ways _ (none n) left.0)
           | inr held ↦ inl (on n held.1)
@@ -138,6 +143,7 @@ loop-holder-init g c = (
   λ n is. is,
   λ n is. inl (is, (c.in-Ok.ensures.granted n is).1),
   λ blob are served has before bound. absurd (omega (arith, before)),
+  c.in-Ok.ensures.rest,
 )
 
 pub returns-then-eq-clause-served : goal.returns-then-eq-clause-served

@@ -5,7 +5,7 @@ use Rattle.gather.proofs.Common.{sum_by, ◌≡◌, ◌⊎◌, ℕ, ◌<◌, ◌
 use Rattle.gather.specs.Counts.{Reports}
 use Rattle.gather.specs.Holders.{AreLater, IsHanded}
 use Rattle.gather.proofs.worker.work_part.Given as goal
-use Rattle.gather.specs.Available.{HasSlice, IsServed, slice_of}
+use Rattle.gather.specs.Available.{HasSlice, IsServed, IsWanted, slice_of}
 use Rattle.gather.specs.Counts.{HasFailedSince}
 
 abbrev pub invariant-loop-holder : goal.invariant-loop-holder
@@ -19,3 +19,4 @@ invariant-loop-holder g l = g.S.Shelf.has l.shelf l.seat
     × ((blob : List ℕ) → IsFor l.form (g.S.Shelf.fixed_of l.fn.seat) blob → IsServed (g.S.Shelf.fixed_of l.fn.seat) blob
     → (has : HasSlice (made_of l.form g.H.Holder.gives) (g.S.Shelf.fixed_of l.fn.seat).mode blob l.part.start (checked_len l.form l.part) l.fn.holders) → has.place < l.holder-index
     → ((c : ℕ) → in_mask l.group l.granted c ≡ true → holds_chunk (slice_of (g.S.Shelf.fixed_of l.fn.seat) blob l.part.start (checked_len l.form l.part)) c ≡ true) → HasFailedSince l.fn.report l.report ⊎ ((c : ℕ) → in_mask l.group l.left c ≡ false))
+    × ((c : ℕ) → IsWanted l.group l.want c → c < (g.S.Shelf.fixed_of l.fn.seat).capacity → (in_mask l.group l.granted c ≡ true) ⊎ g.S.Shelf.holds l.seat c ⊎ g.S.Shelf.busy l.fn.seat l.seat c)

@@ -1,5 +1,5 @@
 use Rattle.gather.proofs.Alone.{take_claims, take_gains}
-use Rattle.gather.proofs.Knowing.{take_granted}
+use Rattle.gather.proofs.Knowing.{take_granted, take_rest}
 use Rattle.gather.proofs.one.AloneShelf.take.Goals as goal
 
 pub returns-clause-gained : goal.returns-clause-gained
@@ -10,3 +10,6 @@ returns-clause-claims c = take_claims c.args.store.now c.take.new.self c.args.gr
 
 pub returns-clause-granted : goal.returns-clause-granted
 returns-clause-granted c = take_granted c.args.store.now c.take.new.self c.args.group c.args.want c.take.result c.take.ensures.ok
+
+pub returns-clause-rest : goal.returns-clause-rest
+returns-clause-rest c = take_rest c.args.store.now c.take.new.self c.args.group c.args.want c.take.result c.take.ensures.ok
