@@ -1,4 +1,5 @@
 pub mod Effects
+pub mod Gaps
 pub mod ModeWords
 pub mod Numbers
 pub mod Outcome

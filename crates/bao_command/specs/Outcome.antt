@@ -9,6 +9,7 @@ use Rattle.bao_files.specs.Disks.{FileState, KeepsFiles, Unknown}
 use Rattle.bao_request.specs.declared.tasks.Request.{Request}
 use Rattle.bao_request.specs.CommandLine.{AsksFor, AsksForHelp, program_app}
 use Rattle.bao_command.specs.declared.fault.Fault.{Fault}
+use Rattle.bao_command.specs.Gaps.{LeavesListFor}
 use Rattle.bao_command.specs.Status.{status_of}
 use Rattle.bao_command.specs.Refused.{IsBlobFor, IsRefusedFor}
 use Rattle.bao_command.specs.Tasks.{Decodes, Gathers, IsDue, IsPassed, LeavesFilesOf, PrintsBeginning, PrintsLine, Replays}
@@ -39,6 +40,12 @@ abbrev pub LeavesAt : List Text → (List ℕ → FileState) → (List ℕ → F
 LeavesAt words at after status =
     KeepsFiles at after
     ⊎ ((request : Request) × AsksFor words request × ((fault : Fault) × (status_of fault ≡ status) × LeavesFilesOf at after request fault))
+
+-- What the list is then: as it was, or as a fault with this status leaves it.
+abbrev pub LeavesListAt : List Text → Type 0 → (List ℕ → FileState) → (List ℕ → FileState) → ℕ → Type 0
+LeavesListAt words sure at after status =
+    KeepsFiles at after
+    ⊎ ((request : Request) × AsksFor words request × ((fault : Fault) × (status_of fault ≡ status) × LeavesListFor sure at after request fault))
 
 -- there is a fault with this status, and a reason for it in the request, as far as the files are known
 abbrev pub HasReason : (List ℕ → FileState) → Request → ℕ → Type 0

@@ -14,11 +14,12 @@ ghost use Rattle.bao_text.specs.declared.kinds.Part.TheVariants as Part;
 ghost use Rattle.bao_decode.specs.Ranges.{IsVerifiedText, part_bytes, written_count};
 ghost use Rattle.bao_decode.specs.declared.decode_fault.DecodeFault.{DecodeFault};
 ghost use Rattle.bao_command.specs.Effects.{IsRelisted, Writes, list_of};
+ghost use Rattle.bao_command.specs.Gaps.{LeavesListFor, LeavesListOf};
 ghost use Rattle.bao_command.specs.Works.{CopiesRight, CutsRight, DecodesRight, EncodesRight, Leaves};
 ghost use Rattle.bao_command.specs.ModeWords.{MixesKeys};
 ghost use Rattle.bao_request.specs.declared.tasks.Request.{Request};
 ghost use Rattle.bao_tasks.specs.declared.rerun_fault.RerunFault.{RerunFault};
-ghost use Rattle.bao_command.specs.Outcome.{AreRefused, ArePassed, Begun, Done, IsEachFor, IsRefusable, IsUsage, LeavesAt};
+ghost use Rattle.bao_command.specs.Outcome.{AreRefused, ArePassed, Begun, Done, IsEachFor, IsRefusable, IsUsage, LeavesAt, LeavesListAt};
 ghost use Rattle.bao_command.specs.Printed.{CommandPrints, OnPrinted, told_of};
 ghost use Rattle.bao_command.specs.Refused.{IsBlobFor, IsBlobOf, IsRefused, IsRefusedCopy, IsRefusedCut, IsRefusedFor, IsRefusedReplay, IsRefusedText, OfDigits};
 ghost use Rattle.bao_command.specs.Status.{decode_status_of, rerun_status_of, status_of};
@@ -80,6 +81,10 @@ const MOST_CHUNKS: u32 = 65_536;
 /// a fault, and never if the file, or the outboard encoding, doesn't exist. On a disk without faults it comes from gathering only
 /// if no FILE is intact and the FILEs don't have the blob together, each group, or with `--salvage` each chunk, right in one of
 /// them; or two different inputs with one chaining value are exhibited.
+///
+/// On such a disk, LIST is exact after 901, unless memory is refused: no FILE but standard input has a group, or with
+/// `--salvage` a chunk, of its ranges, and some FILE has each other one that was looked for. After another fault of
+/// gathering LIST is empty, if it is made anew.
 pub fn command<R: AllocGlobal + Threads + Sync, D: Disk, O: Write, E: Write, P: Progress + Sync>(
     rt: &R,
     disk: &mut D,
@@ -93,6 +98,7 @@ pub fn command<R: AllocGlobal + Threads + Sync, D: Disk, O: Write, E: Write, P: 
     ensures file_fault { result ≡ 3 → Begun (map string_bytes words.now) (D.at disk.old) (D.at disk.new) (O.contents out.old) (O.contents out.new) }
     ensures fault { result ≢ 0 → result ≢ 3 → Keeps (O.contents out.old) (O.contents out.new) }
     ensures files { result ≢ 0 → LeavesAt (map string_bytes words.now) (D.at disk.old) (D.at disk.new) result }
+    ensures gaps { result ≢ 0 → LeavesListAt (map string_bytes words.now) (D.faultless disk.old) (D.at disk.old) (D.at disk.new) result }
     ensures refused { AreRefused (map string_bytes words.now) → (result ≡ 2) ⊎ (result ≡ 4) }
     ensures usage { result ≡ 2 → IsUsage (map string_bytes words.now) (D.at disk.old) }
     ensures blob { result ≡ 0 → IsEachFor (map string_bytes words.now) (D.faultless disk.old) (D.at disk.old) (D.at disk.new) (O.contents out.old) (O.contents out.new) }
@@ -133,6 +139,7 @@ fn serve<'a, R: AllocGlobal + Threads + Sync, D: Disk, O: Write, E: Write, P: Pr
     ensures out { ReadsOut request.now → IsErr result }
     ensures due { IfErr result (IsDue (D.at disk.old) request.now) }
     ensures listed { IfErr result (IsRelisted (D.at disk.old) (D.at disk.new) (list_of request.now.task)) }
+    ensures gaps { IfErr result (LeavesListFor (D.faultless disk.old) (D.at disk.old) (D.at disk.new) request.now) }
     ensures passed { IfPassed result (IsPassed (D.at disk.old) request.now) }
 {
     check_root(&request.task)?;
@@ -393,6 +400,7 @@ fn serve_task<'a, R: AllocGlobal + Threads + Sync, D: Disk, O: Write, E: Write, 
     ensures blob { OnOk result (IsBlobOf (D.faultless disk.old) (D.at disk.old) (D.at disk.new) mode.now task.now (O.contents out.old) (O.contents out.new)) }
     ensures due { IfErr result (λ fault. (request : Request) → request.task ≡ task.now → IsDue (D.at disk.old) request fault) }
     ensures listed { IfErr result (IsRelisted (D.at disk.old) (D.at disk.new) (list_of task.now)) }
+    ensures gaps { IfErr result (LeavesListOf (D.faultless disk.old) (D.at disk.old) (D.at disk.new) mode.now task.now) }
     ensures passed { IfPassed result ((¬ IsPastOutput task.now) × ¬ HasManyFiles task.now) }
 {
     let alloc = rt.alloc();

@@ -1,6 +1,6 @@
 // Gathering: what the program reports beside its line, and the list of what is missing.
 
-ghost use Rattle.std.specs.Prelude.{◌≡◌, ◌≢◌, ◌⊎◌, ⊤, if◌then◌else◌, ◌-◌, ◌<◌, ◌≤◌, ℕ, List, Option, [], None, length, take, IfErr, IsErrAnd, OnErr, OnOk};
+ghost use Rattle.std.specs.Prelude.{◌≡◌, ◌≢◌, ◌⊎◌, ⊤, if◌then◌else◌, ◌-◌, ◌^◌, ◌<◌, ◌≤◌, ℕ, List, Option, [], None, length, take, IfErr, IsErrAnd, IsSome, OnErr, OnOk};
 ghost use Rattle.bao_command.specs.declared.fault.Fault.TheVariants as Fault;
 ghost use Rattle.gather.specs.declared.grain.Grain.TheVariants as Grain;
 ghost use Rattle.std.specs.Io.KnownBytes.{Appends};
@@ -8,6 +8,7 @@ ghost use Rattle.bao_files.specs.Disks.{KeepsFiles};
 ghost use Rattle.bao_files.specs.Printed.{IsDigits, IsQuiet, ok_line};
 ghost use Rattle.bao_files.specs.declared.fault.FileFault.{FileFault};
 ghost use Rattle.bao_command.specs.Effects.{IsRelisted, Lists, parts_in};
+ghost use Rattle.bao_command.specs.Gaps.{LeavesList};
 ghost use Rattle.bao_tasks.specs.Listed.{lines_of_parts};
 ghost use Rattle.bao_command.specs.Printed.{CommandPrints, OnPrinted};
 ghost use Rattle.bao_command.specs.Refused.{IsEachBlob, IsRefusedGathering, OfRoot};
@@ -247,7 +248,9 @@ pub(crate) fn grain_of(salvage: bool) -> Grain
 }
 
 // How many of the missing ranges are wanted: all for the list, the first ones for `--verbose`, or none.
-pub(crate) fn parts_asked(verbose: bool, list: Option<&str>) -> usize {
+pub(crate) fn parts_asked(verbose: bool, list: Option<&str>) -> usize
+    ensures { IsSome list.entry → result ≡ 2 ^ 64 - 1 }
+{
     match (verbose, list) {
         (_, Some(_)) => usize::MAX,
         (true, None) => MOST_SHOWN,
@@ -358,6 +361,7 @@ pub(crate) fn gather<
         paths.entry.list (O.contents out.old) (O.contents out.new))) }
     ensures usage { IfErr result (λ fault. status_of fault ≡ 2 → KeepsFiles (D.at disk.old) (D.at disk.new)) }
     ensures listed { IfErr result (IsRelisted (D.at disk.old) (D.at disk.new) paths.entry.list) }
+    ensures gaps { IfErr result (LeavesList (D.faultless disk.old) (D.at disk.old) (D.at disk.new) mode.now digits.now how.grain how.capacity how.parts paths.entry.outboard files.now paths.entry.list) }
     ensures few { OnPrinted result (length files.now ≤ 64) }
     ensures many { 64 < length files.now → IsErrAnd result (λ fault. fault ≡ Fault.TooManyFiles) }
     ensures due { IfErr result (λ fault. IsOfFile fault ⊎ ((fault ≡ Fault.Root) × ¬ IsDigits digits.now) ⊎ ((fault ≡ Fault.TooManyFiles) × (64 < length files.now))

@@ -1,6 +1,6 @@
 -- What the sources of files give, and what a try out of them answers.
 use Rattle.std.specs.Borrow.{Bor}
-use Rattle.std.proofs.Common.{◌≡◌, ◌⊎◌, ℕ, zero, suc, ◌-◌, ◌<◌, true, false, List, [], ◌∷◌, ◌++◌, length, Option, None, Some, IfSome, IsSome, is_some, MatchResult, Result, Ok, Err, slice_get, leb, refl, sym, subst, arith, inl, inr, ◌*◌, ◌∙◌, ◌≢◌}
+use Rattle.std.proofs.Common.{◌≡◌, ◌⊎◌, ℕ, zero, suc, ◌<◌, Bool, true, false, if◌then◌else◌, List, [], ◌∷◌, ◌++◌, length, Option, None, Some, IfSome, IsSome, is_some, MatchResult, Result, Ok, Err, slice_get, leb, refl, sym, subst, arith, inl, inr, ◌*◌, ◌∙◌, ◌≢◌}
 use Rattle.std.proofs.lemmas.Bool.Decides.{leb_tells}
 use Rattle.std.proofs.lemmas.Option.{none-some, same_Some, slice_get_within}
 use Rattle.std.specs.Bool.{⊤}
@@ -88,13 +88,13 @@ module _ {S : Type 0} (contents : S → Option (List ℕ)) (faultless : S → Ty
       ]
 
 -- what is cut out of a source's bytes is cut out of the file's
-cut_of : (contents : Option (List ℕ)) (faultless : Type 0) (bytes : Option (List ℕ)) (start len : ℕ) (text : List ℕ) → IfSome bytes (λ s. contents ≡ Some s) → faultless
+pub cut_of : (contents : Option (List ℕ)) (faultless : Type 0) (bytes : Option (List ℕ)) (start len : ℕ) (text : List ℕ) → IfSome bytes (λ s. contents ≡ Some s) → faultless
     → IsCutAt contents faultless start len text → IsCutAt bytes ⊤ start len text
 cut_of contents faultless None start len text known sound cut = tt
 cut_of contents faultless (Some s) start len text known sound cut = λ few.
     elim ((subst (λ (c : Option (List ℕ)). IsCutAt c faultless start len text) known cut) few) [ inl same ↦ inl same | inr lost ↦ absurd (lost.1 sound) ]
 
-part_of : (contents : Option (List ℕ)) (faultless : Type 0) (bytes : Option (List ℕ)) (start len : ℕ) (text : List ℕ) → IfSome bytes (λ s. contents ≡ Some s) → faultless
+pub part_of : (contents : Option (List ℕ)) (faultless : Type 0) (bytes : Option (List ℕ)) (start len : ℕ) (text : List ℕ) → IfSome bytes (λ s. contents ≡ Some s) → faultless
     → IsPartAt contents faultless start len text → IsPartAt bytes ⊤ start len text
 part_of contents faultless None start len text known sound cut = tt
 part_of contents faultless (Some s) start len text known sound cut = λ few.
@@ -286,10 +286,11 @@ not_capacity result met cause helps is = elim (cause gather.Capacity is) [
   | inr other ↦ (let no : gather.Capacity ≡ Unfinished = other in cc)
 ]
 
--- nor is 805 what ended the work at once
-pub not_too_large : (fault : GatheredFault) → open_fault (Err fault) ≡ None → fault ≡ Gather TooLarge → ⊥
-not_too_large fault closed is =
-    let no : Some TooLarge ≡ None = subst (λ (f : GatheredFault). open_fault (Err f) ≡ None) is closed in none-some TooLarge (sym no)
+-- nor is what another file may help with what ended the work at once
+pub not_open : (fault : GatheredFault) (cause : GatherFault) → open_fault (Err fault) ≡ None → is_open cause ≡ true → fault ≡ Gather cause → ⊥
+not_open fault cause closed helps is =
+    let no : (if is_open cause then Some cause else None) ≡ None = subst (λ (f : GatheredFault). open_fault (Err f) ≡ None) is closed in
+    none-some cause (sym (subst (λ (b : Bool). (if b then Some cause else None) ≡ None) helps no))
 
 -- 805 is what one of two tries met
 pub one_large : (result : GatheredFault) (met met' : Option GatherFault) (P : Type 0) → ((fault : GatherFault) → result ≡ Gather fault → (met' ≡ Some fault) ⊎ (fault ≡ Unfinished))

@@ -3,6 +3,7 @@ pub mod Counting
 pub mod FromFiles
 pub mod Gaps
 pub mod Lists
+pub mod MissingInFiles
 pub mod Parts
 pub mod Said
 pub mod Spots

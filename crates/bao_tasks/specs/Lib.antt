@@ -8,5 +8,6 @@ pub mod GatheredFaults
 pub mod Givens
 pub mod Listed
 pub mod Missing
+pub mod MissingInFiles
 pub mod Spots
 pub mod TakenFiles

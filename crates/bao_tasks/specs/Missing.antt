@@ -73,23 +73,22 @@ JudgesUnit contents faultless wanted sources u true = IsLacked contents faultles
 JudgesUnit contents faultless wanted sources u false = IsHad contents faultless wanted sources u
 
 -- The units from `from` up to but not including `at` have this verdict, and unit `at`, if it is one of the `units`, has the other.
-pub record GoesUpTo {S : Type 0} (contents : S → Option (List ℕ)) (faultless : S → Type 0) (wanted : Wanted) (sources : List S) (units : ℕ) (verdict other : Bool) (from at : ℕ) : Type 0 where
+pub record GoesUpTo (judge : ℕ → Bool → Type 0) (units : ℕ) (verdict other : Bool) (from at : ℕ) : Type 0 where
   pub after : from ≤ at
   pub within : at ≤ units
-  pub same : (u : ℕ) → from ≤ u → u < at → JudgesUnit contents faultless wanted sources u verdict
-  pub next : at < units → JudgesUnit contents faultless wanted sources at other
+  pub same : (u : ℕ) → from ≤ u → u < at → judge u verdict
+  pub next : at < units → judge at other
 
--- of the units from `from` on, those from `first` up to but not including `end` are the first that no source has, and the next one isn't lacked
-pub record IsNextGap {S : Type 0} (contents : S → Option (List ℕ)) (faultless : S → Type 0) (wanted : Wanted) (sources : List S) (units from first end : ℕ) : Type 0 where
-  pub before : GoesUpTo contents faultless wanted sources units false true from first
+-- of the units from `from` on, those from `first` up to but not including `end` are the first that are lacked, and the next one isn't
+pub record IsNextGap (judge : ℕ → Bool → Type 0) (units from first end : ℕ) : Type 0 where
+  pub before : GoesUpTo judge units false true from first
   pub some : first < end
-  pub gap : GoesUpTo contents faultless wanted sources units true false first end
+  pub gap : GoesUpTo judge units true false first end
 
 -- these are all the gaps from `from` on, in order
-abbrev pub AreGaps : {S : Type 0} → (S → Option (List ℕ)) → (S → Type 0) → Wanted → List S → ℕ → ℕ → List (ℕ × ℕ) → Type 0
-AreGaps contents faultless wanted sources units from [] = (u : ℕ) → from ≤ u → u < units → IsHad contents faultless wanted sources u
-AreGaps contents faultless wanted sources units from (gap ∷ rest) =
-    IsNextGap contents faultless wanted sources units from gap.0 gap.1 × AreGaps contents faultless wanted sources units gap.1 rest
+abbrev pub AreGaps : (ℕ → Bool → Type 0) → ℕ → ℕ → List (ℕ × ℕ) → Type 0
+AreGaps judge units from [] = (u : ℕ) → from ≤ u → u < units → judge u false
+AreGaps judge units from (gap ∷ rest) = IsNextGap judge units from gap.0 gap.1 × AreGaps judge units gap.1 rest
 
 -- how many units of a blob of `total` bytes are looked for: all, up to 2^22, which are 256 GiB in groups and 4 GiB in chunks
 abbrev pub units_in : Grain → ℕ → ℕ
@@ -114,12 +113,12 @@ pub record Tells (most : ℕ) (parts : MissingParts) (spans : List Span) : Type 
   pub count : parts.count ≡ length spans
   pub bytes : parts.bytes ≡ sum_by span_len spans
 
--- These are the gaps of a blob of `total` bytes, as far as they are looked for.
-pub record AreParts {S : Type 0} (contents : S → Option (List ℕ)) (faultless : S → Type 0) (wanted : Wanted) (sources : List S) (most : ℕ) (parts : MissingParts) : Type 0 where
-  pub looked : parts.looked ≡ place_of wanted.grain parts.total (units_in wanted.grain parts.total)
+-- These are the gaps of a blob of `total` bytes in such units, as far as they are looked for.
+pub record AreParts (judge : ℕ → Bool → Type 0) (grain : Grain) (most : ℕ) (parts : MissingParts) : Type 0 where
+  pub looked : parts.looked ≡ place_of grain parts.total (units_in grain parts.total)
   pub gaps : List (ℕ × ℕ)
-  pub are : AreGaps contents faultless wanted sources (units_in wanted.grain parts.total) 0 gaps
-  pub told : Tells most parts (map (span_of wanted.grain parts.total) gaps)
+  pub are : AreGaps judge (units_in grain parts.total) 0 gaps
+  pub told : Tells most parts (map (span_of grain parts.total) gaps)
 
 -- the length that an encoding begins with, if it has one
 abbrev pub claim_in : List ℕ → Option ℕ
@@ -170,7 +169,7 @@ IsLackOf contents faultless wanted sources most Unasked = ⊥
 IsLackOf contents faultless wanted sources most Starved = Unit {0}
 IsLackOf contents faultless wanted sources most End = HasNoEnd contents faultless wanted sources × ClaimsLength contents faultless wanted sources wanted.form None
 IsLackOf contents faultless wanted sources most (Missing parts) =
-    IsTotal contents faultless wanted sources parts.certified parts.total × AreParts contents faultless wanted sources most parts
+    IsTotal contents faultless wanted sources parts.certified parts.total × AreParts (JudgesUnit contents faultless wanted sources) wanted.grain most parts
 
 -- the same, for this length, certified or claimed
 abbrev pub IsLackBy : {S : Type 0} → (S → Option (List ℕ)) → (S → Type 0) → Wanted → List S → ℕ → ℕ → Bool → Lack → Type 0
@@ -178,4 +177,4 @@ IsLackBy contents faultless wanted sources most total certified Unasked = ⊥
 IsLackBy contents faultless wanted sources most total certified Starved = Unit {0}
 IsLackBy contents faultless wanted sources most total certified End = ⊥
 IsLackBy contents faultless wanted sources most total certified (Missing parts) =
-    (parts.total ≡ total) × (parts.certified ≡ certified) × AreParts contents faultless wanted sources most parts
+    (parts.total ≡ total) × (parts.certified ≡ certified) × AreParts (JudgesUnit contents faultless wanted sources) wanted.grain most parts

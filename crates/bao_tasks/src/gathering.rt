@@ -17,6 +17,8 @@ ghost use Rattle.bao_tasks.specs.FromFiles.{AreEnough, CollidesBeside, CollidesB
 ghost use Rattle.bao_tasks.specs.TakenFiles.{AreKinds, AreOfFiles, Follows, HasSound, IsDrafted, IsOfWriting, IsRightDraft, IsRightOf, IsTried, is_open, open_fault};
 ghost use Rattle.bao_tasks.specs.GatheredFaults.{AreAbsent, IsFirstUnread, IsOfFiles, IsQuietGathered, LooksUnfinished, NamesBeside, NamesFirst, StopsBeside};
 ghost use Rattle.bao_tasks.specs.declared.missing.Lack.TheVariants as Lack;
+ghost use Rattle.bao_tasks.specs.Missing.{IsLackOf};
+ghost use Rattle.bao_tasks.specs.MissingInFiles.{IsLackBeside, IsLackIn, wanted_for};
 ghost use Rattle.bao_tasks.specs.Gathered.{Fits, HasOutlineIn, HasRootAndFits, IsFaultOfOutline, IsWrittenOut, gathered_text};
 ghost use Rattle.bao_tasks.specs.Givens.{given_contents, is_given_faultless, most_bytes, watched_contents, watched_faultless};
 ghost use Rattle.bao_tasks.specs.Worth.{IsWorthAs};
@@ -80,7 +82,7 @@ impl<'a> Wanted<'a> {
         ensures mode { result.mode ≡ self.now.mode.now }
         ensures form { result.form ≡ self.now.form.now }
         ensures grain { result.grain ≡ self.now.how.grain }
-        ensures all { result ≡ record { root = self.now.root.now; mode = self.now.mode.now; form = self.now.form.now; grain = self.now.how.grain } }
+        ensures all { result ≡ wanted_for self.now.root.now self.now.mode.now self.now.form.now self.now.how.grain }
     {
         Windows {
             root: *self.root,
@@ -308,6 +310,7 @@ fn cause_of<'a>(
     ensures met { starved ≡ false → IfSome met (λ fault. result ≡ GatheredFault.Gather fault) }
     ensures none { met ≡ None → IsFirstUnread files.now result }
     ensures unread { (file : Bor (List ℕ)) → result ≡ GatheredFault.File (FileFault.Read file) → (starved ≡ false) × (met ≡ None) }
+    ensures unfinished { result ≡ GatheredFault.Gather GatherFault.Unfinished → (starved ≡ false) × ((met ≡ Some GatherFault.Unfinished) ⊎ ((met ≡ None) × (files.now ≡ []))) }
 {
     if starved {
         return GatheredFault::File(FileFault::Memory);
@@ -326,7 +329,9 @@ fn lack_left<S: Source + Drop, P: Progress>(
     met: Option<GatherFault>,
     taken: &Taken<'_, S, P>,
 ) -> Lack
-    ensures { ((met ≡ Some GatherFault.Unfinished) × (taken.now.starved ≡ false)) ⊎ (result ≡ Lack.Unasked) }
+    ensures unasked { ((met ≡ Some GatherFault.Unfinished) × (taken.now.starved ≡ false)) ⊎ (result ≡ Lack.Unasked) }
+    ensures lack { met ≡ Some GatherFault.Unfinished → taken.now.starved ≡ false → ((wanted.now.how.parts ≡ 0) × (result ≡ Lack.Unasked))
+        ⊎ IsLackOf (watched_contents S.contents) (watched_faultless S.faultless) (wanted_for wanted.now.root.now wanted.now.mode.now wanted.now.form.now wanted.now.how.grain) taken.now.givens.items wanted.now.how.parts result }
 {
     match met {
         Some(GatherFault::Unfinished) if wanted.how.parts > 0 && !taken.starved => {
@@ -513,6 +518,8 @@ fn drafted<'a, R: AllocGlobal + Threads + Sync, D: Disk, P: Progress + Sync>(
         → IsDrafted D.Draft.contents wanted.now.how wanted.now.mode.now blob result ⊎ HasCollision (IsFromFile wanted.now.form.now wanted.now.how.capacity (D.at disk.now) files.now) (fixed_as wanted.now.root.now wanted.now.mode.now wanted.now.how.capacity) blob }
     ensures capacity { IsErrOf result (GatheredFault.Gather GatherFault.Capacity) → (wanted.now.how.capacity ≡ 0) ⊎ (65536 < wanted.now.how.capacity) }
     ensures looked { LooksUnfinished result notes.old.lack notes.new.lack }
+    ensures listed { IsErrOf result (GatheredFault.Gather GatherFault.Unfinished) → D.faultless disk.now
+        → IsLackIn (wanted_for wanted.now.root.now wanted.now.mode.now wanted.now.form.now wanted.now.how.grain) wanted.now.how.capacity wanted.now.how.parts (D.at disk.now) files.now notes.new.lack }
 {
     let alloc = rt.alloc();
     let Ok(kinds) = kinds_of(alloc, disk, files, notes.fates.as_mut_slice()) else {
@@ -566,9 +573,9 @@ fn drafted<'a, R: AllocGlobal + Threads + Sync, D: Disk, P: Progress + Sync>(
 ///
 /// What became of each file is noted in `notes.fates` under its index, as far as that goes, whatever the result; with
 /// `count` also its worth ([`worth_of_encoding`] or [`worth_of_copy`]), unless memory is refused. If the blob stays
-/// unfinished (901), `notes.lack` says what no file has ([`lack_of`]), if `parts` asks for it; otherwise it is unchanged
-/// or `Unasked`. The bytes read are reported to `progress` if the longest file has at least 4 MiB; this doesn't affect
-/// the result.
+/// unfinished (901), `notes.lack` says what no file has ([`lack_of`]), unless `parts` is 0 or there are no files;
+/// otherwise it is unchanged or `Unasked`. The bytes read are reported to `progress` if the longest file has at least
+/// 4 MiB; this doesn't affect the result.
 ///
 /// Refuses with `File` and `Read` of the first file if no file can be read; with `File` and `Memory` if there is none
 /// for a file; with `Gather` if the blob was not gathered (802 only if no store has the capacity); with `File` and
@@ -591,6 +598,11 @@ fn drafted<'a, R: AllocGlobal + Threads + Sync, D: Disk, P: Progress + Sync>(
 /// Whatever the files are, on such a disk what is put at `path` is every blob with this root, and at 902 `NotTheRoot`
 /// there is none; or a collision is exhibited. At 805 `TooLarge`, every blob with this root has more chunks than
 /// `capacity`, or a collision is exhibited; this is for combined encodings only.
+///
+/// At 901 on such a disk, `notes.lack` is exact, unless memory was refused to look for it: no regular file has a group, or
+/// chunk, of the missing ranges, and some file has each other one that was looked for. If the length is certified, some
+/// file certifies it, and it is that of every blob with this root, or a collision is exhibited; otherwise no regular file
+/// has the last chunk. Standard input may have more than what is read of it.
 pub fn gather_on<'a, R: AllocGlobal + Threads + Sync, D: Disk, P: Progress + Sync>(
     rt: &R,
     disk: &mut D,
@@ -621,6 +633,8 @@ pub fn gather_on<'a, R: AllocGlobal + Threads + Sync, D: Disk, P: Progress + Syn
         ⊎ HasCollision (IsFromFile form.now how.capacity (D.at disk.old) files.now) (fixed_as root.now mode.now how.capacity) blob }
     ensures capacity { IsErrOf result (GatheredFault.Gather GatherFault.Capacity) → (how.capacity ≡ 0) ⊎ (65536 < how.capacity) }
     ensures looked { LooksUnfinished result notes.old.lack notes.new.lack }
+    ensures listed { IsErrOf result (GatheredFault.Gather GatherFault.Unfinished) → D.faultless disk.old
+        → IsLackIn (wanted_for root.now mode.now form.now how.grain) how.capacity how.parts (D.at disk.old) files.now notes.new.lack }
 {
     let wanted = Wanted {
         mode,
@@ -648,7 +662,8 @@ pub fn gather_on<'a, R: AllocGlobal + Threads + Sync, D: Disk, P: Progress + Syn
 /// is made from the parents of its outboard encoding and a range of a file.
 ///
 /// Whatever the files are, what is put at `path` is every blob with this root, and at 902 there is none; or such a
-/// collision is exhibited beside the outboard encoding that was accepted.
+/// collision is exhibited beside the outboard encoding that was accepted. At 901 `notes.lack` is exact as
+/// for [`gather_on`], beside that outboard encoding.
 pub fn gather_beside_on<'a, R: AllocGlobal + Threads + Sync, D: Disk, P: Progress + Sync>(
     rt: &R,
     disk: &mut D,
@@ -680,6 +695,8 @@ pub fn gather_beside_on<'a, R: AllocGlobal + Threads + Sync, D: Disk, P: Progres
         ⊎ CollidesBeside (fixed_as root.now mode.now how.capacity) how.capacity (D.at disk.old) files.now blob }
     ensures capacity { IsErrOf result (GatheredFault.Gather GatherFault.Capacity) → (how.capacity ≡ 0) ⊎ (65536 < how.capacity) }
     ensures looked { LooksUnfinished result notes.old.lack notes.new.lack }
+    ensures listed { IsErrOf result (GatheredFault.Gather GatherFault.Unfinished) → D.faultless disk.old
+        → IsLackBeside root.now mode.now how.grain how.capacity how.parts (D.at disk.old) outboard.now files.now notes.new.lack }
 {
     // For the prover alone: the flags of a mode are apart from the tree's.
     mode.is_keyed();

@@ -191,7 +191,7 @@ fn up_to<S: Source>(
 ) -> Result<u64, Memory>
     requires from { from ≤ units }
     requires units { (u : ℕ) → u < units → IsUnit wanted.now u }
-    ensures { IfOk result (GoesUpTo S.contents S.faultless wanted.now sources.now units lacked (not lacked) from) }
+    ensures { IfOk result (GoesUpTo (JudgesUnit S.contents S.faultless wanted.now sources.now) units lacked (not lacked) from) }
 {
     let mut at = from;
     'units: while at < units {
@@ -214,8 +214,8 @@ fn next_gap<S: Source>(
 ) -> Result<Option<(u64, u64)>, Memory>
     requires from { from ≤ units }
     requires units { (u : ℕ) → u < units → IsUnit wanted.now u }
-    ensures none { IfOk result (λ gap. gap ≡ None → AreGaps S.contents S.faultless wanted.now sources.now units from []) }
-    ensures some { IfOk result (λ gap. IfSome gap (λ gap. IsNextGap S.contents S.faultless wanted.now sources.now units from gap.0 gap.1)) }
+    ensures none { IfOk result (λ gap. gap ≡ None → AreGaps (JudgesUnit S.contents S.faultless wanted.now sources.now) units from []) }
+    ensures some { IfOk result (λ gap. IfSome gap (λ gap. IsNextGap (JudgesUnit S.contents S.faultless wanted.now sources.now) units from gap.0 gap.1)) }
 {
     let first = up_to(alloc, wanted, sources, units, from, false, room)?;
     if first >= units {
@@ -303,7 +303,7 @@ fn parts_of<S: Source>(
     certified: bool,
 ) -> Result<MissingParts, Memory>
     requires { (u : ℕ) → u < units_in wanted.now.grain total → IsUnit wanted.now u }
-    ensures parts { IfOk result (AreParts S.contents S.faultless wanted.now sources.now most) }
+    ensures parts { IfOk result (AreParts (JudgesUnit S.contents S.faultless wanted.now sources.now) wanted.now.grain most) }
     ensures total { IfOk result (λ parts. parts.total ≡ total) }
     ensures certified { IfOk result (λ parts. parts.certified ≡ certified) }
 {

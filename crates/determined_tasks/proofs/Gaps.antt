@@ -25,6 +25,9 @@ one_number : (m n : ℕ) (claim : Option ℕ) → claim ≡ Some m → claim ≡
 one_number m n claim p q = cc
 
 module _ {S : Type 0} (contents : S → Option (List ℕ)) (faultless : S → Type 0) (wanted : Wanted) (sources : List S) (sound : AreSound contents faultless sources) where
+  abbrev judge : ℕ → Bool → Type 0
+  judge = JudgesUnit contents faultless wanted sources
+
   -- what none has, none has
   apart : (u : ℕ) → IsLacked contents faultless wanted sources u → IsHad contents faultless wanted sources u → ⊥
   apart u lacked had =
@@ -41,8 +44,8 @@ module _ {S : Type 0} (contents : S → Option (List ℕ)) (faultless : S → Ty
       (said_is (contents source) (faultless source) (λ text. IsClaim wanted text n) known.0 known.1 known.2 known.3 claims)
 
   -- where the verdict turns
-  one_place : (units : ℕ) (verdict other : Bool) → ((u : ℕ) → JudgesUnit contents faultless wanted sources u verdict → JudgesUnit contents faultless wanted sources u other → ⊥) → (from a b : ℕ)
-      → GoesUpTo contents faultless wanted sources units verdict other from a → GoesUpTo contents faultless wanted sources units verdict other from b → a ≡ b
+  one_place : (units : ℕ) (verdict other : Bool) → ((u : ℕ) → judge u verdict → judge u other → ⊥) → (from a b : ℕ)
+      → GoesUpTo judge units verdict other from a → GoesUpTo judge units verdict other from b → a ≡ b
   one_place units verdict other differ from a b p q = elim (cases_lt a b) [
     | inl less ↦ absurd (differ a (q.same a p.after less) (p.next (omega (arith, less, q.within))))
     | inr above ↦ elim (cases_lt b a) [
@@ -51,27 +54,27 @@ module _ {S : Type 0} (contents : S → Option (List ℕ)) (faultless : S → Ty
     ]
   ]
 
-  one_gap : (units from f e g h : ℕ) → IsNextGap contents faultless wanted sources units from f e → IsNextGap contents faultless wanted sources units from g h → (f ≡ g) × (e ≡ h)
+  one_gap : (units from f e g h : ℕ) → IsNextGap judge units from f e → IsNextGap judge units from g h → (f ≡ g) × (e ≡ h)
   one_gap units from f e g h p q =
       let first : f ≡ g = one_place units false true (λ u had lacked. apart u lacked had) from f g p.before q.before in
-      let gap = subst (λ (n : ℕ). GoesUpTo contents faultless wanted sources units true false n e) first p.gap in
+      let gap = subst (λ (n : ℕ). GoesUpTo judge units true false n e) first p.gap in
       (first, one_place units true false (λ u lacked had. apart u lacked had) g e h gap q.gap)
 
-  no_gap : (units from f e : ℕ) → IsNextGap contents faultless wanted sources units from f e → ((u : ℕ) → from ≤ u → u < units → IsHad contents faultless wanted sources u) → ⊥
+  no_gap : (units from f e : ℕ) → IsNextGap judge units from f e → ((u : ℕ) → from ≤ u → u < units → IsHad contents faultless wanted sources u) → ⊥
   no_gap units from f e p all =
       apart f (p.gap.same f (omega arith) p.some) (all f p.before.after (omega (arith, p.some, p.gap.within)))
 
   one_pair : (x y : ℕ × ℕ) → x.0 ≡ y.0 → x.1 ≡ y.1 → x ≡ y
   one_pair x y first second = λ i. (first i, second i)
 
-  pub one_list : (units from : ℕ) (xs ys : List (ℕ × ℕ)) → AreGaps contents faultless wanted sources units from xs → AreGaps contents faultless wanted sources units from ys → xs ≡ ys
+  pub one_list : (units from : ℕ) (xs ys : List (ℕ × ℕ)) → AreGaps judge units from xs → AreGaps judge units from ys → xs ≡ ys
   one_list units from [] [] p q = refl
   one_list units from [] (y ∷ ys) p q = absurd (no_gap units from y.0 y.1 q.0 p)
   one_list units from (x ∷ xs) [] p q = absurd (no_gap units from x.0 x.1 p.0 q)
   one_list units from (x ∷ xs) (y ∷ ys) p q =
       let same = one_gap units from x.0 x.1 y.0 y.1 p.0 q.0 in
       let rest : xs ≡ ys =
-      one_list units x.1 xs ys p.1 (subst (λ (n : ℕ). AreGaps contents faultless wanted sources units n ys) (sym same.1) q.1) in
+      one_list units x.1 xs ys p.1 (subst (λ (n : ℕ). AreGaps judge units n ys) (sym same.1) q.1) in
       let head : x ≡ y = one_pair x y same.0 same.1 in
       λ i. head i ∷ rest i
 
@@ -83,10 +86,10 @@ module _ {S : Type 0} (contents : S → Option (List ℕ)) (faultless : S → Ty
     p.bytes ∙ ap (λ (s : List Span). sum_by span_len s) same ∙ sym q.bytes,
   )
 
-  one_parts : (most : ℕ) (a b : MissingParts) → AreParts contents faultless wanted sources most a → AreParts contents faultless wanted sources most b → a.total ≡ b.total → SameParts a b
+  one_parts : (most : ℕ) (a b : MissingParts) → AreParts judge wanted.grain most a → AreParts judge wanted.grain most b → a.total ≡ b.total → SameParts a b
   one_parts most a b p q total =
       let gaps : p.gaps ≡ q.gaps =
-      one_list (units_in wanted.grain b.total) 0 p.gaps q.gaps (subst (λ (n : ℕ). AreGaps contents faultless wanted sources (units_in wanted.grain n) 0 p.gaps) total p.are) q.are in
+      one_list (units_in wanted.grain b.total) 0 p.gaps q.gaps (subst (λ (n : ℕ). AreGaps judge (units_in wanted.grain n) 0 p.gaps) total p.are) q.are in
       let looked : a.looked ≡ b.looked =
       p.looked ∙ ap (λ (n : ℕ). place_of wanted.grain n (units_in wanted.grain n)) total ∙ sym q.looked in
       one_telling most a b _ _ (λ i. map (span_of wanted.grain (total i)) (gaps i)) looked p.told q.told

@@ -47,6 +47,9 @@ returns-in-Ok-clause-file_fault g c = λ _.
 pub returns-in-Ok-clause-files : goal.returns-in-Ok-clause-files
 returns-in-Ok-clause-files g c = λ _. inr (c.in-Ok.request, c.in-Ok.ensures.request, (c.in-Err-serve.fault, sym c.report.ensures, c.in-Err-serve.ensures.files))
 
+pub returns-in-Ok-clause-gaps : goal.returns-in-Ok-clause-gaps
+returns-in-Ok-clause-gaps g c = λ _. inr (c.in-Ok.request, c.in-Ok.ensures.request, (c.in-Err-serve.fault, sym c.report.ensures, c.in-Err-serve.ensures.gaps))
+
 pub returns-clause-refused : goal.returns-clause-refused
 returns-clause-refused g c = λ refused. c.answer_clap.ensures.refused (λ help. refused.1 (c.in-Err.ensures.help help))
 

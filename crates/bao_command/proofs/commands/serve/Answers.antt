@@ -14,6 +14,7 @@ use Rattle.bao_command.specs.Refused.{IsBlobFor, IsBlobOf, IsRefused, IsRefusedF
 use Rattle.bao_command.specs.Status.{status_of}
 use Rattle.bao_command.specs.Tasks.{Answers, GoesApart, IsPassed, IsRight, LeavesFiles, LeavesFilesOf, line_of}
 use Rattle.bao_command.proofs.Due.{mode_due, task_due}
+use Rattle.bao_command.proofs.Listing.{list_before, list_for}
 use Rattle.bao_command.proofs.Modes.{mode_answer, mode_refuses_none, mode_relists_none}
 use Rattle.bao_command.proofs.Telling.{never_passed, other_status, passed_of}
 use Rattle.bao_command.proofs.commands.serve.Goals as goal
@@ -130,3 +131,11 @@ pub returns-in_err-mode-clause-listed : goal.returns-in_err-mode-clause-listed
 returns-in_err-mode-clause-listed g c =
     mode_relists_none (g.D.Disk.at c.args.disk.now) (g.D.Disk.at c.args.disk.now) (list_of c.args.request.now.task) c.args.request.now.key_file c.from_residual-in_err-mode.result _
     c.from_residual-in_err-mode.ensures.1 c.in_err-mode.ensures.fault
+
+pub returns-in_err-mode-clause-gaps : goal.returns-in_err-mode-clause-gaps
+returns-in_err-mode-clause-gaps g c = list_before (g.D.Disk.faultless c.args.disk.now) (g.D.Disk.at c.args.disk.now) c.args.request.now c.from_residual-in_err-mode.result
+
+pub returns-in_ok-check_places-clause-gaps : goal.returns-in_ok-check_places-clause-gaps
+returns-in_ok-check_places-clause-gaps g c =
+    list_for (g.D.Disk.faultless c.args.disk.now) (g.D.Disk.at c.args.disk.now) (g.D.Disk.at c.serve_task.new.disk) c.args.request.now c.in_ok-mode.mode c.serve_task.result c.in_ok-mode.ensures.mode
+    c.serve_task.ensures.gaps

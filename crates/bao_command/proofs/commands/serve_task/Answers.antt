@@ -1,12 +1,13 @@
-use Rattle.std.proofs.Common.{◌≡◌, ◌⊎◌, ◌<◌, ◌≤◌, ◌+◌, ◌-◌, ◌^◌, ℕ, List, None, length, if◌then◌else◌, Result, Ok, Err, IfErr, OnOk, Bor, inl, inr, refl, subst, sym}
+use Rattle.std.proofs.Common.{◌≡◌, ◌⊎◌, ◌<◌, ◌≤◌, ◌+◌, ◌-◌, ◌^◌, ℕ, Bool, List, Vec, Global, Option, None, Some, IsSome, length, if◌then◌else◌, Result, Ok, Err, IfErr, OnOk, Bor, inl, inr, refl, subst, sym}
 use Rattle.b3tree.specs.declared.mode.Mode.{Mode}
 use Rattle.bao_files.specs.Disks.{FileState, KeepsFiles}
 use Rattle.bao_files.specs.Printed.{IsDigits}
 use Rattle.bao_request.specs.declared.tasks.Task.{Task}
-use Rattle.bao_request.specs.declared.tasks.Task.TheVariants.{CutSlice, Decode, DecodeCopy, Encode}
+use Rattle.bao_request.specs.declared.tasks.Task.TheVariants.{CutSlice, Decode, DecodeCopy, Encode, Gather}
 use Rattle.bao_tasks.specs.declared.gathering.Gathering.{Gathering}
 use Rattle.bao_command.specs.declared.fault.Fault.{Fault}
 use Rattle.bao_command.specs.Effects.{IsRelisted, Writes, list_of}
+use Rattle.bao_command.specs.Gaps.{LeavesList, LeavesListOf}
 use Rattle.bao_command.specs.Printed.{CommandPrints, OnPrinted}
 use Rattle.gather.specs.declared.grain.Grain.{Grain}
 use Rattle.gather.specs.declared.grain.Grain.TheVariants.{Group as ByGroup, Chunk as ByChunk}
@@ -15,6 +16,7 @@ use Rattle.bao_command.specs.Status.{status_of}
 use Rattle.bao_command.specs.Tasks.{Decodes, Gathers, HasBadLine, HasBadScript, HasManyFiles, HasNoCapacity, HasRoot, IfPassed, IsNoCapacity, IsPastOutput, IsReplay, IsRight, LeavesFiles, Replays, line_of}
 use Rattle.bao_command.specs.Works.{CopiesRight, CutsRight, DecodesRight, EncodesRight, Leaves, LeavesGathered}
 use Rattle.bao_command.proofs.Due.{decode_due, file_due, gather_due, hash_due, lists_none, replay_due}
+use Rattle.bao_command.proofs.Listing.{no_list, no_list_kept}
 use Rattle.bao_command.proofs.Telling.{always_passed, both_printed, few_passed, no_refusal, no_usage, on_ok, on_printed, range_passed, usage_keeps}
 use Rattle.bao_command.proofs.commands.serve_task.Goals as goal
 
@@ -407,3 +409,65 @@ returns-in-Replay-clause-passed g c =
     subst (λ (task : Task). IfPassed c.replay.result ((¬ IsPastOutput task) × ¬ HasManyFiles task)) (sym c.in-Replay.is)
     (subst (λ (files : List (Bor (List ℕ))). IfPassed c.replay.result ((¬ ⊥) × ¬ (64 < length files))) c.as_slice-files-in-Replay.ensures.value
     (few_passed ⊥ (64 < length c.as_slice-files-in-Replay.result.now) c.replay.result (λ no. no) c.replay.ensures.many))
+
+pub returns-in-Hash-clause-gaps : goal.returns-in-Hash-clause-gaps
+returns-in-Hash-clause-gaps g c =
+    let at = g.D.Disk.at c.args.disk.now in
+    subst (λ (task : Task). IfErr c.hash.result (LeavesListOf (g.D.Disk.faultless c.args.disk.now) at at c.args.mode.now task)) (sym c.in-Hash.is)
+    (no_list_kept at c.hash.result)
+
+pub returns-in-Encode-clause-gaps : goal.returns-in-Encode-clause-gaps
+returns-in-Encode-clause-gaps g c =
+    let at = g.D.Disk.at c.args.disk.now in
+    subst (λ (task : Task). IfErr c.encode.result (LeavesListOf (g.D.Disk.faultless c.args.disk.now) at (g.D.Disk.at c.encode.new.disk) c.args.mode.now task)) (sym c.in-Encode.is)
+    (no_list at (g.D.Disk.at c.encode.new.disk) _ c.encode.result c.encode.ensures.files)
+
+pub returns-in-CutSlice-clause-gaps : goal.returns-in-CutSlice-clause-gaps
+returns-in-CutSlice-clause-gaps g c =
+    let at = g.D.Disk.at c.args.disk.now in
+    subst (λ (task : Task). IfErr c.cut_slice.result (LeavesListOf (g.D.Disk.faultless c.args.disk.now) at (g.D.Disk.at c.cut_slice.new.disk) c.args.mode.now task)) (sym c.in-CutSlice.is)
+    (no_list at (g.D.Disk.at c.cut_slice.new.disk) _ c.cut_slice.result c.cut_slice.ensures.files)
+
+pub returns-in-Decode-clause-gaps : goal.returns-in-Decode-clause-gaps
+returns-in-Decode-clause-gaps g c =
+    let at = g.D.Disk.at c.args.disk.now in
+    subst (λ (task : Task). IfErr c.decode.result (LeavesListOf (g.D.Disk.faultless c.args.disk.now) at (g.D.Disk.at c.decode.new.disk) c.args.mode.now task)) (sym c.in-Decode.is)
+    (no_list at (g.D.Disk.at c.decode.new.disk) _ c.decode.result c.decode.ensures.files)
+
+pub returns-in-DecodeCopy-clause-gaps : goal.returns-in-DecodeCopy-clause-gaps
+returns-in-DecodeCopy-clause-gaps g c =
+    let at = g.D.Disk.at c.args.disk.now in
+    subst (λ (task : Task). IfErr c.decode_beside.result (LeavesListOf (g.D.Disk.faultless c.args.disk.now) at (g.D.Disk.at c.decode_beside.new.disk) c.args.mode.now task)) (sym c.in-DecodeCopy.is)
+    (no_list at (g.D.Disk.at c.decode_beside.new.disk) _ c.decode_beside.result c.decode_beside.ensures.files)
+
+pub returns-in-Replay-clause-gaps : goal.returns-in-Replay-clause-gaps
+returns-in-Replay-clause-gaps g c =
+    let at = g.D.Disk.at c.args.disk.now in
+    subst (λ (task : Task). IfErr c.replay.result (LeavesListOf (g.D.Disk.faultless c.args.disk.now) at at c.args.mode.now task)) (sym c.in-Replay.is)
+    (no_list_kept at c.replay.result)
+
+-- without a list no file has changed, or the fault is one of a file
+pub gathers_list : (sure : Type 0) (at after : List ℕ → FileState) (mode : Mode) (root out : Bor (List ℕ)) (workers capacity parts : ℕ) (long salvage encode : Bool) (outboard missing : Option (Bor (List ℕ)))
+    (files : Vec (Bor (List ℕ)) Global) (result : Result Unit Fault) → (IsSome missing → parts ≡ 2 ^ 64 - 1)
+    → IfErr result (LeavesList sure at after mode root.now (if salvage then ByChunk else ByGroup) capacity parts outboard files.items missing)
+    → IfErr result (LeavesListOf sure at after mode (Gather root workers capacity long outboard salvage encode missing files out))
+gathers_list sure at after mode root out workers capacity parts long salvage encode outboard None files (Ok done) most left = tt
+gathers_list sure at after mode root out workers capacity parts long salvage encode outboard None files (Err fault) most (inl kept) = inl kept
+gathers_list sure at after mode root out workers capacity parts long salvage encode outboard None files (Err fault) most (inr (inl of)) = inr of
+gathers_list sure at after mode root out workers capacity parts long salvage encode outboard None files (Err fault) most (inr (inr gaps)) = inl gaps.1.1.lists
+gathers_list sure at after mode root out workers capacity parts long salvage encode outboard (Some list) files result most left =
+    subst (λ (n : ℕ). IfErr result (LeavesList sure at after mode root.now (if salvage then ByChunk else ByGroup) capacity n outboard files.items (Some list))) (most refl) left
+
+pub returns-in-Gather-clause-gaps : goal.returns-in-Gather-clause-gaps
+returns-in-Gather-clause-gaps g c =
+    let sure : Type 0 = g.D.Disk.faultless c.args.disk.now in
+    let at = g.D.Disk.at c.args.disk.now in
+    let after = g.D.Disk.at c.gather.new.disk in
+    let it = c.in-Gather in
+    let result : Result Unit Fault = c.gather.result in
+    subst (λ (task : Task). IfErr result (LeavesListOf sure at after c.args.mode.now task)) (sym it.is)
+    (gathers_list sure at after c.args.mode.now it.root it.path it.workers it.capacity c.parts_asked.result it.long it.salvage it.encode it.outboard it.missing it.files result c.parts_asked.ensures
+    (subst (λ (files : List (Bor (List ℕ))). IfErr result (LeavesList sure at after c.args.mode.now it.root.now (if it.salvage then ByChunk else ByGroup) it.capacity c.parts_asked.result it.outboard files it.missing))
+    c.as_slice-files.ensures.value
+    (subst (λ (grain : Grain). IfErr result (LeavesList sure at after c.args.mode.now it.root.now grain it.capacity c.parts_asked.result it.outboard c.as_slice-files.result.now it.missing))
+    c.grain_of.ensures c.gather.ensures.gaps)))

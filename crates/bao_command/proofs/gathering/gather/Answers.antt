@@ -17,12 +17,15 @@ use Rattle.bao_files.specs.declared.fault.FileFault.{FileFault}
 use Rattle.bao_files.specs.declared.fault.FileFault.TheVariants as files
 use Rattle.bao_tasks.specs.Listed.{lines_of_parts}
 use Rattle.bao_tasks.specs.declared.missing.Lack.{Lack}
+use Rattle.bao_tasks.specs.declared.missing.Lack.TheVariants.{Unasked}
 use Rattle.bao_command.specs.Effects.{IsRelisted, KeepsButList, Lists, PutsBoth, parts_in}
+use Rattle.bao_command.specs.Gaps.{IsLack}
 use Rattle.bao_command.specs.Printed.{CommandPrints}
 use Rattle.bao_command.specs.Refused.{IsEachBlob, IsRefusedGathering}
 use Rattle.bao_command.specs.Status.{gathered_status_of}
 use Rattle.bao_command.specs.Tasks.{IsBeside, IsNoCapacity, IsOfFile}
 use Rattle.bao_command.specs.Works.{IsRightBlob, LeavesGathered}
+use Rattle.bao_command.proofs.Listing.{list_of_file, not_looked}
 use Rattle.bao_command.proofs.Telling.{file_is_no_usage, file_refuses_none, no_refusal, no_usage, not_relisted, of_file_or, on_line, on_printed, told_prints}
 use Rattle.bao_command.proofs.Refusals.{check_is_no_usage}
 use Rattle.bao_command.proofs.gathering.gather.Goals as goal
@@ -364,3 +367,73 @@ returns-clause-due g c = inr (inr (inr (
 
 pub returns-in-Ok-gathered-clause-few : goal.returns-in-Ok-gathered-clause-few
 returns-in-Ok-gathered-clause-few g c = on_printed c.told.result (omega (arith, c.if-files-gt-MOST_FILES.false))
+
+pub returns-clause-gaps : goal.returns-clause-gaps
+returns-clause-gaps g c =
+    let at = g.D.Disk.at c.args.disk.now in
+    let between = g.D.Disk.at c.match-paths.disk in
+    let after = g.D.Disk.at c.relist-unlisted.new.disk in
+    let how = c.args.how in
+    let list = c.args.paths.list in
+    let root = c.in_ok-root.root in
+    let lack = c.match-paths.notes.lack in
+    let fault = c.in-Err.fault in
+    let kept : KeepsFiles at between = elim c.match-paths.branch [
+      | in-None w ↦
+          subst (λ d. KeepsFiles at (g.D.Disk.at d)) (sym w.disk-is)
+          (subst (λ (r : Result ℕ GatheredFault). OnErr r (KeepsFiles at (g.D.Disk.at w.gather_on-gathered.new.disk))) (sym w.gathered-is ∙ c.in-Err.is) w.gather_on-gathered.ensures.kept)
+      | in-Some w ↦
+          subst (λ d. KeepsFiles at (g.D.Disk.at d)) (sym w.disk-is)
+          (subst (λ (r : Result ℕ GatheredFault). OnErr r (KeepsFiles at (g.D.Disk.at w.gather_beside_on-gathered.new.disk))) (sym w.gathered-is ∙ c.in-Err.is)
+          w.gather_beside_on-gathered.ensures.kept)
+    ] in
+    let unasked : fault ≢ Gather gather.Unfinished → lack ≡ Unasked = λ other. elim c.match-paths.branch [
+      | in-None w ↦
+          subst (λ n. n.lack ≡ Unasked) (sym w.notes-is)
+          (not_looked w.gather_on-gathered.result fault c.in-Ok.notes.lack w.gather_on-gathered.new.notes.lack (sym w.gathered-is ∙ c.in-Err.is) w.gather_on-gathered.ensures.looked c.in-Ok.ensures.lack other)
+      | in-Some w ↦
+          subst (λ n. n.lack ≡ Unasked) (sym w.notes-is)
+          (not_looked w.gather_beside_on-gathered.result fault c.in-Ok.notes.lack w.gather_beside_on-gathered.new.notes.lack (sym w.gathered-is ∙ c.in-Err.is) w.gather_beside_on-gathered.ensures.looked
+          c.in-Ok.ensures.lack other)
+    ] in
+    let right : fault ≡ Gather gather.Unfinished → g.D.Disk.faultless c.args.disk.now → IsLack root c.args.mode.now how.grain how.capacity how.parts at c.args.paths.outboard c.args.files.now lack =
+    λ is sure. elim c.match-paths.branch [
+      | in-None w ↦
+          rw w.in-None.is
+          (subst (λ n. IsLack root c.args.mode.now how.grain how.capacity how.parts at None c.args.files.now n.lack) (sym w.notes-is)
+          (w.gather_on-gathered.ensures.listed (sym w.gathered-is ∙ c.in-Err.is ∙ ap (λ (f : GatheredFault). Err f) is) sure))
+      | in-Some w ↦
+          rw w.in-Some.is
+          (subst (λ n. IsLack root c.args.mode.now how.grain how.capacity how.parts at (Some w.in-Some.outboard) c.args.files.now n.lack) (sym w.notes-is)
+          (w.gather_beside_on-gathered.ensures.listed (sym w.gathered-is ∙ c.in-Err.is ∙ ap (λ (f : GatheredFault). Err f) is) sure))
+    ] in
+    elim c.relist-unlisted.ensures.kept [
+      | inl also ↦ inl (before_put at between after kept also)
+      | inr listed ↦ inr (inr (
+        root,
+        (
+          c.in_ok-root.ensures.ok,
+          record {
+            cause = fault;
+            unlisted = c.relist-unlisted.result;
+            is = refl;
+            lack = lack;
+            lists = lists_after at between after list (lines_of_parts (parts_in lack)) kept listed;
+            unasked = unasked;
+            right = right;
+          },
+        ),
+      ))
+    ]
+
+pub returns-in-Ok-gathered-clause-gaps : goal.returns-in-Ok-gathered-clause-gaps
+returns-in-Ok-gathered-clause-gaps g c =
+    list_of_file (g.D.Disk.faultless c.args.disk.now) (g.D.Disk.at c.args.disk.now) (g.D.Disk.at c.list_nothing.new.disk) c.args.mode.now c.args.digits.now c.args.how.grain c.args.how.capacity
+    c.args.how.parts c.args.paths.outboard c.args.files.now c.args.paths.list c.told.result c.told.ensures.file
+
+pub returns-in_err-list_nothing-in-Ok-gathered-clause-gaps : goal.returns-in_err-list_nothing-in-Ok-gathered-clause-gaps
+returns-in_err-list_nothing-in-Ok-gathered-clause-gaps g c =
+    let quiet = c.in_err-list_nothing-in-Ok-gathered.ensures.quiet in
+    let result : Result Unit Fault = c.from_residual-in_err-list_nothing-in-Ok-gathered.result in
+    list_of_file (g.D.Disk.faultless c.args.disk.now) (g.D.Disk.at c.args.disk.now) (g.D.Disk.at c.list_nothing.new.disk) c.args.mode.now c.args.digits.now c.args.how.grain c.args.how.capacity
+    c.args.how.parts c.args.paths.outboard c.args.files.now c.args.paths.list result (of_residual result _ c.from_residual-in_err-list_nothing-in-Ok-gathered.ensures.1 (quiet.0, quiet.1))

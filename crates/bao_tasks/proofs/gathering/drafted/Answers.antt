@@ -3,15 +3,20 @@ use Rattle.gather.specs.declared.fault.GatherFault.{GatherFault as Cause}
 use Rattle.gather.specs.declared.fault.GatherFault.TheVariants.{Capacity, Starved, TooLarge, Unfinished}
 use Rattle.gather.specs.Large.{HasCollision, fixed_as}
 use Rattle.gather.specs.Lists.{IsFromSource}
+use Rattle.bao_files.specs.Disks.{FileState}
+use Rattle.bao_windows.specs.declared.wanted.Wanted.{Wanted}
 use Rattle.bao_windows.specs.Written.{AreTooLong}
 use Rattle.store_core.specs.declared.fixed.Fixed.{Fixed}
 use Rattle.bao_tasks.specs.declared.gathered_fault.GatheredFault.TheVariants.{File, Gather}
 use Rattle.bao_files.specs.declared.fault.FileFault.TheVariants.{Read}
 use Rattle.bao_tasks.specs.FromFiles.{AreEnough, IsExcusedGathering, IsFromFile, IsInFile, file_bytes}
 use Rattle.bao_tasks.specs.GatheredFaults.{AreAbsent}
+use Rattle.bao_tasks.specs.MissingInFiles.{IsLackIn, wanted_for}
+use Rattle.bao_tasks.specs.declared.missing.Lack.{Lack}
 use Rattle.bao_tasks.specs.TakenFiles.{AreOfFiles, HasSound}
 use Rattle.bao_tasks.specs.Givens.{given_contents, is_given_faultless, most_bytes, watched_contents, watched_faultless}
-use Rattle.bao_tasks.proofs.FromFiles.{drafted_of, excused_end, fault_of, first_unread, long_wider, met_or_pair, no_sources, none_untried, not_capacity, not_of_reading, not_other_root, not_too_large, one_large, pair_of_files, right_draft, same_ok, untried_draft}
+use Rattle.bao_tasks.proofs.FromFiles.{drafted_of, excused_end, fault_of, first_unread, long_wider, met_or_pair, no_sources, none_untried, not_capacity, not_of_reading, not_open, not_other_root, one_large, pair_of_files, right_draft, same_ok, untried_draft}
+use Rattle.bao_tasks.proofs.MissingInFiles.{lack_as}
 use Rattle.bao_tasks.proofs.Together.{all_taken, enough_wider}
 use Rattle.bao_tasks.proofs.gathering.drafted.Given.{Over}
 use Rattle.bao_tasks.proofs.gathering.drafted.Goals as goal
@@ -75,12 +80,47 @@ returns-in-Err-attempt-clause-unread g c = λ path is surely text there.
     let named : c.in-Err-attempt.fault ≡ File (Read path) = cc in not_of_reading c.in-Err-attempt.fault path c.in-Err-attempt.ensures.writing named
 
 pub returns-clause-looked : goal.returns-clause-looked
-returns-clause-looked g c = elim c.lack_left.ensures [
+returns-clause-looked g c = elim c.lack_left.ensures.unasked [
   | inl met ↦
       let said : c.cause_of.result ≡ Gather Unfinished = subst (λ (m : Option Cause). IfSome m (λ f. c.cause_of.result ≡ Gather f)) met.0 (c.cause_of.ensures.met met.1) in
       inl (ap Err said)
   | inr unasked ↦ inr (inr unasked)
 ]
+
+pub returns-clause-listed : goal.returns-clause-listed
+returns-clause-listed g c = λ is surely.
+    let wanted = c.args.wanted.now in
+    let at : List ℕ → FileState = g.D.Disk.at c.args.disk.now in
+    let contents = watched_contents {P = g.row.P.Denot} (given_contents g.D.Input.Source.contents) in
+    let faultless = watched_faultless {P = g.row.P.Denot} (is_given_faultless g.D.Input.Source.faultless) in
+    let sources = c.take_files-2.new.taken.givens.items in
+    let blob : Wanted = wanted_for wanted.root.now wanted.mode.now wanted.form.now wanted.how.grain in
+    let Noted : Lack → Type 0 = IsLackIn blob wanted.how.capacity wanted.how.parts at c.args.files.now in
+    let said : c.cause_of.result ≡ Gather Unfinished = cc in
+    let why = c.cause_of.ensures.unfinished said in
+    elim why.1 [
+      | inl met ↦ elim (c.lack_left.ensures.lack met why.0) [
+        | inl unasked ↦ subst Noted (sym unasked.1) (inl unasked.0)
+        | inr lack ↦
+            lack_as contents faultless (g.D.Disk.faultless c.args.disk.now) blob wanted.how.capacity wanted.how.parts at c.args.files.now sources surely (second_of g (goal.at.returns-clause-listed g c).After-attempt-2)
+            (λ text is. elim (c.take_files.ensures.there refl surely is.0 is.1 text is.2 is.3 is.4) [
+              | inl starved ↦ (let no : true ≡ false = sym (c.take_files-2.ensures.starved starved) ∙ why.0 in cc)
+              | inr has ↦ c.take_files-2.ensures.kept text has
+            ]) c.lack_left.result lack
+      ]
+      | inr none ↦ elim c.lack_left.ensures.unasked [
+        | inl met ↦ (let no : None ≡ Some Unfinished = sym none.0 ∙ met.0 in cc)
+        | inr unasked ↦ subst Noted (sym unasked) (inr none.1)
+      ]
+    ]
+
+pub returns-in-Err-clause-listed : goal.returns-in-Err-clause-listed
+returns-in-Err-clause-listed g c = λ is surely.
+    let left : c.in-Err.fault ≡ Gather Unfinished = cc in absurd (not_open c.in-Err.fault Unfinished c.in-Err.ensures.closed refl left)
+
+pub returns-in-Err-attempt-clause-listed : goal.returns-in-Err-attempt-clause-listed
+returns-in-Err-attempt-clause-listed g c = λ is surely.
+    let left : c.in-Err-attempt.fault ≡ Gather Unfinished = cc in absurd (not_open c.in-Err-attempt.fault Unfinished c.in-Err-attempt.ensures.closed refl left)
 
 pub returns-clause-unread : goal.returns-clause-unread
 returns-clause-unread g c = λ path is surely text there.
@@ -128,7 +168,7 @@ returns-in-Err-clause-right g c = λ surely known blob is.
 pub returns-in-Err-clause-too_large : goal.returns-in-Err-clause-too_large
 returns-in-Err-clause-too_large g c = λ slices surely is.
     let large : c.in-Err.fault ≡ Gather TooLarge = cc in
-    absurd {A = AreTooLong (IsFromFile c.args.wanted.now.form.now c.args.wanted.now.how.capacity (g.D.Disk.at c.args.disk.now) c.args.files.now) (fixed_as c.args.wanted.now.root.now c.args.wanted.now.mode.now c.args.wanted.now.how.capacity) c.args.wanted.now.how.capacity} (not_too_large c.in-Err.fault c.in-Err.ensures.closed large)
+    absurd {A = AreTooLong (IsFromFile c.args.wanted.now.form.now c.args.wanted.now.how.capacity (g.D.Disk.at c.args.disk.now) c.args.files.now) (fixed_as c.args.wanted.now.root.now c.args.wanted.now.mode.now c.args.wanted.now.how.capacity) c.args.wanted.now.how.capacity} (not_open c.in-Err.fault TooLarge c.in-Err.ensures.closed refl large)
 
 pub returns-in-Ok-Some-attempt-clause-available : goal.returns-in-Ok-Some-attempt-clause-available
 returns-in-Ok-Some-attempt-clause-available g c = λ surely known blob enough.
@@ -155,7 +195,7 @@ returns-in-Err-attempt-clause-right g c = λ surely known blob is.
 pub returns-in-Err-attempt-clause-too_large : goal.returns-in-Err-attempt-clause-too_large
 returns-in-Err-attempt-clause-too_large g c = λ slices surely is.
     let large : c.in-Err-attempt.fault ≡ Gather TooLarge = cc in
-    absurd {A = AreTooLong (IsFromFile c.args.wanted.now.form.now c.args.wanted.now.how.capacity (g.D.Disk.at c.args.disk.now) c.args.files.now) (fixed_as c.args.wanted.now.root.now c.args.wanted.now.mode.now c.args.wanted.now.how.capacity) c.args.wanted.now.how.capacity} (not_too_large c.in-Err-attempt.fault c.in-Err-attempt.ensures.closed large)
+    absurd {A = AreTooLong (IsFromFile c.args.wanted.now.form.now c.args.wanted.now.how.capacity (g.D.Disk.at c.args.disk.now) c.args.files.now) (fixed_as c.args.wanted.now.root.now c.args.wanted.now.mode.now c.args.wanted.now.how.capacity) c.args.wanted.now.how.capacity} (not_open c.in-Err-attempt.fault TooLarge c.in-Err-attempt.ensures.closed refl large)
 
 pub returns-clause-available : goal.returns-clause-available
 returns-clause-available g c = λ surely known blob enough.

@@ -4,6 +4,7 @@ use Rattle.std.proofs.lemmas.Result.{err_from_is_err_and}
 use Rattle.b3tree.specs.Valid.{AreBytes}
 use Rattle.bao_decode.specs.Copies.{IsEnoughOf}
 use Rattle.bao_files.specs.Disks.{FileState}
+use Rattle.gather.specs.declared.fault.GatherFault.TheVariants.{Unfinished}
 use Rattle.gather.specs.declared.form.Form.TheVariants.{Bare}
 use Rattle.gather.specs.Large.{fixed_as}
 use Rattle.bao_tasks.specs.FromFiles.{CollidesBeside, IsPutAt, IsRightAt}
@@ -11,7 +12,7 @@ use Rattle.store_core.specs.declared.fixed.Fixed.{Fixed}
 use Rattle.bao_tasks.specs.Gathered.{HasOutlineIn}
 use Rattle.bao_tasks.proofs.Beside.{are_of, beside_of, outlined_of, outline_in, own_faultless, own_outline, where_ok}
 use Rattle.bao_tasks.specs.declared.gathered_fault.GatheredFault.{GatheredFault}
-use Rattle.bao_tasks.specs.declared.gathered_fault.GatheredFault.TheVariants.{File}
+use Rattle.bao_tasks.specs.declared.gathered_fault.GatheredFault.TheVariants.{File, Gather}
 use Rattle.bao_tasks.specs.GatheredFaults.{IsFirstUnread, NamesBeside, NamesFirst, StopsBeside}
 use Rattle.bao_files.specs.declared.fault.FileFault.{FileFault}
 use Rattle.bao_files.specs.declared.fault.FileFault.TheVariants.{Memory, Read}
@@ -116,3 +117,24 @@ returns-clause-right g c = λ surely known blob is.
     c.args.how.capacity at c.args.outboard.now c.args.files.now blob text (are_of (at c.args.outboard.now) c.args.mode.now c.args.root.now.0 text read (c.in-Ok.ensures.accepted.0 refl)
     (subst AreBytes (c.as_slice.ensures.value ∙ sym c.as_slice-2.ensures.value) c.bytes_are.ensures))
     c.in-Ok.ensures.outline (c.gather_on.ensures.right surely known blob is)
+
+pub returns-in_err-text-clause-listed : goal.returns-in_err-text-clause-listed
+returns-in_err-text-clause-listed g c = λ is surely.
+    let exit = err_from_is_err_and c.from_residual.result c.from_residual.ensures.1 in
+    let no : Gather Unfinished ≡ File c.in_err-text.field-0.0 = cc in cc
+
+pub returns-clause-listed : goal.returns-clause-listed
+returns-clause-listed g c = λ is surely.
+    let state : FileState = g.D.Disk.at c.args.disk.now c.args.outboard.now in
+    let text : List ℕ = c.as_slice-2.result.now in
+    let read : IsEnoughOf c.args.mode.now c.args.root.now.0 state text =
+    subst (λ (t : List ℕ). IsEnoughOf c.args.mode.now c.args.root.now.0 state t) (sym c.as_slice-2.ensures.value) c.in_ok-text.ensures.enough in
+    let accepted = c.in-Ok.ensures.accepted.0 refl in
+    record {
+      text = text;
+      of = are_of state c.args.mode.now c.args.root.now.0 text read accepted (subst AreBytes (c.as_slice.ensures.value ∙ sym c.as_slice-2.ensures.value) c.bytes_are.ensures);
+      accepted = accepted;
+      form = Bare (record { ref_ptr = (0, 0); now = c.in-Ok.outline });
+      outline = c.in-Ok.ensures.outline;
+      noted = c.gather_on.ensures.listed is surely;
+    }

@@ -4,7 +4,7 @@ use Rattle.bao_files.specs.declared.fault.FileFault.{FileFault}
 use Rattle.bao_files.specs.declared.fault.FileFault.TheVariants.{Memory, Read, Write}
 use Rattle.bao_files.specs.Disks.{Puts}
 use Rattle.std.proofs.lemmas.Result.{err_from_is_err_and}
-use Rattle.gather.specs.declared.fault.GatherFault.TheVariants.{NotTheRoot, TooLarge}
+use Rattle.gather.specs.declared.fault.GatherFault.TheVariants.{NotTheRoot, TooLarge, Unfinished}
 use Rattle.bao_tasks.specs.declared.gathered_fault.GatheredFault.{GatheredFault}
 use Rattle.bao_tasks.specs.declared.gathered_fault.GatheredFault.TheVariants.{File, Gather}
 use Rattle.bao_tasks.specs.FromFiles.{IsExcusedGathering}
@@ -90,3 +90,15 @@ returns-in_err-count-clause-too_large g c = λ slices surely is.
     let exit = err_from_is_err_and c.from_residual.result c.from_residual.ensures.1 in
     let large : exit.0 ≡ Gather TooLarge = err_same c.from_residual.result exit.0 (Gather TooLarge) exit.1 is in
     c.in_err-count.ensures.too_large slices surely (ap Err (sym exit.2 ∙ large))
+
+pub returns-in_err-count-clause-listed : goal.returns-in_err-count-clause-listed
+returns-in_err-count-clause-listed g c = λ is surely.
+    let exit = err_from_is_err_and c.from_residual.result c.from_residual.ensures.1 in
+    let left : exit.0 ≡ Gather Unfinished = err_same c.from_residual.result exit.0 (Gather Unfinished) exit.1 is in
+    c.in_err-count.ensures.listed (ap Err (sym exit.2 ∙ left)) surely
+
+pub returns-in_err-finish-clause-listed : goal.returns-in_err-finish-clause-listed
+returns-in_err-finish-clause-listed g c = λ is surely.
+    let exit = err_from_is_err_and c.from_residual-in_err-finish.result c.from_residual-in_err-finish.ensures.1 in
+    let left : exit.0 ≡ Gather Unfinished = err_same c.from_residual-in_err-finish.result exit.0 (Gather Unfinished) exit.1 is in
+    let no : Gather Unfinished ≡ File c.in_err-finish.field-0.0 = sym left ∙ exit.2 in cc

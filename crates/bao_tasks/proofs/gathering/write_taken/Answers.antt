@@ -1,4 +1,4 @@
-use Rattle.std.proofs.Common.{Ok, Err, ℕ, ◌≡◌, ◌⊎◌, ◌<◌, ◌∙◌, ap, refl, subst}
+use Rattle.std.proofs.Common.{Ok, Err, ◌≡◌, ◌⊎◌, ◌<◌, ◌∙◌, ap, refl, subst}
 use Rattle.bao_windows.specs.declared.fault.WindowsFault.TheVariants as windows
 use Rattle.bao_windows.specs.Written.{IsOfWindows}
 use Rattle.bao_tasks.specs.Givens.{watched_contents, watched_faultless}

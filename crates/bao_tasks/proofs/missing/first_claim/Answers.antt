@@ -1,4 +1,4 @@
-use Rattle.std.proofs.Common.{◌≡◌, ℕ, Option, Some, length, slice_get, refl, subst, arith}
+use Rattle.std.proofs.Common.{ℕ, Option, length, refl, subst, arith}
 use Rattle.std.proofs.lemmas.Option.{slice_get_read, slice_get_within}
 use Rattle.bao_tasks.specs.Missing.{JudgesClaim}
 use Rattle.bao_tasks.specs.Worth.{IsSaidOf}

@@ -23,7 +23,7 @@ loop-source-preserved g c =
     let found : slice_get sources at ≡ Some item = slice_get_read sources (length sources) at item refl c.loop-source-test.true c.source-item.is in
     let lacks = subst (λ (b : Bool). IsSaidOf (g.S.Source.contents item) (g.S.Source.faultless item) (λ bytes. JudgesGroup b (HasUnit c.args.wanted.now c.args.unit bytes)))
     c.if-not-branch.false c.in_ok-lacks_unit.ensures in
-    lacked_more g.S.Source.contents g.S.Source.faultless c.args.wanted.now sources 0 c.args.unit at item found lacks c.loop-source.invariant
+    lacked_more g.S.Source.contents g.S.Source.faultless c.args.wanted.now sources c.args.unit at item found lacks c.loop-source.invariant
 
 pub returns : goal.returns
 returns g c = λ i source found.

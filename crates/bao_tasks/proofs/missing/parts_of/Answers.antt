@@ -1,6 +1,6 @@
 use Rattle.std.proofs.Common.{◌≡◌, ◌∙◌, ℕ, ◌+◌, ◌-◌, ◌≤◌, [], ◌∷◌, ◌++◌, map, Option, IfSome, ap, subst, sym, arith}
 use Rattle.std.proofs.lemmas.List.{map-append}
-use Rattle.bao_tasks.specs.Missing.{AreGaps, IsNextGap, Tells, place_of, span_len, span_of}
+use Rattle.bao_tasks.specs.Missing.{AreGaps, IsNextGap, JudgesUnit, Tells, place_of, span_len, span_of}
 use Rattle.bao_tasks.specs.declared.missing.Span.{Span}
 use Rattle.bao_tasks.proofs.Gaps.{bytes_more, gap_more, gaps_all, parts_all}
 use Rattle.bao_tasks.proofs.missing.parts_of.Goals as goal
@@ -11,8 +11,8 @@ returns-in_default-clause-parts g c =
     let sources = c.args.sources.now in
     let units : ℕ = c.units_of-units.result in
     let so_far = c.gaps.invariant.gaps in
-    let all = gaps_all g.S.Source.contents g.S.Source.faultless wanted sources units c.gaps.from so_far.0 so_far.2 (c.in_ok-gap.ensures.none c.in_default.is) in
-    parts_all g.S.Source.contents g.S.Source.faultless wanted sources units c.args.most c.gaps.parts c.args.total so_far.0 c.gaps.invariant.total c.units_of-units.ensures c.gaps.invariant.looked so_far.1 all
+    let all = gaps_all (JudgesUnit g.S.Source.contents g.S.Source.faultless wanted sources) units c.gaps.from so_far.0 so_far.2 (c.in_ok-gap.ensures.none c.in_default.is) in
+    parts_all (JudgesUnit g.S.Source.contents g.S.Source.faultless wanted sources) units wanted.grain c.args.most c.gaps.parts c.args.total so_far.0 c.gaps.invariant.total c.units_of-units.ensures c.gaps.invariant.looked so_far.1 all
 
 pub returns-clause-parts : goal.returns-clause-parts
 returns-clause-parts g c =
@@ -20,10 +20,10 @@ returns-clause-parts g c =
     let sources = c.args.sources.now in
     let units : ℕ = c.units_of-units.result in
     let so_far = c.gaps.invariant.gaps in
-    let none : AreGaps g.S.Source.contents g.S.Source.faultless wanted sources units c.gaps.from [] =
+    let none : AreGaps (JudgesUnit g.S.Source.contents g.S.Source.faultless wanted sources) units c.gaps.from [] =
     (λ u low high. absurd (omega (arith, low, high, c.gaps-test.false))) in
-    let all = gaps_all g.S.Source.contents g.S.Source.faultless wanted sources units c.gaps.from so_far.0 so_far.2 none in
-    parts_all g.S.Source.contents g.S.Source.faultless wanted sources units c.args.most c.gaps.parts c.args.total so_far.0 c.gaps.invariant.total c.units_of-units.ensures c.gaps.invariant.looked so_far.1 all
+    let all = gaps_all (JudgesUnit g.S.Source.contents g.S.Source.faultless wanted sources) units c.gaps.from so_far.0 so_far.2 none in
+    parts_all (JudgesUnit g.S.Source.contents g.S.Source.faultless wanted sources) units wanted.grain c.args.most c.gaps.parts c.args.total so_far.0 c.gaps.invariant.total c.units_of-units.ensures c.gaps.invariant.looked so_far.1 all
 
 pub gaps-preserved : goal.gaps-preserved
 gaps-preserved g c =
@@ -36,8 +36,8 @@ gaps-preserved g c =
     let before = c.gaps.invariant in
     let so_far = before.gaps in
     let spans = (λ (it : ℕ × ℕ). span_of wanted.grain total it) in
-    let next : IsNextGap g.S.Source.contents g.S.Source.faultless wanted sources units from gap.0 gap.1 =
-    subst (λ (o : Option (ℕ × ℕ)). IfSome o (λ it. IsNextGap g.S.Source.contents g.S.Source.faultless wanted sources units from it.0 it.1)) c.in-Some.is c.in_ok-gap.ensures.some in
+    let next : IsNextGap (JudgesUnit g.S.Source.contents g.S.Source.faultless wanted sources) units from gap.0 gap.1 =
+    subst (λ (o : Option (ℕ × ℕ)). IfSome o (λ it. IsNextGap (JudgesUnit g.S.Source.contents g.S.Source.faultless wanted sources) units from it.0 it.1)) c.in-Some.is c.in_ok-gap.ensures.some in
     let part : c.bytes_of.result ≡ span_of wanted.grain total gap = c.bytes_of.ensures in
     let size : span_len c.bytes_of.result ≡ place_of wanted.grain total gap.1 - place_of wanted.grain total gap.0 = ap span_len part in
     let fits : c.gaps.parts.bytes + (place_of wanted.grain total gap.1 - place_of wanted.grain total gap.0) ≤ place_of wanted.grain total gap.1 =
@@ -54,6 +54,6 @@ gaps-preserved g c =
       gaps = (
         so_far.0 ++ gap ∷ [],
         subst (Tells c.args.most c.add.new.self) same (c.in_ok-add.ensures.told (map spans so_far.0) so_far.1),
-        gap_more g.S.Source.contents g.S.Source.faultless wanted sources units from so_far.0 gap so_far.2 next,
+        gap_more (JudgesUnit g.S.Source.contents g.S.Source.faultless wanted sources) units from so_far.0 gap so_far.2 next,
       );
     }

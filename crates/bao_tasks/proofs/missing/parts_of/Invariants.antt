@@ -1,5 +1,5 @@
 use Rattle.std.proofs.Common.{◌≡◌, ℕ, ◌-◌, ◌≤◌, List, ◌++◌, map}
-use Rattle.bao_tasks.specs.Missing.{AreGaps, Tells, place_of, span_of}
+use Rattle.bao_tasks.specs.Missing.{AreGaps, JudgesUnit, Tells, place_of, span_of}
 use Rattle.bao_tasks.proofs.missing.parts_of.Given as goal
 
 -- the gaps so far are those before a place, and what follows them from there on follows them
@@ -13,8 +13,8 @@ invariant-gaps g l = record {
   bytes : l.parts.bytes ≤ place_of l.wanted.grain l.total l.from;
   gaps :
       (gaps : List (ℕ × ℕ)) × Tells l.most l.parts (map (span_of l.wanted.grain l.total) gaps)
-      × ((rest : List (ℕ × ℕ)) → AreGaps g.S.Source.contents g.S.Source.faultless l.wanted l.sources l.units l.from rest
-      → AreGaps g.S.Source.contents g.S.Source.faultless l.wanted l.sources l.units 0 (gaps ++ rest));
+      × ((rest : List (ℕ × ℕ)) → AreGaps (JudgesUnit g.S.Source.contents g.S.Source.faultless l.wanted l.sources) l.units l.from rest
+      → AreGaps (JudgesUnit g.S.Source.contents g.S.Source.faultless l.wanted l.sources) l.units 0 (gaps ++ rest));
 }
 
 abbrev pub decreases-gaps : goal.decreases-gaps

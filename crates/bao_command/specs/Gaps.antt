@@ -1,0 +1,56 @@
+-- which ranges the list has after a fault of gathering
+use Rattle.std.specs.Prelude.{◌≡◌, ◌≢◌, ◌⊎◌, ◌-◌, ◌^◌, ℕ, List, Option, None, Some, if◌then◌else◌}
+use Rattle.std.specs.Borrow.{Bor}
+use Rattle.b3tree.specs.declared.mode.Mode.{Mode}
+use Rattle.b3tree.specs.declared.values.Hash.{Hash as Root32}
+use Rattle.bao_files.specs.Disks.{FileState, KeepsFiles}
+use Rattle.bao_files.specs.declared.fault.FileFault.{FileFault}
+use Rattle.gather.specs.declared.fault.GatherFault.TheVariants.{Unfinished}
+use Rattle.gather.specs.declared.form.Form.TheVariants.{Slices}
+use Rattle.gather.specs.declared.grain.Grain.{Grain}
+use Rattle.gather.specs.declared.grain.Grain.TheVariants.{Group as ByGroup, Chunk as ByChunk}
+use Rattle.bao_tasks.specs.Listed.{lines_of_parts}
+use Rattle.bao_tasks.specs.MissingInFiles.{IsLackBeside, IsLackIn, wanted_for}
+use Rattle.bao_tasks.specs.declared.gathered_fault.GatheredFault.{GatheredFault}
+use Rattle.bao_tasks.specs.declared.gathered_fault.GatheredFault.TheVariants.{Gather as OfGather}
+use Rattle.bao_tasks.specs.declared.missing.Lack.{Lack}
+use Rattle.bao_tasks.specs.declared.missing.Lack.TheVariants.{Unasked}
+use Rattle.bao_request.specs.declared.tasks.Request.{Request}
+use Rattle.bao_request.specs.declared.tasks.Task.{Task}
+use Rattle.bao_request.specs.declared.tasks.Task.TheVariants.{Gather}
+use Rattle.bao_command.specs.declared.fault.Fault.{Fault}
+use Rattle.bao_command.specs.declared.fault.Fault.TheVariants.{Gather as Ungathered}
+use Rattle.bao_command.specs.Effects.{Lists, parts_in}
+use Rattle.bao_command.specs.ModeWords.{HasMode}
+use Rattle.bao_command.specs.Refused.{OfRoot}
+use Rattle.bao_command.specs.Tasks.{IsOfFile}
+
+-- what was found that the files lack: combined encodings, or copies beside the outboard encoding that is named
+abbrev pub IsLack : Root32 → Mode → Grain → ℕ → ℕ → (List ℕ → FileState) → Option (Bor (List ℕ)) → List (Bor (List ℕ)) → Lack → Type 0
+IsLack root mode grain capacity most at None files lack = IsLackIn (wanted_for root mode Slices grain) capacity most at files lack
+IsLack root mode grain capacity most at (Some outboard) files lack = IsLackBeside root mode grain capacity most at outboard.now files lack
+
+-- The list has the ranges that were found missing. On a disk without faults these are right if the blob stayed unfinished. After another fault there are none.
+pub record HasGaps (sure : Type 0) (at after : List ℕ → FileState) (mode : Mode) (grain : Grain) (capacity most : ℕ) (outboard : Option (Bor (List ℕ))) (files : List (Bor (List ℕ))) (list : Option (Bor (List ℕ))) (fault : Fault) (root : Root32) : Type 0 where
+  pub cause : GatheredFault
+  pub unlisted : Option FileFault
+  pub is : fault ≡ Ungathered cause unlisted
+  pub lack : Lack
+  pub lists : Lists at after list (lines_of_parts (parts_in lack))
+  pub unasked : cause ≢ OfGather Unfinished → lack ≡ Unasked
+  pub right : cause ≡ OfGather Unfinished → sure → IsLack root mode grain capacity most at outboard files lack
+
+-- after a fault that isn't one of a file, no file has changed, or the list has these ranges
+abbrev pub LeavesList : Type 0 → (List ℕ → FileState) → (List ℕ → FileState) → Mode → List ℕ → Grain → ℕ → ℕ → Option (Bor (List ℕ)) → List (Bor (List ℕ)) → Option (Bor (List ℕ)) → Fault → Type 0
+LeavesList sure at after mode digits grain capacity most outboard files list fault =
+    KeepsFiles at after ⊎ IsOfFile fault ⊎ OfRoot digits (HasGaps sure at after mode grain capacity most outboard files list fault)
+
+-- so it is of a task that gathers and has a list; others change no file
+abbrev pub LeavesListOf : Type 0 → (List ℕ → FileState) → (List ℕ → FileState) → Mode → Task → Fault → Type 0
+LeavesListOf sure at after mode (Gather root workers capacity long outboard salvage encode (Some list) files out) fault =
+    LeavesList sure at after mode root.now (if salvage then ByChunk else ByGroup) capacity (2 ^ 64 - 1) outboard files.items (Some list) fault
+LeavesListOf sure at after mode task fault = KeepsFiles at after ⊎ IsOfFile fault
+
+-- and of that of the request, in its mode
+abbrev pub LeavesListFor : Type 0 → (List ℕ → FileState) → (List ℕ → FileState) → Request → Fault → Type 0
+LeavesListFor sure at after request fault = KeepsFiles at after ⊎ ((mode : Mode) × HasMode at request mode × LeavesListOf sure at after mode request.task fault)
