@@ -4,8 +4,9 @@
 usage: python3 scripts/laws.py [--list]
 
 At the top of the repository. A law is a public function of a crate determined_*: it asks a call twice of the same, and ensures that both answers are
-equal. A function counts as asked where a law calls it; a method, where a law calls one of its name and names its type. A function without one is named,
-with the reason, in the file no-law.txt beside the laws, in a line `CRATE: FUNCTION, TYPE::METHOD: reason`.
+equal. A function counts as asked where a law calls it; a method, where a law calls one of its name and names its type. One that changes nothing and has
+a clause `result ≡ ..` needs no law: that clause says it. Any other without a law is named, with the reason, in the file no-law.txt beside the laws, in a line
+`CRATE: FUNCTION, TYPE::METHOD: reason`.
 Fails where a public function of a library has neither, or both, or where no-law.txt names one that isn't there.
 --list prints the functions of each crate that have a law. It proves nothing and takes seconds.
 """
@@ -20,7 +21,7 @@ from project import Project, expanded, text_of
 # The crates of laws, and of whose calls each has them. No crate can stand on a static library, so that it has its own; bao_plan's are of any list of its calls.
 OF = {
     "determined_b3": ["b3word", "b3tree", "bao_text"],
-    "determined_check": ["bao_check", "bao_join", "bao_feed", "bao_bind"],
+    "determined_check": ["bao_check", "bao_feed", "bao_bind"],
     "determined_store": ["store_core"],
     "determined_shared": ["store_steps", "store_calls", "store_shared"],
     "determined_gather": ["gather", "crews"],
@@ -37,6 +38,8 @@ ASIDE = re.compile(r"determined_|tests_|.*_scenarios$|examples$|bench$|bao_gathe
 # A call, with the type or module before it, or the dot.
 CALL = re.compile(r"(?:\b(\w+)(?:::<[^>]*>)?::|(\.))?\b(\w+)(?:::<[^>]*>)?\(")
 CLAUSE = re.compile(r"^    (?:requires|ensures)\b")
+# A clause that says what the answer is, in every case.
+SAID = re.compile(r"^\s*ensures(?: [\w-]+)? \{ result ≡ [^→⊎×]*\}$")
 COMMENT = re.compile(r"//[^\n]*")
 
 
@@ -60,6 +63,11 @@ def exported(crate):
 def is_empty(unit):
     """Whether a function has an empty body: then it answers nothing, and is a law itself."""
     return "".join(unit.body).strip().endswith("{}")
+
+
+def is_said(unit):
+    """Whether a clause says what the function answers, and it changes nothing."""
+    return any(SAID.match(it) for it in unit.lines) and not any("&mut" in it or "*mut" in it for it in unit.lines)
 
 
 def public_of(project, crate, with_laws=False):
@@ -135,8 +143,9 @@ def main():
     for crate in crates:
         if ASIDE.match(crate):
             continue
-        public = set(public_of(project, crate))
-        has = {it for it in public if any(law.asks(it) for law in laws.get(crate, []))}
+        functions = public_of(project, crate)
+        public = set(functions)
+        has = {it for it in public if any(law.asks(it) for law in laws.get(crate, [])) or is_said(functions[it]) and it not in why.get(crate, {})}
         bad += look(crate, public, has, set(why.pop(crate, {})))
         if "--list" in sys.argv[1:]:
             print(f"{crate}: {len(has)} of {len(public)}: {' '.join(sorted(has))}")

@@ -119,9 +119,6 @@ OWN = {
     "replay": ["401", "701"],
 }
 
-# Those of a gathering that makes an encoding, and so needs a store.
-STORED = ["401", "801", "806"]
-
 
 @dataclass(frozen=True)
 class Ending:
@@ -151,7 +148,7 @@ class Case:
         self.words, self.files, self.sizes, self.pipes = words, {**files, OUT: KEPT, LIST: KEPT}, sizes or {}, pipes
         # An encoding is kept where it can't be read twice.
         is_kept = words[0] in DECODES and "--outboard" not in words and ("/dev/stdin" in files or bool(pipes))
-        own = OWN[words[0]] + (STORED if "--encode" in words else []) + (["504"] if is_kept else [])
+        own = OWN[words[0]] + (OWN["encode"] if "--encode" in words else []) + (["504"] if is_kept else [])
         self.memory = {f"bao_gather: {it} memory\n".encode() for it in own} | {PLAIN}
         # The first regular FILE is opened once more, which keeps a descriptor for OUT, and what a FILE gives is read by position.
         self.is_placed = words[0] == "gather"

@@ -791,8 +791,8 @@ class Programs:
         name, *given = plain
         try:
             root = self.root_of(given[0]) if name in ("cut-slice", "decode", "decode-slice", "gather", "replay") else None
-            if "--long" in options and ("--encode" in options or options["--capacity"] != "65536"):
-                raise Refused(2, "usage: long excludes capacity and encode")
+            if "--long" in options and options["--capacity"] != "65536":
+                raise Refused(2, "usage: long excludes capacity")
             mode = self.mode_of(options.get("--key"), options.get("--context"), options.get("--key-file"))
             if name in self.OUTS and given[self.OUTS[name]] in self.STANDARD_OUTPUT:
                 raise Refused(2, "usage: OUT is standard output")
@@ -1277,19 +1277,14 @@ class Gathering(Stores):
 class Crews:
     """Texts, holders over them, and the stores that they fill."""
 
-    FAULTS = [901, 902, 903, 801, 802, 805, 806, 901, 902, 903, 911]
-    WORDS = {801: "memory", 802: "capacity", 805: "too large", 806: "memory", 901: "unfinished", 902: "not the root", 903: "memory", 911: "memory"}
+    FAULTS = [901, 902, 903, 805, 901, 902, 903, 911]
+    WORDS = {805: "too large", 901: "unfinished", 902: "not the root", 903: "memory", 911: "memory"}
     RANGES = [(0, 0), (0, 1), (2**64 - 1, 1), (0, 65536), (131072, 65536), (196608, 65536), (262144, 65536), (1023, 2), (130000, 2000), (199999, 1), (1, 2**64 - 1)]
     # What a holder appends to.
     BEFORE = bytes([1, 2])
 
     def __init__(self):
         self.mode, self.blob, self.root, self.texts, self.stores, self.alone = bao.Mode(), b"", bytes(32), {}, {}, None
-
-    def bytes_of(self, source):
-        """The bytes of a source by its word: none where each read fails."""
-        name, *options = source.split(":")
-        return b"" if "breaks" in options else self.texts[name]
 
     def holder(self, word):
         word, _, more = word.partition("/")
@@ -1328,13 +1323,6 @@ class Crews:
                 below = 64 * (left // bao.CHUNK_LEN - 1) + left
                 todo += [(at + left, part - left, place + 64 + below), (at, left, place + 64)]
         return f"{size} bytes, in little room"
-
-    def gathered(self, capacity, grain, texts, outline=None):
-        if not 1 <= capacity <= MAX_CAPACITY:
-            return "802 capacity"
-        grains = [GROUP_LEN] if grain == "group" else [GROUP_LEN, 1]
-        blob = Programs().gathered(self.mode, self.root, capacity, outline, texts, grains)
-        return str(blob) if isinstance(blob, Refused) else told(blob)
 
     def made(self, name, given):
         mode, blob, texts = self.mode, self.blob, self.texts
@@ -1425,13 +1413,6 @@ class Crews:
                 return [self.shrinking(*words)]
             case "endless":
                 return [self.endless(*map(int, words))]
-            case "gather":
-                return [self.gathered(int(words[1]), words[2], [self.texts[it] for it in words[3:]])]
-            case "sources":
-                return [self.gathered(int(words[1]), words[2], [self.bytes_of(it) for it in words[4:]])]
-            case "copies" | "copies_at":
-                outline = Outline(self.mode, self.root, self.texts[words[3]])
-                return [self.gathered(int(words[1]), words[2], [self.bytes_of(it) for it in words[4:]], outline)]
             case "alone":
                 self.alone = Gathering(self.mode, self.root, int(rest))
             case "one":
@@ -1479,7 +1460,6 @@ def examples():
         f"certified length: {len(blob)}",
         text("second chunk", blob[bao.CHUNK_LEN : 2 * bao.CHUNK_LEN]),
         f"hash of what was decoded: {root.hex()}",
-        f"checked by threads: {bao.chunks_of(len(blob))} chunks",
         f"claimed by an outboard in pieces: {len(blob)}",
         "audit: agrees",
         text("combined in a file", encoding),

@@ -40,20 +40,19 @@ decode_due at task NoRoot (Err fault) root decodes (inr (inl due)) = λ request 
     subst (IsDue at request) (sym due.0) (subst (λ (t : Task). ¬ HasRoot t) (sym same) (root due.1))
 decode_due at task NoRoot (Err fault) root decodes (inr (inr due)) = λ request same. subst (IsDue at request) (sym due.1) (subst Decodes (sym same) decodes)
 
-pub gather_due : (at : List ℕ → FileState) (task : Task) (NoRoot Many Bad : Type 0) (result : Result Unit Fault) → (NoRoot → ¬ HasRoot task) → (Many → HasManyFiles task) → Gathers task
-    → (Bad → HasNoCapacity task)
+pub gather_due : (at : List ℕ → FileState) (task : Task) (NoRoot Many : Type 0) (result : Result Unit Fault) → (NoRoot → ¬ HasRoot task) → (Many → HasManyFiles task) → Gathers task
     → IfErr result (λ fault. IsOfFile fault ⊎ ((fault ≡ Root) × NoRoot) ⊎ ((fault ≡ TooManyFiles) × Many)
-    ⊎ ((cause : GatheredFault) × (unlisted : Option FileFault) × (fault ≡ Gather cause unlisted) × (gathered_status_of cause ≡ 2 → Bad)))
+    ⊎ ((cause : GatheredFault) × (unlisted : Option FileFault) × (fault ≡ Gather cause unlisted)))
     → IfErr result (IsDueFor at task)
-gather_due at task NoRoot Many Bad (Ok done) root many gathers bad due = tt
-gather_due at task NoRoot Many Bad (Err fault) root many gathers bad (inl of) = λ request same. file_is_due at request fault of
-gather_due at task NoRoot Many Bad (Err fault) root many gathers bad (inr (inl due)) = λ request same.
+gather_due at task NoRoot Many (Ok done) root many gathers due = tt
+gather_due at task NoRoot Many (Err fault) root many gathers (inl of) = λ request same. file_is_due at request fault of
+gather_due at task NoRoot Many (Err fault) root many gathers (inr (inl due)) = λ request same.
     subst (IsDue at request) (sym due.0) (subst (λ (t : Task). ¬ HasRoot t) (sym same) (root due.1))
-gather_due at task NoRoot Many Bad (Err fault) root many gathers bad (inr (inr (inl due))) = λ request same.
+gather_due at task NoRoot Many (Err fault) root many gathers (inr (inr (inl due))) = λ request same.
     subst (IsDue at request) (sym due.0) (subst HasManyFiles (sym same) (many due.1))
-gather_due at task NoRoot Many Bad (Err fault) root many gathers bad (inr (inr (inr due))) = λ request same.
+gather_due at task NoRoot Many (Err fault) root many gathers (inr (inr (inr due))) = λ request same.
     subst (IsDue at request) (sym due.2)
-    (subst (λ (t : Task). Gathers t × (gathered_status_of due.0 ≡ 2 → HasNoCapacity t)) (sym same) (gathers, λ two. bad (due.3 two)))
+    (subst Gathers (sym same) gathers)
 
 pub replay_due : (at : List ℕ → FileState) (task : Task) (NoRoot Many Bad : Type 0) (result : Result Unit Fault) → (NoRoot → ¬ HasRoot task) → (Many → HasManyFiles task) → Replays task
     → (Bad → HasNoCapacity task ⊎ HasBadScript at task)
@@ -77,7 +76,7 @@ asked task = record { key = None; key_file = None; context = None; verbose = fal
 pub lists_none : (at after : List ℕ → FileState) (task : Task) (list : Option (Bor (List ℕ))) (result : Result Unit Fault) → ¬ Gathers task → IfErr result (IsDueFor at task)
     → IfErr result (IsRelisted at after list)
 lists_none at after task list (Ok done) other due = tt
-lists_none at after task list (Err fault) other due = λ cause is apart. absurd (other (subst (IsDue at (asked task)) is (due (asked task) refl)).0)
+lists_none at after task list (Err fault) other due = λ cause is apart. absurd (other (subst (IsDue at (asked task)) is (due (asked task) refl)))
 
 -- what is due for the task is so for the request
 pub task_due : (at : List ℕ → FileState) (request : Request) (result : Result Unit Fault) → IfErr result (IsDueFor at request.task) → IfErr result (IsDue at request)

@@ -5,7 +5,7 @@ use Rattle.bao_decode.specs.DecodeFaults.{decode_number_of}
 use Rattle.bao_tasks.specs.GatheredFaults.{gathered_number_of}
 use Rattle.bao_tasks.specs.RerunFaults.{rerun_number_of}
 use Rattle.bao_command.specs.declared.fault.Fault.{Fault}
-use Rattle.bao_command.specs.declared.fault.Fault.TheVariants.{Word, Root, Key, KeyAndContext, KeyFile, KeyFileAndOthers, OutputRange, TooManyFiles, OutIsOutput, OutLeadsToOutput, OutIsRead, LongAndOthers, ListIsOut, ListIsRead, ListLeadsToOther, File, Decode, Gather, Replay}
+use Rattle.bao_command.specs.declared.fault.Fault.TheVariants.{Word, Root, Key, KeyAndContext, KeyFile, KeyFileAndOthers, OutputRange, TooManyFiles, OutIsOutput, OutLeadsToOutput, OutIsRead, LongAndCapacity, ListIsOut, ListIsRead, ListLeadsToOther, File, Decode, Gather, Replay}
 
 abbrev pub number_of : Fault → Option ℕ
 number_of Word = None
@@ -19,7 +19,7 @@ number_of TooManyFiles = None
 number_of OutIsOutput = None
 number_of OutLeadsToOutput = None
 number_of OutIsRead = None
-number_of LongAndOthers = None
+number_of LongAndCapacity = None
 number_of ListIsOut = None
 number_of ListIsRead = None
 number_of ListLeadsToOther = None

@@ -5,7 +5,7 @@ use Rattle.bao_files.specs.Printed as file
 use Rattle.bao_files.specs.declared.fault.FileFault.{FileFault}
 use Rattle.bao_files.specs.declared.fault.FileFault.TheVariants as files
 use Rattle.bao_command.specs.declared.fault.Fault.{Fault}
-use Rattle.bao_command.specs.declared.fault.Fault.TheVariants.{Word, Root, Key, KeyAndContext, KeyFile, KeyFileAndOthers, OutputRange, TooManyFiles, OutIsOutput, OutLeadsToOutput, OutIsRead, LongAndOthers, ListIsOut, ListIsRead, ListLeadsToOther, File, Decode, Gather, Replay}
+use Rattle.bao_command.specs.declared.fault.Fault.TheVariants.{Word, Root, Key, KeyAndContext, KeyFile, KeyFileAndOthers, OutputRange, TooManyFiles, OutIsOutput, OutLeadsToOutput, OutIsRead, LongAndCapacity, ListIsOut, ListIsRead, ListLeadsToOther, File, Decode, Gather, Replay}
 
 -- what a fault leaves of the line that was to be printed: a beginning where it is that of standard
 -- output, and nothing else
@@ -21,7 +21,7 @@ CommandLeaves line old new TooManyFiles = Keeps old new
 CommandLeaves line old new OutIsOutput = Keeps old new
 CommandLeaves line old new OutLeadsToOutput = Keeps old new
 CommandLeaves line old new OutIsRead = Keeps old new
-CommandLeaves line old new LongAndOthers = Keeps old new
+CommandLeaves line old new LongAndCapacity = Keeps old new
 CommandLeaves line old new ListIsOut = Keeps old new
 CommandLeaves line old new ListIsRead = Keeps old new
 CommandLeaves line old new ListLeadsToOther = Keeps old new

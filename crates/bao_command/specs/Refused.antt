@@ -69,9 +69,9 @@ IsRefusedCopy at mode outboard copy out key =
 abbrev pub OfRoot : List ℕ → (Root32 → Type 0) → Type 0
 OfRoot digits Holds = (root : Root32) × ((decode_of digits ≡ Ok root.0) × Holds root)
 
--- a blob of so many bytes has room: it may have any length, and its bytes are written; or it has no more chunks than the capacity
-abbrev pub HasPlace : Bool → Bool → ℕ → ℕ → Type 0
-HasPlace encode long capacity n = ((encode ≡ false) × (long ≡ true)) ⊎ (chunk_count n ≤ capacity)
+-- a blob of so many bytes has room: it may have any length, or it has no more chunks than the capacity
+abbrev pub HasPlace : Bool → ℕ → ℕ → Type 0
+HasPlace long capacity n = (long ≡ true) ⊎ (chunk_count n ≤ capacity)
 
 -- One of the files, which isn't standard input, is the combined encoding of the blob; or several of them have it together, each part that they are asked for
 -- whole in one.
@@ -86,12 +86,12 @@ HaveCopy at files grain blob = IsInFile at files blob ⊎ HaveBytes (IsInFile at
 -- No blob came together: on a disk without faults, where it is known what is at OUT, the files don't have the combined encoding of a blob with this root
 -- that has room; or where an outboard encoding is named that is such a blob's own, they don't have its bytes. Or a collision is exhibited, from one of the files.
 -- This is about files that are all known: what comes from a file whose bytes aren't known may be any slice, so also one that collides.
-abbrev pub IsRefusedGathering : Type 0 → (List ℕ → FileState) → Mode → Grain → Bool → Bool → ℕ → Option (Bor (List ℕ)) → List (Bor (List ℕ)) → List ℕ → Root32 → Type 0
-IsRefusedGathering sure at mode grain encode long capacity None files out root =
-    sure → IsKnown (at out) → (blob : List ℕ) → IsBlob (fixed_as root mode capacity) blob → HasPlace encode long capacity (length blob)
+abbrev pub IsRefusedGathering : Type 0 → (List ℕ → FileState) → Mode → Grain → Bool → ℕ → Option (Bor (List ℕ)) → List (Bor (List ℕ)) → List ℕ → Root32 → Type 0
+IsRefusedGathering sure at mode grain long capacity None files out root =
+    sure → IsKnown (at out) → (blob : List ℕ) → IsBlob (fixed_as root mode capacity) blob → HasPlace long capacity (length blob)
     → HaveEncoding at files mode grain blob → HasCollision (IsFromFile Slices capacity at files) (fixed_as root mode capacity) blob
-IsRefusedGathering sure at mode grain encode long capacity (Some outboard) files out root =
-    sure → IsKnown (at out) → (blob : List ℕ) → IsBlob (fixed_as root mode capacity) blob → HasPlace encode long capacity (length blob) → 0 < length blob → length blob < 2 ^ 64
+IsRefusedGathering sure at mode grain long capacity (Some outboard) files out root =
+    sure → IsKnown (at out) → (blob : List ℕ) → IsBlob (fixed_as root mode capacity) blob → HasPlace long capacity (length blob) → 0 < length blob → length blob < 2 ^ 64
     → at outboard.now ≡ Stored (outboard_text mode blob) → HaveCopy at files grain blob → CollidesBeside (fixed_as root mode capacity) capacity at files blob
 
 -- the run of the script stops at a line that isn't legal, or a line's piece isn't accepted
@@ -108,7 +108,7 @@ IsRefused sure at mode (CutSlice root start len outboard file out) = OfDigits ro
 IsRefused sure at mode (Decode root part file out) = OfDigits root.now (IsRefusedText at mode part file.now out.now)
 IsRefused sure at mode (DecodeCopy root outboard copy out) = OfDigits root.now (IsRefusedCopy at mode outboard.now copy.now out.now)
 IsRefused sure at mode (Gather root workers capacity long outboard salvage encode missing files out) =
-    OfRoot root.now (IsRefusedGathering sure at mode (if salvage then ByChunk else ByGroup) encode long capacity outboard files.items out.now)
+    OfRoot root.now (IsRefusedGathering sure at mode (if salvage then ByChunk else ByGroup) long capacity outboard files.items out.now)
 IsRefused sure at mode (Replay root capacity script files) = IsRefusedReplay at mode root.now capacity script.now files.items
 
 -- so has that of the request, in its mode

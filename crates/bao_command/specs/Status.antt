@@ -1,7 +1,7 @@
 -- the exit status of each fault: 1 for a text or a blob that is refused, 2 for usage, 3 for a file, 4 out of memory
 use Rattle.std.specs.Prelude.{ℕ}
 use Rattle.bao_command.specs.declared.fault.Fault.{Fault}
-use Rattle.bao_command.specs.declared.fault.Fault.TheVariants.{Word, Root, Key, KeyAndContext, KeyFile, KeyFileAndOthers, OutputRange, TooManyFiles, OutIsOutput, OutLeadsToOutput, OutIsRead, LongAndOthers, ListIsOut, ListIsRead, ListLeadsToOther, File, Decode, Gather, Replay}
+use Rattle.bao_command.specs.declared.fault.Fault.TheVariants.{Word, Root, Key, KeyAndContext, KeyFile, KeyFileAndOthers, OutputRange, TooManyFiles, OutIsOutput, OutLeadsToOutput, OutIsRead, LongAndCapacity, ListIsOut, ListIsRead, ListLeadsToOther, File, Decode, Gather, Replay}
 use Rattle.bao_check.specs.declared.fault.CheckFault.{CheckFault}
 use Rattle.bao_check.specs.declared.fault.CheckFault.TheVariants as check
 use Rattle.bao_decode.specs.declared.decode_fault.DecodeFault.{DecodeFault}
@@ -36,9 +36,6 @@ decode_status_of (decode.File fault) = file_status_of fault
 decode_status_of (decode.Check fault) = check_status_of fault
 
 abbrev pub gather_status_of : GatherFault → ℕ
-gather_status_of gather.Store = 4
-gather_status_of gather.Seat = 4
-gather_status_of gather.Capacity = 2
 gather_status_of gather.TooLarge = 1
 gather_status_of gather.Unfinished = 1
 gather_status_of gather.NotTheRoot = 1
@@ -75,7 +72,7 @@ status_of TooManyFiles = 2
 status_of OutIsOutput = 2
 status_of OutLeadsToOutput = 2
 status_of OutIsRead = 2
-status_of LongAndOthers = 2
+status_of LongAndCapacity = 2
 status_of ListIsOut = 2
 status_of ListIsRead = 2
 status_of ListLeadsToOther = 2

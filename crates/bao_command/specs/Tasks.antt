@@ -7,7 +7,7 @@ use Rattle.b3tree.specs.declared.values.Hash.{Hash as Root32}
 use Rattle.b3tree.specs.Hashing.{hash, stream}
 use Rattle.b3tree.specs.Valid.{AreBytes}
 use Rattle.bao_command.specs.declared.fault.Fault.{Fault}
-use Rattle.bao_command.specs.declared.fault.Fault.TheVariants.{Word, Root, Key, KeyAndContext, KeyFile, KeyFileAndOthers, OutputRange, TooManyFiles, OutIsOutput, OutLeadsToOutput, OutIsRead, LongAndOthers, ListIsOut, ListIsRead, ListLeadsToOther, File, Decode as Undecoded, Gather as Ungathered, Replay as Unreplayed}
+use Rattle.bao_command.specs.declared.fault.Fault.TheVariants.{Word, Root, Key, KeyAndContext, KeyFile, KeyFileAndOthers, OutputRange, TooManyFiles, OutIsOutput, OutLeadsToOutput, OutIsRead, LongAndCapacity, ListIsOut, ListIsRead, ListLeadsToOther, File, Decode as Undecoded, Gather as Ungathered, Replay as Unreplayed}
 use Rattle.bao_files.specs.declared.fault.FileFault.{FileFault}
 use Rattle.bao_files.specs.declared.fault.FileFault.TheVariants as file
 use Rattle.bao_text.specs.declared.kinds.Part.{Part}
@@ -125,7 +125,7 @@ IsPastOutput task = ⊥
 
 -- A blob of any length is asked for, and a capacity that isn't the one that counts where none is given, or an encoding in its place.
 abbrev pub IsMixed : Task → Type 0
-IsMixed (Gather root workers capacity long outboard salvage encode missing files out) = (long ≡ true) × ((capacity ≢ 65536) ⊎ (encode ≡ true))
+IsMixed (Gather root workers capacity long outboard salvage encode missing files out) = (long ≡ true) × (capacity ≢ 65536)
 IsMixed task = ⊥
 
 -- the task has more than 64 files
@@ -165,7 +165,6 @@ IsNoCapacity capacity = (capacity ≡ 0) ⊎ (65536 < capacity)
 
 -- the task's capacity is such a one
 abbrev pub HasNoCapacity : Task → Type 0
-HasNoCapacity (Gather root workers capacity long outboard salvage encode missing files out) = IsNoCapacity capacity
 HasNoCapacity (Replay root capacity script files) = IsNoCapacity capacity
 HasNoCapacity task = ⊥
 
@@ -209,13 +208,13 @@ IsDue at request TooManyFiles = HasManyFiles request.task
 IsDue at request OutIsOutput = ¬ WritesApart request.task
 IsDue at request OutLeadsToOutput = IsSomeAnd (out_of request.task) (λ out. IsLedTo at out.now (codes "/dev/stdout"))
 IsDue at request OutIsRead = ReadsOutAs (IsLedTo at) request.key_file request.task
-IsDue at request LongAndOthers = IsMixed request.task
+IsDue at request LongAndCapacity = IsMixed request.task
 IsDue at request ListIsOut = ListClashes request.task
 IsDue at request ListIsRead = ReadsList request
 IsDue at request ListLeadsToOther = LeadsListTo at request.key_file request.task
 IsDue at request (File fault) = Unit {0}
 IsDue at request (Undecoded fault) = Decodes request.task
-IsDue at request (Ungathered fault unlisted) = Gathers request.task × (gathered_status_of fault ≡ 2 → HasNoCapacity request.task)
+IsDue at request (Ungathered fault unlisted) = Gathers request.task
 IsDue at request (Unreplayed fault) = Replays request.task × (rerun_status_of fault ≡ 2 → HasNoCapacity request.task ⊎ HasBadScript at request.task)
 
 -- the text, made of bytes, is accepted as that of a part of the blob with this root, in hexadecimal digits
@@ -293,7 +292,7 @@ LeavesOf request at after old new TooManyFiles = Keeps old new
 LeavesOf request at after old new OutIsOutput = Keeps old new
 LeavesOf request at after old new OutLeadsToOutput = Keeps old new
 LeavesOf request at after old new OutIsRead = Keeps old new
-LeavesOf request at after old new LongAndOthers = Keeps old new
+LeavesOf request at after old new LongAndCapacity = Keeps old new
 LeavesOf request at after old new ListIsOut = Keeps old new
 LeavesOf request at after old new ListIsRead = Keeps old new
 LeavesOf request at after old new ListLeadsToOther = Keeps old new

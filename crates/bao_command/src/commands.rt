@@ -132,7 +132,7 @@ fn serve<'a, R: AllocGlobal + Threads + Sync, D: Disk, O: Write, E: Write, P: Pr
     ensures refused { IfErr result (λ fault. status_of fault ≡ 1 → IsRefusedFor (D.faultless disk.old) (D.at disk.old) request.now) }
     ensures blob { OnOk result (IsBlobFor (D.faultless disk.old) (D.at disk.old) (D.at disk.new) request.now (O.contents out.old) (O.contents out.new)) }
     ensures root { ¬ HasRoot request.now.task → IsErrAnd result (λ fault. fault ≡ Fault.Root) }
-    ensures mixed { HasRoot request.now.task → IsMixed request.now.task → IsErrAnd result (λ fault. fault ≡ Fault.LongAndOthers) }
+    ensures mixed { HasRoot request.now.task → IsMixed request.now.task → IsErrAnd result (λ fault. fault ≡ Fault.LongAndCapacity) }
     ensures keys { HasRoot request.now.task → ¬ IsMixed request.now.task → MixesKeys request.now → IsErrAnd result (λ fault. fault ≡ Fault.KeyFileAndOthers) }
     ensures list { ListClashes request.now.task → IsErr result }
     ensures read { ReadsList request.now → IsErr result }
@@ -495,18 +495,17 @@ fn check_root<'a>(task: &Task<'a>) -> Result<(), Fault<'a>>
     }
 }
 
-// Refuses `--long` with `--capacity` or `--encode`. The default capacity is allowed, since `clap` doesn't tell it from an argument.
+// Refuses `--long` with `--capacity`. The default capacity is allowed, since `clap` doesn't tell it from an argument.
 fn check_long<'a>(task: &Task<'a>) -> Result<(), Fault<'a>>
     ensures ok { OnOk result (¬ IsMixed task.now) }
-    ensures err { IfErr result (λ fault. (fault ≡ Fault.LongAndOthers) × IsMixed task.now) }
+    ensures err { IfErr result (λ fault. (fault ≡ Fault.LongAndCapacity) × IsMixed task.now) }
 {
     match task {
         Task::Gather {
             long: true,
             capacity,
-            encode,
             ..
-        } if *encode || *capacity != MOST_CHUNKS => Err(Fault::LongAndOthers),
+        } if *capacity != MOST_CHUNKS => Err(Fault::LongAndCapacity),
         _ => Ok(()),
     }
 }

@@ -47,9 +47,9 @@ pub enum Fault<'a> {
     /// OUT leads to a file that is read, except one of the FILEs of `gather`. Status 2.
     #[error("usage: OUT is a file that is read")]
     OutIsRead,
-    /// `--long` is given with `--encode`, or with a `--capacity` other than 65536. Status 2.
-    #[error("usage: long excludes capacity and encode")]
-    LongAndOthers,
+    /// `--long` is given with a `--capacity` other than 65536. Status 2.
+    #[error("usage: long excludes capacity")]
+    LongAndCapacity,
     /// LIST, the file of `--missing`, has OUT's name, or one of standard output's. Status 2.
     #[error("usage: LIST is OUT or standard output")]
     ListIsOut,
@@ -115,8 +115,6 @@ fn gather_status(fault: GatherFault) -> u8
 {
     match fault {
         GatherFault::TooLarge | GatherFault::Unfinished | GatherFault::NotTheRoot => 1,
-        GatherFault::Capacity => 2,
-        GatherFault::Store | GatherFault::Seat => 4,
         GatherFault::Memory | GatherFault::Starved => 4,
     }
 }
@@ -172,7 +170,7 @@ impl Fault<'_> {
             | Fault::OutIsOutput
             | Fault::OutLeadsToOutput
             | Fault::OutIsRead
-            | Fault::LongAndOthers
+            | Fault::LongAndCapacity
             | Fault::ListIsOut
             | Fault::ListIsRead
             | Fault::ListLeadsToOther => 2,
@@ -199,7 +197,7 @@ impl Fault<'_> {
             | Fault::OutIsOutput
             | Fault::OutLeadsToOutput
             | Fault::OutIsRead
-            | Fault::LongAndOthers
+            | Fault::LongAndCapacity
             | Fault::ListIsOut
             | Fault::ListIsRead
             | Fault::ListLeadsToOther => None,

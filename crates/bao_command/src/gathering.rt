@@ -13,7 +13,7 @@ ghost use Rattle.bao_tasks.specs.Listed.{lines_of_parts};
 ghost use Rattle.bao_command.specs.Printed.{CommandPrints, OnPrinted};
 ghost use Rattle.bao_command.specs.Refused.{IsEachBlob, IsRefusedGathering, OfRoot};
 ghost use Rattle.bao_command.specs.Status.{gathered_status_of, status_of};
-ghost use Rattle.bao_command.specs.Tasks.{IsBeside, IsNoCapacity, IsOfFile};
+ghost use Rattle.bao_command.specs.Tasks.{IsBeside, IsOfFile};
 ghost use Rattle.bao_tasks.specs.declared.gathered_fault.GatheredFault.{GatheredFault};
 ghost use Rattle.bao_command.specs.ReportLines.{claimed_line, part_line as missing_line, parts_line, unlooked_line, worth_line};
 ghost use Rattle.bao_command.specs.Works.{GathersRight, LeavesGathered};
@@ -356,7 +356,7 @@ pub(crate) fn gather<
         × CommandPrints (ok_line (length blob)) (O.contents out.old) (O.contents out.new) result }
     ensures files { IfErr result (LeavesGathered (D.at disk.old) (D.at disk.new) mode.now digits.now how paths.entry.outboard paths.entry.out.now paths.entry.list (length files.now)) }
     ensures refused { IfErr result (λ fault. status_of fault ≡ 1
-        → OfRoot digits.now (IsRefusedGathering (D.faultless disk.old) (D.at disk.old) mode.now how.grain how.encode how.long how.capacity paths.entry.outboard files.now paths.entry.out.now)) }
+        → OfRoot digits.now (IsRefusedGathering (D.faultless disk.old) (D.at disk.old) mode.now how.grain how.long how.capacity paths.entry.outboard files.now paths.entry.out.now)) }
     ensures blob { OnOk result (OfRoot digits.now (IsEachBlob (D.faultless disk.old) (D.at disk.old) (D.at disk.new) mode.now how.encode how.capacity paths.entry.outboard files.now paths.entry.out.now
         paths.entry.list (O.contents out.old) (O.contents out.new))) }
     ensures usage { IfErr result (λ fault. status_of fault ≡ 2 → KeepsFiles (D.at disk.old) (D.at disk.new)) }
@@ -365,7 +365,7 @@ pub(crate) fn gather<
     ensures few { OnPrinted result (length files.now ≤ 64) }
     ensures many { 64 < length files.now → IsErrAnd result (λ fault. fault ≡ Fault.TooManyFiles) }
     ensures due { IfErr result (λ fault. IsOfFile fault ⊎ ((fault ≡ Fault.Root) × ¬ IsDigits digits.now) ⊎ ((fault ≡ Fault.TooManyFiles) × (64 < length files.now))
-        ⊎ ((cause : GatheredFault) × (unlisted : Option FileFault) × (fault ≡ Fault.Gather cause unlisted) × (gathered_status_of cause ≡ 2 → IsNoCapacity how.capacity))) }
+        ⊎ ((cause : GatheredFault) × (unlisted : Option FileFault) × (fault ≡ Fault.Gather cause unlisted))) }
 {
     if files.len() > MOST_FILES {
         return Err(Fault::TooManyFiles);

@@ -70,6 +70,12 @@ pub trait Disk {
     fn is_replaced(&self, draft: &Self::Draft) -> bool
         ensures { IsSome (Self.Draft.contents draft.now) → result ≡ true };
 
+    /// Gives up the draft of the file at `path`, and returns what it has as a file that was opened. It appears nowhere
+    /// then. Refuses with `Write` if it can't be read, and with `Memory`.
+    fn read_back<'a>(&self, draft: Self::Draft, path: &'a str) -> Result<Self::Input, FileFault<'a>>
+        ensures opened { IfOk result (λ input. IfSome (Self.Draft.contents draft) (λ s. (Self.Input.contents input ≡ Some s) × (Self.Input.remaining input ≡ Some s))) }
+        ensures fault { IfErr result (λ fault. (fault ≡ FileFault.Memory) ⊎ (fault ≡ FileFault.Write path.entry)) };
+
     /// Puts the draft of the file at `path` in its place. Refuses with `Write` or `Memory`; all files are then
     /// unchanged, except one that can't be replaced.
     fn finish<'a>(&mut self, draft: Self::Draft, path: &'a str) -> Result<(), FileFault<'a>>

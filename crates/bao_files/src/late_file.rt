@@ -3,7 +3,7 @@ ghost use Rattle.std.specs.Prelude.{◌≡◌, ◌≤◌, IfOk, None, length, st
 use std::alloc::{AllocError, Global};
 use std::cell::Cell;
 use std::fs::{File, Metadata, OpenFile, OpenOptions, TryLockError};
-use std::io::{ErrorKind, Write};
+use std::io::{ErrorKind, Seek, Write};
 use std::os::unix::fs::{MetadataExt, OpenOptionsExt, fchown};
 use std::rt::Files;
 use std::{fs, io};
@@ -158,6 +158,7 @@ impl DraftPlace {
             self.name(suffix)?;
             let mut how = OpenOptions::new();
             match how
+                .read(true)
                 .write(true)
                 .create_new(true)
                 .mode(mode)
@@ -298,6 +299,23 @@ impl<R: Files<File = File>> LateFile<'_, R> {
             Some(file) => file.flush(),
             None => Ok(()),
         }
+    }
+
+    // Takes the file that was written to, as one that is read from its start on.
+    fn rewound(&mut self) -> io::Result<File> {
+        self.put_through()?;
+        let Some(mut file) = self.file.take() else {
+            return Err(io::Error::from(ErrorKind::NotFound));
+        };
+        file.rewind()?;
+        Ok(file)
+    }
+
+    /// Returns what was written, as a file that is read from its start on. It has no name once this one is dropped, and
+    /// nothing can be written or finished after that. Refuses if the path isn't replaced and can't be read.
+    pub fn reopen(&mut self) -> io::Result<File> {
+        let reopened = self.rewound();
+        self.noted(reopened)
     }
 
     /// Puts what was written in its place, if it is replaced, once the device has it. Nothing can be written

@@ -157,6 +157,12 @@ impl Disk for MemoryFiles {
         true
     }
 
+    fn read_back<'p>(&self, draft: Vec<u8>, _path: &'p str) -> Result<HeldInput, FileFault<'p>> {
+        Ok(HeldInput {
+            cursor: Cursor::new(draft),
+        })
+    }
+
     fn finish<'p>(&mut self, draft: Vec<u8>, path: &'p str) -> Result<(), FileFault<'p>> {
         self.put(path, draft)?;
         Ok(())

@@ -117,6 +117,14 @@ impl<'a, R: Files<File = File> + AllocGlobal> Disk for System<'a, R> {
         draft.is_replaced()
     }
 
+    fn read_back<'p>(&self, draft: LateFile<'a, R>, path: &'p str) -> Result<File, FileFault<'p>> {
+        let mut draft = draft;
+        match draft.reopen() {
+            Ok(file) => Ok(file),
+            Err(_) => Err(FileFault::Write(path)),
+        }
+    }
+
     fn finish<'p>(&mut self, draft: LateFile<'a, R>, path: &'p str) -> Result<(), FileFault<'p>> {
         let mut draft = draft;
         match draft.finish() {

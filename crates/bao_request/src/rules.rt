@@ -286,7 +286,7 @@ fn long_flag<'a>(alloc: Global) -> Arg<'a>
     Arg::new(alloc, "long")
         .long("long")
         .action(ArgAction::SetTrue)
-        .help("Allow a blob of any length; not with --capacity or --encode")
+        .help("Allow a blob of any length; not with --capacity")
 }
 
 fn salvage_flag<'a>(alloc: Global) -> Arg<'a>

@@ -1,7 +1,6 @@
 -- What the sources of files give, and what a try out of them answers.
 use Rattle.std.specs.Borrow.{Bor}
-use Rattle.std.proofs.Common.{◌≡◌, ◌⊎◌, ℕ, zero, suc, ◌<◌, Bool, true, false, if◌then◌else◌, List, [], ◌∷◌, ◌++◌, length, Option, None, Some, IfSome, IsSome, is_some, MatchResult, Result, Ok, Err, slice_get, leb, refl, sym, subst, arith, inl, inr, ◌*◌, ◌∙◌, ◌≢◌}
-use Rattle.std.proofs.lemmas.Bool.Decides.{leb_tells}
+use Rattle.std.proofs.Common.{if◌then◌else◌, ◌≡◌, ◌⊎◌, ℕ, zero, suc, ◌<◌, Bool, true, false, List, [], ◌∷◌, ◌++◌, length, Option, None, Some, IfSome, IsSome, is_some, MatchResult, Result, Ok, Err, slice_get, refl, sym, subst, arith, inl, inr, ◌∙◌, ◌≢◌}
 use Rattle.std.proofs.lemmas.Option.{none-some, same_Some, slice_get_within}
 use Rattle.std.specs.Bool.{⊤}
 use Rattle.b3tree.specs.declared.mode.Mode.{Mode}
@@ -9,7 +8,6 @@ use Rattle.b3tree.specs.declared.values.Hash.{Hash}
 use Rattle.bao_files.specs.declared.fault.FileFault.{FileFault}
 use Rattle.bao_files.specs.declared.fault.FileFault.TheVariants as file
 use Rattle.bao_files.specs.Disks.{FileState}
-use Rattle.bao_text.specs.Choice.{chunk_count}
 use Rattle.bao_text.specs.Texts.{combined_text}
 use Rattle.gather.specs.declared.fault.GatherFault.{GatherFault}
 use Rattle.gather.specs.declared.fault.GatherFault.TheVariants.{TooLarge, Unfinished, NotTheRoot, Memory, Starved}
@@ -17,11 +15,10 @@ use Rattle.gather.specs.declared.fault.GatherFault.TheVariants as gather
 use Rattle.gather.specs.declared.form.Form.{Form}
 use Rattle.gather.specs.declared.form.Form.TheVariants.{Slices, Bare}
 use Rattle.gather.specs.Forms.{AreSlices, IsLengthOf}
-use Rattle.gather.specs.HandedOut.{IsHandedOut, own_bytes}
 use Rattle.bao_windows.specs.Written.{AreTooLong}
-use Rattle.gather.specs.Large.{AreLonger, HasCollision, fixed_as}
+use Rattle.gather.specs.Large.{HasCollision, fixed_as}
 use Rattle.gather.specs.Lists.{IsFromSource}
-use Rattle.gather.specs.Parts.{IsBareFor, IsOwn}
+use Rattle.gather.specs.Parts.{IsOwn}
 use Rattle.gather.specs.Places.{IsCutAt, IsPartAt}
 use Rattle.store_core.specs.declared.fixed.Fixed.{Fixed}
 use Rattle.store_core.specs.declared.history.Piece.{Piece}
@@ -142,36 +139,9 @@ pair_as handed root mode m n blob has = record {
 pub same_err : {T E : Type 0} (r : Result T E) (e f : E) → r ≡ Err e → e ≡ f → r ≡ Err f
 same_err {T = T} {E = E} r e f is same = subst (λ (x : E). r ≡ Err x) same is
 
-pub out_as : (handed : Piece → Type 0) (root : Hash) (mode : Mode) (m n : ℕ) (blob : List ℕ) (result : Result (List ℕ) GatherFault)
-    → IsHandedOut own_bytes handed (fixed_as root mode m) blob result → IsHandedOut own_bytes handed (fixed_as root mode n) blob result
-out_as handed root mode m n blob result (inl same) = inl same
-out_as handed root mode m n blob result (inr pair) = inr (pair_as handed root mode m n blob pair)
-
-pub found_as : (handed : Piece → Type 0) (root : Hash) (mode : Mode) (m n : ℕ) (blob found : List ℕ) → (found ≡ blob) ⊎ HasCollision handed (fixed_as root mode m) blob
-    → (found ≡ blob) ⊎ HasCollision handed (fixed_as root mode n) blob
-found_as handed root mode m n blob found (inl same) = inl same
-found_as handed root mode m n blob found (inr pair) = inr (pair_as handed root mode m n blob pair)
-
--- nor in which outline is its own, which claims its length
-pub own_as : (form : Form) (root : Hash) (mode : Mode) (m n : ℕ) (blob : List ℕ) → IsOwn form (fixed_as root mode m) blob → IsOwn form (fixed_as root mode n) blob
-own_as Slices root mode m n blob own = absurd own
-own_as (Bare outline) root mode m n blob own = record {
-  of = record { mode_is = own.of.mode_is; root_is = own.of.root_is; claims = own.of.claims; some = own.of.some };
-  text_is = own.text_is;
-}
-
 pub own_length : (form : Form) (root : Hash) (mode : Mode) (m : ℕ) (blob : List ℕ) → IsOwn form (fixed_as root mode m) blob → IsLengthOf form (length blob)
 own_length Slices root mode m blob own = absurd own
 own_length (Bare outline) root mode m blob own = own.of.claims
-
--- nor in which outline is for it
-pub bare_as : (form : Form) (root : Hash) (mode : Mode) (m n : ℕ) (blob : List ℕ) → IsBareFor form (fixed_as root mode m) blob → IsBareFor form (fixed_as root mode n) blob
-bare_as Slices root mode m n blob bare = absurd bare
-bare_as (Bare outline) root mode m n blob bare = record { mode_is = bare.mode_is; root_is = bare.root_is; claims = bare.claims; some = bare.some }
-
-pub bare_length : (form : Form) (root : Hash) (mode : Mode) (m : ℕ) (blob : List ℕ) → IsBareFor form (fixed_as root mode m) blob → IsLengthOf form (length blob)
-bare_length Slices root mode m blob bare = absurd bare
-bare_length (Bare outline) root mode m blob bare = bare.claims
 
 -- a text that makes a true file of a blob is its combined encoding, or the blob beside its own outboard encoding
 pub by_text : (X : Type 0) (form : Form) (fixed : Fixed) (blob text : List ℕ) → IsTextOf form fixed blob text → (AreSlices form → text ≡ combined_text fixed.mode blob → X)
@@ -224,21 +194,6 @@ pub met_or_pair : (M P Q : Type 0) → M ⊎ Q → (Q → P) → M ⊎ P
 met_or_pair M P Q (inl m) wide = inl m
 met_or_pair M P Q (inr pair) wide = inr (wide pair)
 
--- more bytes than so many chunks have are of more chunks
-more_chunks : (m n : ℕ) → 1024 * m < n → m < chunk_count n
-more_chunks m n more = omega arith
-
-above_room : (m n : ℕ) → leb n (1024 * m) ≡ false → 1024 * m < n
-above_room m n past = elim (leb_tells n (1024 * m)) [
-  | inl within ↦ (let wrong : false ≡ true = sym past ∙ within.0 in cc)
-  | inr above ↦ above.1
-]
-
--- a blob that a store has no room for has more chunks than its capacity
-pub long_as : (handed : Piece → Type 0) (root : Hash) (mode : Mode) (m : ℕ) → AreLonger handed (fixed_as root mode m) → AreTooLong handed (fixed_as root mode m) m
-long_as handed root mode m longer blob is =
-    elim (longer blob is) [ inl above ↦ inl (more_chunks m (length blob) (above_room m (length blob) above)) | inr pair ↦ inr pair ]
-
 -- a try that made a draft is right of the blob
 pub right_draft : {T : Type 0} (contents : T → Option (List ℕ)) (how : Gathering) (mode : Mode) (blob : List ℕ) (P : Type 0) (result : Result (ℕ × T) GatheredFault)
     → IsDrafted contents how mode blob result ⊎ P → IsRightDraft contents how mode blob result ⊎ P
@@ -278,14 +233,6 @@ none_untried contents faultless sources count met bytes all (inl none) is has =
     absurd (omega (arith, all, none, within))
 none_untried contents faultless sources count met bytes all (inr some) is has = let no : false ≡ true = subst IsSome is some in cc
 
--- nor is 802
-pub not_capacity : (result : GatheredFault) (met : Option GatherFault) → ((fault : GatherFault) → result ≡ Gather fault → (met ≡ Some fault) ⊎ (fault ≡ Unfinished))
-    → IfSome met (λ fault. is_open fault ≡ true) → result ≢ Gather gather.Capacity
-not_capacity result met cause helps is = elim (cause gather.Capacity is) [
-  | inl same ↦ (let no : false ≡ true = subst (λ (m : Option GatherFault). IfSome m (λ fault. is_open fault ≡ true)) same helps in cc)
-  | inr other ↦ (let no : gather.Capacity ≡ Unfinished = other in cc)
-]
-
 -- nor is what another file may help with what ended the work at once
 pub not_open : (fault : GatheredFault) (cause : GatherFault) → open_fault (Err fault) ≡ None → is_open cause ≡ true → fault ≡ Gather cause → ⊥
 not_open fault cause closed helps is =
@@ -313,17 +260,14 @@ put_failed old new path how mode blob at result fault cause is same which =
     subst (λ (r : Result ℕ GatheredFault). IsPutAt old new path how mode blob r) (sym is) (subst IsExcusedGathering (sym same) excused)
 
 -- what may still be helped with, where what was gathered from is enough, is want of memory for it, or a collision is exhibited
-pub open_starved : (handed : Piece → Type 0) (fixed : Fixed) (how : Gathering) (blob : List ℕ) (old new : Option (List ℕ)) (result : Result ℕ GatheredFault)
-    → IsWrittenOut handed fixed how blob old new result → is_some (open_fault result) ≡ true → (open_fault result ≡ Some Starved) ⊎ HasCollision handed fixed blob
-open_starved handed fixed how blob old new result (inr pair) helps = inr pair
-open_starved handed fixed how blob old new (Ok n) (inl out) helps = let no : false ≡ true = helps in cc
-open_starved handed fixed how blob old new (Err (File fault)) (inl out) helps = let no : false ≡ true = helps in cc
-open_starved handed fixed how blob old new (Err (Outboard fault)) (inl out) helps = absurd out
-open_starved handed fixed how blob old new (Err (Gather gather.Store)) (inl out) helps = let no : false ≡ true = helps in cc
-open_starved handed fixed how blob old new (Err (Gather gather.Capacity)) (inl out) helps = let no : false ≡ true = helps in cc
-open_starved handed fixed how blob old new (Err (Gather gather.TooLarge)) (inl out) helps = absurd out
-open_starved handed fixed how blob old new (Err (Gather gather.Seat)) (inl out) helps = let no : false ≡ true = helps in cc
-open_starved handed fixed how blob old new (Err (Gather gather.Unfinished)) (inl out) helps = absurd out
-open_starved handed fixed how blob old new (Err (Gather gather.NotTheRoot)) (inl out) helps = let no : false ≡ true = helps in cc
-open_starved handed fixed how blob old new (Err (Gather gather.Memory)) (inl out) helps = let no : false ≡ true = helps in cc
-open_starved handed fixed how blob old new (Err (Gather gather.Starved)) (inl out) helps = inl refl
+pub open_starved : (handed : Piece → Type 0) (fixed : Fixed) (encode : Bool) (blob : List ℕ) (old new : Option (List ℕ)) (result : Result ℕ GatheredFault)
+    → IsWrittenOut handed fixed encode blob old new result → is_some (open_fault result) ≡ true → (open_fault result ≡ Some Starved) ⊎ HasCollision handed fixed blob
+open_starved handed fixed encode blob old new result (inr pair) helps = inr pair
+open_starved handed fixed encode blob old new (Ok n) (inl out) helps = let no : false ≡ true = helps in cc
+open_starved handed fixed encode blob old new (Err (File fault)) (inl out) helps = let no : false ≡ true = helps in cc
+open_starved handed fixed encode blob old new (Err (Outboard fault)) (inl out) helps = absurd out
+open_starved handed fixed encode blob old new (Err (Gather gather.TooLarge)) (inl out) helps = absurd out
+open_starved handed fixed encode blob old new (Err (Gather gather.Unfinished)) (inl out) helps = absurd out
+open_starved handed fixed encode blob old new (Err (Gather gather.NotTheRoot)) (inl out) helps = let no : false ≡ true = helps in cc
+open_starved handed fixed encode blob old new (Err (Gather gather.Memory)) (inl out) helps = let no : false ≡ true = helps in cc
+open_starved handed fixed encode blob old new (Err (Gather gather.Starved)) (inl out) helps = inl refl

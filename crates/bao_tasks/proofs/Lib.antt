@@ -4,10 +4,10 @@ pub mod FromFiles
 pub mod Gaps
 pub mod Lists
 pub mod MissingInFiles
-pub mod Parts
 pub mod Said
 pub mod Spots
 pub mod Taking
 pub mod Together
 pub mod Windowed
+pub mod Rewritten
 pub mod Claims

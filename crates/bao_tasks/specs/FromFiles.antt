@@ -1,6 +1,6 @@
 -- Gathering a blob from files whose bytes are known: one true file among any others suffices, and so do several that have it together.
 use Rattle.std.specs.Borrow.{Bor}
-use Rattle.std.specs.Prelude.{◌≡◌, ◌≢◌, ◌⊎◌, ℕ, ◌-◌, ◌^◌, ◌<◌, ◌≤◌, Bool, true, false, not, if◌then◌else◌, List, [], length, take, codes, MatchResult, Option, None, Some, Result, slice_get, ⊤}
+use Rattle.std.specs.Prelude.{if◌then◌else◌, ◌≡◌, ◌≢◌, ◌⊎◌, ℕ, ◌-◌, ◌^◌, ◌<◌, ◌≤◌, Bool, true, not, List, [], length, take, codes, MatchResult, Option, None, Some, Result, slice_get, ⊤}
 use Rattle.std.specs.Str.{bytes_eq}
 use Rattle.b3tree.specs.Pieces.{piece as part}
 use Rattle.b3tree.specs.declared.mode.Mode.{Mode}
@@ -54,9 +54,9 @@ never_fails path = ⊤
 abbrev pub IsFromFile : Form → ℕ → (List ℕ → FileState) → List (Bor (List ℕ)) → Piece → Type 0
 IsFromFile form capacity at paths = IsFromSource form (file_bytes (most_bytes form capacity) at) never_fails paths
 
--- a blob of n bytes fits: it may have any length and isn't encoded, or it has at most as many chunks as the capacity
+-- a blob of n bytes fits: it may have any length, or it has at most as many chunks as the capacity
 abbrev pub HasRoom : Gathering → ℕ → Type 0
-HasRoom how n = ((how.encode ≡ false) × (how.long ≡ true)) ⊎ (chunk_count n ≤ how.capacity)
+HasRoom how n = (how.long ≡ true) ⊎ (chunk_count n ≤ how.capacity)
 
 -- a file with these bytes is true: they are the blob's combined encoding or, beside the blob's own outboard encoding, the blob
 abbrev pub IsTextOf : Form → Fixed → List ℕ → List ℕ → Type 0

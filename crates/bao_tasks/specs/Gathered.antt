@@ -1,14 +1,12 @@
 -- What is written of a gathered blob.
 use Rattle.std.specs.Borrow.{Bor}
-use Rattle.std.specs.Prelude.{◌≡◌, ◌⊎◌, ℕ, ◌*◌, ◌≤◌, Bool, true, false, if◌then◌else◌, List, MatchResult, Option, Result, length}
+use Rattle.std.specs.Prelude.{if◌then◌else◌, ◌≡◌, ◌⊎◌, ℕ, ◌*◌, ◌≤◌, Bool, true, false, List, MatchResult, Option, Result, length}
 use Rattle.std.specs.Io.KnownBytes.{Appends, Keeps}
 use Rattle.b3tree.specs.declared.mode.Mode.{Mode}
 use Rattle.b3tree.specs.Hashing.{hash}
 use Rattle.b3tree.specs.Valid.{AreBytes}
 use Rattle.bao_text.specs.Texts.{combined_text}
 use Rattle.bao_check.specs.Accepted.{IsAccepted, outboard_nodes}
-use Rattle.gather.specs.declared.fault.GatherFault.{GatherFault}
-use Rattle.gather.specs.declared.fault.GatherFault.TheVariants.{Memory}
 use Rattle.gather.specs.HandedOut.{IsExcused}
 use Rattle.gather.specs.Large.{HasCollision}
 use Rattle.store_core.specs.declared.fixed.Fixed.{Fixed}
@@ -26,10 +24,6 @@ use Rattle.bao_files.specs.Printed.{AppendsBeginning}
 abbrev pub gathered_text : Bool → Mode → List ℕ → List ℕ
 gathered_text encode mode blob = if encode then combined_text mode blob else blob
 
--- the blob has this root, and at most as many bytes as the capacity has in chunks
-abbrev pub IsGathered : Gathering → Mode → List ℕ → List ℕ → Type 0
-IsGathered how mode root blob = (hash mode blob ≡ root) × (length blob ≤ 1024 * how.capacity)
-
 -- a blob of n bytes may have any length, or has at most as many bytes as the capacity has in chunks
 abbrev pub Fits : Bool → ℕ → ℕ → Type 0
 Fits true capacity n = Unit {0}
@@ -43,28 +37,6 @@ HasRootAndFits how mode root blob = (hash mode blob ≡ root) × Fits how.long h
 abbrev pub IsUnwritten : Bor (List ℕ) → List ℕ → Option (List ℕ) → Option (List ℕ) → FileFault → Type 0
 IsUnwritten path text old new fault = ((fault ≡ Encoding) × Keeps old new) ⊎ ((fault ≡ Write path) × AppendsBeginning old new text)
 
--- memory to read the blob from its store, or for its encoding, was refused and nothing was written; or writing to this path failed after a beginning of
--- the text
-abbrev pub IsUnwrittenWhole : Bor (List ℕ) → List ℕ → Option (List ℕ) → Option (List ℕ) → GatheredFault → Type 0
-IsUnwrittenWhole path text old new fault =
-    ((fault ≡ Gather Memory) × Keeps old new) ⊎ ((fault ≡ File Encoding) × Keeps old new) ⊎ ((fault ≡ File (Write path)) × AppendsBeginning old new text)
-
--- such a blob, of `count` bytes, or its encoding was written
-abbrev pub WritesBlob : Gathering → Mode → List ℕ → Option (List ℕ) → Option (List ℕ) → ℕ → Type 0
-WritesBlob how mode root old new count =
-    (blob : List ℕ) × IsGathered how mode root blob × (count ≡ length blob) × Appends old new (gathered_text how.encode mode blob) × AreBytes blob
-
--- a beginning of such a blob, or of its encoding, was written
-abbrev pub BeginsBlob : Gathering → Mode → List ℕ → Option (List ℕ) → Option (List ℕ) → Type 0
-BeginsBlob how mode root old new = (blob : List ℕ) × IsGathered how mode root blob × AppendsBeginning old new (gathered_text how.encode mode blob)
-
--- no blob was gathered, or memory to read it from its store or to encode it was refused, and nothing was written; or writing to this path failed
-abbrev pub LeavesBlob : Gathering → Mode → List ℕ → Bor (List ℕ) → Option (List ℕ) → Option (List ℕ) → GatheredFault → Type 0
-LeavesBlob how mode root path old new fault =
-    (((cause : GatherFault) × (fault ≡ Gather cause)) × Keeps old new)
-    ⊎ ((fault ≡ File Encoding) × Keeps old new)
-    ⊎ ((fault ≡ File (Write path)) × BeginsBlob how mode root old new)
-
 -- the fault isn't the sources'
 abbrev pub IsExcusedWrite : GatheredFault → Type 0
 IsExcusedWrite (File fault) = Unit {0}
@@ -72,9 +44,9 @@ IsExcusedWrite (Outboard fault) = ⊥
 IsExcusedWrite (Gather fault) = IsExcused fault
 
 -- this blob, or its encoding, was written, or the fault isn't the sources', or a collision is exhibited from the blob and a slice that was supplied
-abbrev pub IsWrittenOut : (Piece → Type 0) → Fixed → Gathering → List ℕ → Option (List ℕ) → Option (List ℕ) → Result ℕ GatheredFault → Type 0
-IsWrittenOut handed fixed how blob old new result =
-    MatchResult result (λ count. (count ≡ length blob) × Appends old new (gathered_text how.encode fixed.mode blob)) IsExcusedWrite ⊎ HasCollision handed fixed blob
+abbrev pub IsWrittenOut : (Piece → Type 0) → Fixed → Bool → List ℕ → Option (List ℕ) → Option (List ℕ) → Result ℕ GatheredFault → Type 0
+IsWrittenOut handed fixed encode blob old new result =
+    MatchResult result (λ count. (count ≡ length blob) × Appends old new (gathered_text encode fixed.mode blob)) IsExcusedWrite ⊎ HasCollision handed fixed blob
 
 -- the bytes of the file, if they are known, are accepted as the outboard encoding of a blob with this root
 abbrev pub HasOutlineIn : FileState → Mode → List ℕ → Type 0

@@ -1,5 +1,5 @@
 -- Which bytes of a blob a node of its encoding covers.
-use Rattle.std.specs.Prelude.{◌≡◌, ℕ, ◌+◌, ◌*◌, ◌≤◌, nat_le, nat_lt, Bool, if◌then◌else◌, List, [], ◌∷◌, sum_by, Option, Some, None}
+use Rattle.std.specs.Prelude.{if◌then◌else◌, ◌≡◌, ℕ, ◌+◌, ◌*◌, ◌≤◌, nat_le, nat_lt, Bool, List, [], ◌∷◌, sum_by, Option, Some, None}
 use Rattle.bao_text.specs.Nodes.{TreeNode, placed_nodes, size}
 use Rattle.bao_tasks.specs.declared.spot.Spot.{Spot}
 use Rattle.bao_tasks.specs.declared.spot.Walk.{Walk}

@@ -1,20 +1,26 @@
 -- What is known while files are taken and a blob is gathered from them.
 use Rattle.std.specs.Borrow.{Bor}
-use Rattle.std.specs.Prelude.{◌≡◌, ◌≢◌, ◌⊎◌, ℕ, Bool, true, false, if◌then◌else◌, List, [], ◌∷◌, ◌++◌, length, IfSome, MatchResult, Option, None, Some, Result, Ok, Err, slice_get}
+use Rattle.std.specs.Prelude.{if◌then◌else◌, ◌≡◌, ◌≢◌, ◌⊎◌, ℕ, Bool, true, false, List, [], ◌∷◌, ◌++◌, length, IfOk, IfSome, IsErrOf, MatchResult, Option, None, Some, Result, Ok, Err, slice_get}
 use Rattle.std.specs.Io.KnownBytes.{Appends}
 use Rattle.b3tree.specs.declared.mode.Mode.{Mode}
+use Rattle.b3tree.specs.declared.values.Hash.{Hash}
 use Rattle.bao_files.specs.Disks.{FileState, IsStored}
 use Rattle.gather.specs.declared.fault.GatherFault.{GatherFault}
-use Rattle.gather.specs.declared.fault.GatherFault.TheVariants.{Store, Capacity, TooLarge, Seat, Unfinished, NotTheRoot, Starved}
+use Rattle.gather.specs.declared.fault.GatherFault.TheVariants.{TooLarge, Unfinished, NotTheRoot, Starved}
 use Rattle.gather.specs.declared.fault.GatherFault.TheVariants as gather
-use Rattle.gather.specs.Large.{HasCollision}
+use Rattle.bao_windows.specs.Written.{AreTooLong}
+use Rattle.gather.specs.declared.form.Form.{Form}
+use Rattle.gather.specs.Forms.{AreSlices}
+use Rattle.gather.specs.Large.{HasCollision, fixed_as}
+use Rattle.gather.specs.Lists.{IsFromSource}
 use Rattle.store_core.specs.declared.fixed.Fixed.{Fixed}
 use Rattle.store_core.specs.declared.history.Piece.{Piece}
+use Rattle.store_core.specs.Laws.{IsBlob}
 use Rattle.bao_tasks.specs.declared.gathered_fault.GatheredFault.{GatheredFault}
 use Rattle.bao_tasks.specs.declared.gathered_fault.GatheredFault.TheVariants.{File, Gather, Outboard}
 use Rattle.bao_tasks.specs.declared.gathering.Gathering.{Gathering}
-use Rattle.bao_tasks.specs.Gathered.{gathered_text}
-use Rattle.bao_tasks.specs.FromFiles.{IsExcusedFile, IsExcusedGathering, is_regular}
+use Rattle.bao_tasks.specs.Gathered.{HasRootAndFits, IsWrittenOut, gathered_text}
+use Rattle.bao_tasks.specs.FromFiles.{AreEnough, IsExcusedFile, IsExcusedGathering, is_regular}
 
 -- for each of these files that is known to be stored, it is right whether it is regular
 abbrev pub AreKinds : (List ℕ → FileState) → List (Bor (List ℕ)) → List Bool → Type 0
@@ -59,10 +65,7 @@ IsOfWriting (Gather fault) = Unit {0}
 
 -- whether another file may help after this fault of gathering
 abbrev pub is_open : GatherFault → Bool
-is_open Store = false
-is_open Capacity = false
 is_open TooLarge = true
-is_open Seat = false
 is_open Unfinished = true
 is_open NotTheRoot = false
 is_open gather.Memory = false
@@ -76,10 +79,22 @@ open_fault (Err (Outboard fault)) = None
 open_fault (Err (Gather fault)) = if is_open fault then Some fault else None
 
 -- the result is right for this blob: if a blob was written, it is this one, and the fault isn't 902; or a collision is exhibited
-abbrev pub IsRightOf : (Piece → Type 0) → Fixed → Gathering → List ℕ → Option (List ℕ) → Option (List ℕ) → Result ℕ GatheredFault → Type 0
-IsRightOf handed fixed how blob old new result =
-    MatchResult result (λ count. ((count ≡ length blob) × Appends old new (gathered_text how.encode fixed.mode blob)) ⊎ HasCollision handed fixed blob)
+abbrev pub IsRightOf : (Piece → Type 0) → Fixed → Bool → List ℕ → Option (List ℕ) → Option (List ℕ) → Result ℕ GatheredFault → Type 0
+IsRightOf handed fixed encode blob old new result =
+    MatchResult result (λ count. ((count ≡ length blob) × Appends old new (gathered_text encode fixed.mode blob)) ⊎ HasCollision handed fixed blob)
     (λ fault. fault ≡ Gather NotTheRoot → HasCollision handed fixed blob)
+
+-- A blob was gathered and written, or its encoding: what comes of it, where it is sure what was written.
+pub record IsGatheredFrom (handed : Piece → Type 0) (form : Form) (fixed : Fixed) (how : Gathering) (Has : List ℕ → Type 0) (sure : Type 0) (encode : Bool) (old new : Option (List ℕ)) (result : Result ℕ GatheredFault) : Type 0 where
+  pub ok : IfOk result (λ count. (blob : List ℕ) × HasRootAndFits how fixed.mode fixed.root.0 blob × (count ≡ length blob) × (sure → Appends old new (gathered_text encode fixed.mode blob)))
+  pub right : sure → (blob : List ℕ) → IsBlob fixed blob → IsRightOf handed fixed encode blob old new result
+  pub too_large : AreSlices form → IsErrOf result (Gather TooLarge) → AreTooLong handed fixed how.capacity
+  pub available : sure → (blob : List ℕ) → AreEnough form fixed how blob Has → IsWrittenOut handed fixed encode blob old new result
+
+-- the same out of these sources
+abbrev pub IsGathered : {S : Type 0} → (S → Option (List ℕ)) → (S → Type 0) → List S → Form → Hash → Mode → Gathering → Type 0 → Bool → Option (List ℕ) → Option (List ℕ) → Result ℕ GatheredFault → Type 0
+IsGathered contents faultless sources form root mode how =
+    IsGatheredFrom (IsFromSource form contents faultless sources) form (fixed_as root mode how.capacity) how (HasSound contents faultless sources)
 
 -- this blob, or its encoding, is in the draft that was made, and its length was returned; or the fault isn't the files'
 abbrev pub IsDrafted : {T : Type 0} → (T → Option (List ℕ)) → Gathering → Mode → List ℕ → Result (ℕ × T) GatheredFault → Type 0

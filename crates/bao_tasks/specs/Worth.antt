@@ -1,5 +1,5 @@
 -- The worth of a file: how many groups of 64 chunks it is asked for, and how many of them are refused.
-use Rattle.std.specs.Prelude.{◌≡◌, ℕ, ◌+◌, ◌-◌, ◌*◌, ◌/◌, ◌<◌, ◌^◌, min, IfSome, Option, Bool, true, false, List, length, count_by, nat_lt, slice_index_or, if◌then◌else◌}
+use Rattle.std.specs.Prelude.{if◌then◌else◌, ◌≡◌, ℕ, ◌+◌, ◌-◌, ◌*◌, ◌/◌, ◌<◌, ◌^◌, min, IfSome, Option, Bool, true, false, List, length, count_by, nat_lt, slice_index_or}
 use Rattle.b3tree.specs.declared.mode.Mode.{Mode}
 use Rattle.b3tree.specs.Pieces.{piece}
 use Rattle.bao_text.specs.Choice.{chunk_count}

@@ -1,6 +1,5 @@
 ghost use Rattle.std.specs.Borrow.{Bor};
-ghost use Rattle.std.specs.Prelude.{◌≡◌, ◌≢◌, ◌⊎◌, ◌<◌, ◌≤◌, ◌^◌, ℕ, List, [], IfErr, IfOk, IfSome, IsErrOf, IsSome, IsTrue, MatchResult, Ok, OnErr, OnOk, None, Some, false, length, slice_get, true};
-ghost use Rattle.std.specs.Io.KnownBytes.{Appends};
+ghost use Rattle.std.specs.Prelude.{⊤, ◌≡◌, ◌≢◌, ◌⊎◌, ◌<◌, ◌≤◌, ◌^◌, ℕ, List, [], IfErr, IfOk, IfSome, IsErrOf, IsSome, IsTrue, MatchResult, Ok, OnErr, OnOk, None, Some, false, length, slice_get, true};
 ghost use Rattle.bao_files.specs.Disks.{Absent, IsKnown, IsStored, KeepsFiles, Puts, Stored};
 ghost use Rattle.bao_files.specs.declared.fault.FileFault.TheVariants as FileFault;
 ghost use Rattle.bao_text.specs.Choice.{chunk_count};
@@ -14,12 +13,12 @@ ghost use Rattle.gather.specs.Large.{HasCollision, fixed_as};
 ghost use Rattle.gather.specs.Lists.{IsFromSource};
 ghost use Rattle.store_core.specs.Laws.{IsBlob};
 ghost use Rattle.bao_tasks.specs.FromFiles.{AreEnough, CollidesBeside, CollidesBesideOutline, HasRoom, HaveBytes, IsExcusedGathering, IsFromFile, IsInFile, IsPutAt, IsRightAt, file_bytes, is_regular, taken_bytes};
-ghost use Rattle.bao_tasks.specs.TakenFiles.{AreKinds, AreOfFiles, Follows, HasSound, IsDrafted, IsOfWriting, IsRightDraft, IsRightOf, IsTried, is_open, open_fault};
+ghost use Rattle.bao_tasks.specs.TakenFiles.{IsGathered, AreKinds, AreOfFiles, Follows, HasSound, IsDrafted, IsOfWriting, IsRightDraft, IsTried, is_open, open_fault};
 ghost use Rattle.bao_tasks.specs.GatheredFaults.{AreAbsent, IsFirstUnread, IsOfFiles, IsQuietGathered, LooksUnfinished, NamesBeside, NamesFirst, StopsBeside};
 ghost use Rattle.bao_tasks.specs.declared.missing.Lack.TheVariants as Lack;
 ghost use Rattle.bao_tasks.specs.Missing.{IsLackOf};
 ghost use Rattle.bao_tasks.specs.MissingInFiles.{IsLackBeside, IsLackIn, wanted_for};
-ghost use Rattle.bao_tasks.specs.Gathered.{Fits, HasOutlineIn, HasRootAndFits, IsFaultOfOutline, IsWrittenOut, gathered_text};
+ghost use Rattle.bao_tasks.specs.Gathered.{Fits, HasOutlineIn, HasRootAndFits, IsFaultOfOutline, gathered_text};
 ghost use Rattle.bao_tasks.specs.Givens.{given_contents, is_given_faultless, most_bytes, watched_contents, watched_faultless};
 ghost use Rattle.bao_tasks.specs.Worth.{IsWorthAs};
 
@@ -30,15 +29,15 @@ use crate::missing::{Lack, lack_of};
 use crate::notes::Notes;
 use crate::watched::Watched;
 use crate::worth::{Worth, worth_of_copy, worth_of_encoding};
-use crate::writing::write_gathered;
+use crate::written::write_whole;
 use b3tree::{CHUNK_LEN, Hash, Mode, bytes_are};
 use bao_check::check_outboard;
 use bao_decode::read_outboard_on;
-use bao_files::{Disk, FileFault, Progress, STANDARD_INPUT};
+use bao_files::{Disk, FileFault, Progress, STANDARD_INPUT, encode_input};
 use bao_read::Source;
-use bao_text::encoded_len;
+use bao_text::{Encoding, encoded_len};
 use bao_windows::{Wanted as Windows, WindowsFault, write_windows};
-use gather::{Form, GatherFault, Grain, chunks_within};
+use gather::{Form, GatherFault, Grain};
 use std::alloc::{AllocError, Global};
 use std::io::Write;
 use std::thread::Threads;
@@ -276,11 +275,7 @@ fn is_unfinished(fault: GatherFault) -> bool
 {
     match fault {
         GatherFault::Unfinished | GatherFault::TooLarge | GatherFault::Starved => true,
-        GatherFault::Store
-        | GatherFault::Capacity
-        | GatherFault::Seat
-        | GatherFault::NotTheRoot
-        | GatherFault::Memory => false,
+        GatherFault::NotTheRoot | GatherFault::Memory => false,
     }
 }
 
@@ -352,18 +347,8 @@ fn most_chunks(how: &Gathering) -> u64
     if how.long { u64::MAX } else { capacity }
 }
 
-// Returns whether the blob is gathered in a store before any of it is written: to encode it, or because its length is
-// limited and OUT can't be replaced.
-fn is_stored(how: &Gathering, is_replaced: bool) -> bool
-    ensures stored { result ≡ true → (how.now.encode ≡ true) ⊎ (how.now.long ≡ false) }
-    ensures windows { result ≡ false → how.now.encode ≡ false }
-{
-    how.encode || !(how.long || is_replaced)
-}
-
-// Gathers the blob from the files taken, and writes it: from a store once it is complete, or window by window as it is
-// gathered, if OUT is replaced or the blob may have any length.
-fn write_taken<
+// Gathers the blob from the files taken, and writes it to `out` window by window.
+fn gather_into<
     'a,
     R: AllocGlobal + Threads + Sync,
     S: Source + Sync + Drop,
@@ -372,40 +357,136 @@ fn write_taken<
 >(
     rt: &R,
     wanted: &Wanted<'_>,
-    is_replaced: bool,
     taken: &Taken<'_, S, P>,
     path: &'a str,
     out: &mut W,
 ) -> Result<u64, GatheredFault<'a>>
-    ensures ok { IfOk result (λ count. (blob : List ℕ) × HasRootAndFits wanted.now.how wanted.now.mode.now wanted.now.root.now.0 blob × (count ≡ length blob)
-        × Appends (W.contents out.old) (W.contents out.new) (gathered_text wanted.now.how.encode wanted.now.mode.now blob)) }
+    ensures gathered { IsGathered (watched_contents S.contents) (watched_faultless S.faultless) taken.now.givens.items wanted.now.form.now wanted.now.root.now wanted.now.mode.now wanted.now.how ⊤ false (W.contents out.old) (W.contents out.new) result }
     ensures err { IfErr result IsQuietGathered }
     ensures files { IfErr result IsOfFiles }
     ensures paths { IfErr result (λ fault. (inputs : List (Bor (List ℕ))) → NamesFirst inputs path.entry fault) }
     ensures writing { IfErr result IsOfWriting }
-    ensures capacity { IsErrOf result (GatheredFault.Gather GatherFault.Capacity) → (wanted.now.how.capacity ≡ 0) ⊎ (65536 < wanted.now.how.capacity) }
-    ensures right { (blob : List ℕ) → IsBlob (fixed_as wanted.now.root.now wanted.now.mode.now wanted.now.how.capacity) blob
-        → IsRightOf (IsFromSource wanted.now.form.now (watched_contents S.contents) (watched_faultless S.faultless) taken.now.givens.items) (fixed_as wanted.now.root.now wanted.now.mode.now wanted.now.how.capacity) wanted.now.how blob (W.contents out.old) (W.contents out.new) result }
-    ensures too_large { AreSlices wanted.now.form.now → IsErrOf result (GatheredFault.Gather GatherFault.TooLarge) → AreTooLong (IsFromSource wanted.now.form.now (watched_contents S.contents) (watched_faultless S.faultless) taken.now.givens.items) (fixed_as wanted.now.root.now wanted.now.mode.now wanted.now.how.capacity) wanted.now.how.capacity }
-    ensures available { (blob : List ℕ) → AreEnough wanted.now.form.now (fixed_as wanted.now.root.now wanted.now.mode.now wanted.now.how.capacity) wanted.now.how blob (HasSound (watched_contents S.contents) (watched_faultless S.faultless) taken.now.givens.items)
-        → IsWrittenOut (IsFromSource wanted.now.form.now (watched_contents S.contents) (watched_faultless S.faultless) taken.now.givens.items) (fixed_as wanted.now.root.now wanted.now.mode.now wanted.now.how.capacity) wanted.now.how blob (W.contents out.old) (W.contents out.new) result }
 {
-    let Wanted {
-        mode,
-        root,
-        how,
-        form,
-    } = *wanted;
+    let how = wanted.how;
     let givens = taken.givens.as_slice();
-    if is_stored(&how, is_replaced) {
-        let room = u32::try_from(chunks_within(taken.longest)).unwrap_or(u32::MAX);
-        return write_gathered(rt, mode, root, form, how, room, givens, path, out);
-    }
     let windows = wanted.windows();
     match write_windows(rt, &windows, how.workers, most_chunks(&how), givens, out) {
         Ok(count) => Ok(count),
         Err(WindowsFault::Gather(fault)) => Err(GatheredFault::Gather(fault)),
         Err(WindowsFault::Write) => Err(GatheredFault::File(FileFault::Write(path))),
+    }
+}
+
+// Gathers the blob into a draft of its own, and writes its combined encoding to `out`.
+fn encode_draft<
+    'a,
+    R: AllocGlobal + Threads + Sync,
+    D: Disk,
+    S: Source + Sync + Drop,
+    P: Progress + Sync,
+>(
+    rt: &R,
+    disk: &D,
+    wanted: &Wanted<'_>,
+    taken: &Taken<'_, S, P>,
+    path: &'a str,
+    out: &mut D::Draft,
+) -> Result<u64, GatheredFault<'a>>
+    ensures gathered { IsGathered (watched_contents S.contents) (watched_faultless S.faultless) taken.now.givens.items wanted.now.form.now wanted.now.root.now wanted.now.mode.now wanted.now.how (IsKnown (D.at disk.now path.now)) true (D.Draft.contents out.old) (D.Draft.contents out.new) result }
+    ensures err { IfErr result IsQuietGathered }
+    ensures files { IfErr result IsOfFiles }
+    ensures paths { IfErr result (λ fault. (inputs : List (Bor (List ℕ))) → NamesFirst inputs path.entry fault) }
+    ensures writing { IfErr result IsOfWriting }
+{
+    let Ok(mut draft) = disk.draft(path) else {
+        return Err(GatheredFault::File(FileFault::Memory));
+    };
+    let count = gather_into(rt, wanted, taken, path, &mut draft)?;
+    let mut blob = disk.read_back(draft, path)?;
+    let combined = Encoding::Combined;
+    match encode_input(rt, wanted.mode, combined, &mut blob, count, path, out, path) {
+        Ok(hash) if hash == *wanted.root => Ok(count),
+        // Somebody else has changed the draft, or it can't be read.
+        Ok(_) | Err(FileFault::Read(_)) => Err(GatheredFault::File(FileFault::Write(path))),
+        Err(fault) => Err(GatheredFault::File(fault)),
+    }
+}
+
+// Gathers the blob in memory, and writes it, or with `encode` its combined encoding, to `out`.
+fn write_held<
+    'a,
+    R: AllocGlobal + Threads + Sync,
+    S: Source + Sync + Drop,
+    P: Progress + Sync,
+    W: Write,
+>(
+    rt: &R,
+    wanted: &Wanted<'_>,
+    taken: &Taken<'_, S, P>,
+    path: &'a str,
+    out: &mut W,
+) -> Result<u64, GatheredFault<'a>>
+    ensures gathered { IsGathered (watched_contents S.contents) (watched_faultless S.faultless) taken.now.givens.items wanted.now.form.now wanted.now.root.now wanted.now.mode.now wanted.now.how ⊤ wanted.now.how.encode (W.contents out.old) (W.contents out.new) result }
+    ensures err { IfErr result IsQuietGathered }
+    ensures files { IfErr result IsOfFiles }
+    ensures paths { IfErr result (λ fault. (inputs : List (Bor (List ℕ))) → NamesFirst inputs path.entry fault) }
+    ensures writing { IfErr result IsOfWriting }
+{
+    let alloc = rt.alloc();
+    let mut blob = Vec::new(alloc);
+    let count = match gather_into(rt, wanted, taken, path, &mut blob) {
+        Ok(count) => count,
+        // Writing to memory fails for want of it alone.
+        Err(GatheredFault::File(_)) => return Err(GatheredFault::Gather(GatherFault::Memory)),
+        Err(fault) => return Err(fault),
+    };
+    // A law, so that the proof has what it says: nothing runs.
+    bytes_are(blob.as_slice());
+    write_whole(
+        alloc,
+        wanted.mode,
+        wanted.how.encode,
+        blob.as_slice(),
+        path,
+        out,
+    )?;
+    Ok(count)
+}
+
+// Gathers the blob from the files taken, and writes it, or with `encode` its combined encoding, to `out`, a draft of the
+// file at `path`. What can't be replaced is written once all of the blob is verified, unless it may have any length.
+fn write_taken<
+    'a,
+    R: AllocGlobal + Threads + Sync,
+    D: Disk,
+    S: Source + Sync + Drop,
+    P: Progress + Sync,
+>(
+    rt: &R,
+    disk: &D,
+    wanted: &Wanted<'_>,
+    taken: &Taken<'_, S, P>,
+    path: &'a str,
+    out: &mut D::Draft,
+) -> Result<u64, GatheredFault<'a>>
+    ensures gathered { IsGathered (watched_contents S.contents) (watched_faultless S.faultless) taken.now.givens.items wanted.now.form.now wanted.now.root.now wanted.now.mode.now wanted.now.how (IsKnown (D.at disk.now path.now)) wanted.now.how.encode (D.Draft.contents out.old) (D.Draft.contents out.new) result }
+    ensures err { IfErr result IsQuietGathered }
+    ensures files { IfErr result IsOfFiles }
+    ensures paths { IfErr result (λ fault. (inputs : List (Bor (List ℕ))) → NamesFirst inputs path.entry fault) }
+    ensures writing { IfErr result IsOfWriting }
+{
+    let Gathering { encode, long, .. } = wanted.how;
+    let is_replaced = disk.is_replaced(out);
+    if encode {
+        if is_replaced {
+            encode_draft(rt, disk, wanted, taken, path, out)
+        } else {
+            write_held(rt, wanted, taken, path, out)
+        }
+    } else if long || is_replaced {
+        gather_into(rt, wanted, taken, path, out)
+    } else {
+        write_held(rt, wanted, taken, path, out)
     }
 }
 
@@ -461,7 +542,6 @@ fn attempt<
     ensures unmet { result ≡ Ok None → (tried.old.count ≡ 0) ⊎ IsSome tried.old.met
         → (first ≡ false → length taken.now.givens.items ≡ tried.new.count) × ((tried.new.count ≡ 0) ⊎ IsSome tried.new.met) }
     ensures writing { IfErr result IsOfWriting }
-    ensures capacity { IsErrOf result (GatheredFault.Gather GatherFault.Capacity) → (wanted.now.how.capacity ≡ 0) ⊎ (65536 < wanted.now.how.capacity) }
     ensures met { IfSome tried.old.met (λ fault. is_open fault ≡ true) → IfSome tried.new.met (λ fault. is_open fault ≡ true) }
     ensures too_large { AreSlices wanted.now.form.now → tried.new.met ≡ Some GatherFault.TooLarge → (tried.old.met ≡ Some GatherFault.TooLarge)
         ⊎ AreTooLong (IsFromSource wanted.now.form.now (watched_contents S.contents) (watched_faultless S.faultless) taken.now.givens.items) (fixed_as wanted.now.root.now wanted.now.mode.now wanted.now.how.capacity) wanted.now.how.capacity }
@@ -481,7 +561,7 @@ fn attempt<
     }
     tried.count = count;
     begin(&wanted.how, taken.longest, taken.progress);
-    let ended = write_taken(rt, wanted, is_replaced, taken, path, &mut out);
+    let ended = write_taken(rt, disk, wanted, taken, path, &mut out);
     taken.progress.end();
     tried.met = unfinished_by(&ended);
     if tried.met.is_some() {
@@ -516,7 +596,6 @@ fn drafted<'a, R: AllocGlobal + Threads + Sync, D: Disk, P: Progress + Sync>(
         → AreTooLong (IsFromFile wanted.now.form.now wanted.now.how.capacity (D.at disk.now) files.now) (fixed_as wanted.now.root.now wanted.now.mode.now wanted.now.how.capacity) wanted.now.how.capacity }
     ensures available { D.faultless disk.now → IsKnown (D.at disk.now path.now) → (blob : List ℕ) → AreEnough wanted.now.form.now (fixed_as wanted.now.root.now wanted.now.mode.now wanted.now.how.capacity) wanted.now.how blob (IsInFile (D.at disk.now) files.now)
         → IsDrafted D.Draft.contents wanted.now.how wanted.now.mode.now blob result ⊎ HasCollision (IsFromFile wanted.now.form.now wanted.now.how.capacity (D.at disk.now) files.now) (fixed_as wanted.now.root.now wanted.now.mode.now wanted.now.how.capacity) blob }
-    ensures capacity { IsErrOf result (GatheredFault.Gather GatherFault.Capacity) → (wanted.now.how.capacity ≡ 0) ⊎ (65536 < wanted.now.how.capacity) }
     ensures looked { LooksUnfinished result notes.old.lack notes.new.lack }
     ensures listed { IsErrOf result (GatheredFault.Gather GatherFault.Unfinished) → D.faultless disk.now
         → IsLackIn (wanted_for wanted.now.root.now wanted.now.mode.now wanted.now.form.now wanted.now.how.grain) wanted.now.how.capacity wanted.now.how.parts (D.at disk.now) files.now notes.new.lack }
@@ -557,14 +636,14 @@ fn drafted<'a, R: AllocGlobal + Threads + Sync, D: Disk, P: Progress + Sync>(
 /// Gathers the blob with this root from untrusted files on `disk`; writes it, or with `encode` its combined encoding,
 /// to the file at `path` there; and returns the length of the blob in bytes.
 ///
-/// The blob has at most `capacity` chunks, or with `long` any length, but with `encode` never more than `capacity`. As
-/// the form says, the files are combined encodings, or plain copies beside an outboard encoding that was accepted under
-/// this root in this mode.
+/// The blob has at most `capacity` chunks, or with `long` any length. As the form says, the files are combined encodings,
+/// or plain copies beside an outboard encoding that was accepted under this root in this mode.
 ///
 /// The file at `path` is replaced once the whole blob is verified; until then the blob is written to a draft, window by
-/// window ([`write_windows`]), in the memory of two windows. A file that can't be replaced ([`Disk::is_replaced`]), such
-/// as a device or a pipe, is written once the blob is complete in a store. A `long` blob is written there as it is
-/// gathered, so a beginning may be there after a fault. An encoding is always made from a blob in a store.
+/// window ([`write_windows`]), in the memory of two windows. An encoding is made of a blob in a draft of its own
+/// ([`encode_input`]). A file that can't be replaced ([`Disk::is_replaced`]), such as a device or a pipe, is written once
+/// the blob is complete in memory. A `long` blob that isn't encoded is written there as it is gathered, so a beginning may
+/// be there after a fault.
 ///
 /// Regular files are read by position, only where workers ask for bytes. Other files, such as pipes, are opened only if
 /// the regular ones leave the blob unfinished, or from the start for a `long` blob and a `path` that can't be replaced. At
@@ -578,8 +657,8 @@ fn drafted<'a, R: AllocGlobal + Threads + Sync, D: Disk, P: Progress + Sync>(
 /// 4 MiB; this doesn't affect the result.
 ///
 /// Refuses with `File` and `Read` of the first file if no file can be read; with `File` and `Memory` if there is none
-/// for a file; with `Gather` if the blob was not gathered (802 only if no store has the capacity); with `File` and
-/// `Encoding` if there is no memory for the encoding; and with `File` and `Write` if `path` can't be created or written.
+/// for a file; with `Gather` if the blob was not gathered; with `File` and `Encoding` if there is no memory
+/// for the encoding; and with `File` and `Write` if `path` can't be created or written, or its draft can't be read.
 /// All files are then unchanged, except one that can't be replaced.
 ///
 /// If no file is at any of the paths, the fault is `Read` of the first, or memory was refused: never 901. If calls of
@@ -631,7 +710,6 @@ pub fn gather_on<'a, R: AllocGlobal + Threads + Sync, D: Disk, P: Progress + Syn
     ensures available { D.faultless disk.old → IsKnown (D.at disk.old path.now) → (blob : List ℕ) → AreEnough form.now (fixed_as root.now mode.now how.capacity) how blob (IsInFile (D.at disk.old) files.now)
         → IsPutAt (D.at disk.old) (D.at disk.new) path.now how mode.now blob result
         ⊎ HasCollision (IsFromFile form.now how.capacity (D.at disk.old) files.now) (fixed_as root.now mode.now how.capacity) blob }
-    ensures capacity { IsErrOf result (GatheredFault.Gather GatherFault.Capacity) → (how.capacity ≡ 0) ⊎ (65536 < how.capacity) }
     ensures looked { LooksUnfinished result notes.old.lack notes.new.lack }
     ensures listed { IsErrOf result (GatheredFault.Gather GatherFault.Unfinished) → D.faultless disk.old
         → IsLackIn (wanted_for root.now mode.now form.now how.grain) how.capacity how.parts (D.at disk.old) files.now notes.new.lack }
@@ -693,7 +771,6 @@ pub fn gather_beside_on<'a, R: AllocGlobal + Threads + Sync, D: Disk, P: Progres
         → IsInFile (D.at disk.old) files.now blob ⊎ HaveBytes (IsInFile (D.at disk.old) files.now) how.grain blob
         → IsPutAt (D.at disk.old) (D.at disk.new) path.now how mode.now blob result
         ⊎ CollidesBeside (fixed_as root.now mode.now how.capacity) how.capacity (D.at disk.old) files.now blob }
-    ensures capacity { IsErrOf result (GatheredFault.Gather GatherFault.Capacity) → (how.capacity ≡ 0) ⊎ (65536 < how.capacity) }
     ensures looked { LooksUnfinished result notes.old.lack notes.new.lack }
     ensures listed { IsErrOf result (GatheredFault.Gather GatherFault.Unfinished) → D.faultless disk.old
         → IsLackBeside root.now mode.now how.grain how.capacity how.parts (D.at disk.old) outboard.now files.now notes.new.lack }

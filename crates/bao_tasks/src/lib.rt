@@ -13,7 +13,6 @@ pub use replaying::{replay_on, replay_text};
 pub use rerun_fault::RerunFault;
 pub use spot::{Spot, spot_in_outboard, spot_in_slice};
 pub use worth::{Worth, worth_of_copy, worth_of_encoding};
-pub use writing::write_gathered;
 
 mod file_fate;
 mod gathered_fault;
@@ -26,6 +25,5 @@ mod replaying;
 mod rerun_fault;
 mod spot;
 mod watched;
-mod whole_blob;
 mod worth;
-mod writing;
+mod written;

@@ -8,7 +8,7 @@ use Rattle.bao_text.specs.Texts.{combined_text}
 use Rattle.gather.proofs.Serving.{true_slices}
 use Rattle.gather.specs.Available.{HaveSlices}
 use Rattle.gather.specs.declared.fault.GatherFault.{GatherFault}
-use Rattle.gather.specs.declared.fault.GatherFault.TheVariants.{Store, Capacity, TooLarge, Seat, Unfinished, NotTheRoot, Memory, Starved}
+use Rattle.gather.specs.declared.fault.GatherFault.TheVariants.{TooLarge, Unfinished, NotTheRoot, Memory, Starved}
 use Rattle.gather.specs.Forms.{AreSlices, IsLengthOf}
 use Rattle.gather.specs.Large.{HasCollision, IsOfNone}
 use Rattle.gather.specs.Lists.{source_gives}
@@ -61,11 +61,8 @@ answered_by contents faultless wanted sources capacity old new (Ok n) keyed wrot
   | inr pair ↦ inr pair
 ]
 answered_by contents faultless wanted sources capacity old new (Err Write) keyed wrote longer none lacks blob is short few have = inl tt
-answered_by contents faultless wanted sources capacity old new (Err (Gather Store)) keyed wrote longer none lacks blob is short few have = inl tt
-answered_by contents faultless wanted sources capacity old new (Err (Gather Capacity)) keyed wrote longer none lacks blob is short few have = inl tt
 answered_by contents faultless wanted sources capacity old new (Err (Gather TooLarge)) keyed wrote longer none lacks blob is short few have =
     inr (too_long contents faultless wanted sources capacity blob is few (longer refl))
-answered_by contents faultless wanted sources capacity old new (Err (Gather Seat)) keyed wrote longer none lacks blob is short few have = inl tt
 answered_by contents faultless wanted sources capacity old new (Err (Gather Unfinished)) keyed wrote longer none lacks blob is short few have =
     inr (lacks_some contents faultless wanted sources keyed blob is short have (lacks refl))
 answered_by contents faultless wanted sources capacity old new (Err (Gather NotTheRoot)) keyed wrote longer none lacks blob is short few have = inr (none refl blob is)
@@ -118,13 +115,10 @@ pub answered_length : {S : Type 0} (contents : S → Option (List ℕ)) (faultle
 answered_length contents faultless wanted sources capacity old new Unfinished keyed is none =
     answered_by contents faultless wanted sources capacity old new (Err (Gather Unfinished)) keyed tt (λ e. cc) (λ e. cc) (λ e. inl (none refl))
 answered_length contents faultless wanted sources capacity old new Starved keyed is none = λ blob is_blob short few have. inl tt
-answered_length contents faultless wanted sources capacity old new Store keyed is none = λ blob is_blob short few have. inl tt
-answered_length contents faultless wanted sources capacity old new Capacity keyed is none = λ blob is_blob short few have. inl tt
 answered_length contents faultless wanted sources capacity old new TooLarge keyed is none = elim is [
   | inl same ↦ cc
   | inr same ↦ cc
 ]
-answered_length contents faultless wanted sources capacity old new Seat keyed is none = λ blob is_blob short few have. inl tt
 answered_length contents faultless wanted sources capacity old new NotTheRoot keyed is none = elim is [
   | inl same ↦ cc
   | inr same ↦ cc

@@ -20,10 +20,7 @@ pub fn faults(alloc: Global) -> Result<String> {
         tell(&mut said, fault.code(), fault)?;
     }
     for fault in [
-        GatherFault::Store,
-        GatherFault::Capacity,
         GatherFault::TooLarge,
-        GatherFault::Seat,
         GatherFault::Unfinished,
         GatherFault::NotTheRoot,
         GatherFault::Memory,

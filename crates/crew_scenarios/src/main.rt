@@ -4,7 +4,6 @@
 //! (`scripts/scenarios.py`).
 #![tactic(auto)]
 
-mod calls;
 mod dealing;
 mod faults;
 mod fetches;

@@ -1,4 +1,3 @@
-use crate::calls::gathered;
 use crate::faults::faults;
 use crate::fetches::fetches;
 use crate::holder::{Asked, holder_of};
@@ -164,9 +163,6 @@ impl Scene {
             "faults" => faults(alloc),
             "fetch" | "ranges" | "failing" | "shrinking" | "endless" => {
                 fetches(alloc, &self.texts, name, said)
-            }
-            "gather" | "sources" | "copies" | "copies_at" => {
-                gathered(rt, alloc, &self.texts, name, said)
             }
             "alone" => self.open_one(alloc, said),
             "one" | "ended" => self.one(alloc, name, said),

@@ -1,9 +1,8 @@
 -- What a seat with which all others were joined knows of its store.
-use Rattle.crews.proofs.Common.{◌≡◌, ◌⊎◌, ℕ, ◌/◌, ◌%◌, ◌<◌, ◌==◌, true, false, not, ◌&&◌, ◌||◌, List, [], ◌∷◌, ◌++◌, append-nil, append_assoc, map, Contains, is_some, Option, None, Some, refl, sym, ap, subst, ◌∙◌, inl, inr, eq-eqb, eqb-true, lt-ltb, and_from, and_parts, both_ways, cases_Bool, or_left, Contains-append_left, Contains-append_right, Contains-head, Contains-tail, IsWanted, IsNone, some_bytes, Fixed, Call, Commit, Give, Length, Parents, Read, Serve, Settle, Take, Event, Piece, Named, SeatView, after, after_call, IsLegal, run, state_after, has_bit, in_mask, Name, has_name, least_name, holds_chunk, State, claims, empty, is_among, is_claimed, is_held, mine, names_of, claims_last, held_lasts, legal-append, run-append, same_name-refl, right_there, Gripped, AreAllNames, LooksRound, Called, event_of}
+use Rattle.crews.proofs.Common.{◌≡◌, ◌⊎◌, ℕ, ◌/◌, ◌%◌, ◌<◌, ◌==◌, true, false, not, ◌&&◌, ◌||◌, List, [], ◌∷◌, ◌++◌, append-nil, append_assoc, map, Contains, is_some, Option, None, Some, refl, sym, ap, subst, ◌∙◌, inl, inr, eq-eqb, eqb-true, lt-ltb, and_from, and_parts, both_ways, cases_Bool, or_left, Contains-append_left, Contains-head, Contains-tail, IsWanted, IsNone, some_bytes, Fixed, Call, Commit, Give, Length, Parents, Read, Serve, Settle, Take, Event, Piece, Named, SeatView, after, after_call, IsLegal, run, state_after, has_bit, in_mask, Name, has_name, least_name, holds_chunk, State, claims, empty, is_among, is_claimed, is_held, mine, names_of, claims_last, held_lasts, legal-append, run-append, same_name-refl, right_there, Gripped, AreAllNames, LooksRound, Called, event_of}
 use Rattle.crews.specs.Lasting.{HoldsOn, IsAlone, IsBusyOn, alone_on}
 use Rattle.crews.specs.Seats.{GoneOn, fixed_of}
 use Rattle.crews.proofs.Sharing.{goes_on, sees_on}
-use Rattle.crews.proofs.Uniting.{by_them}
 
 -- whoever these names claim for is one of them
 least_own : (names who : List Name) → ((name : Name) → has_name who name ≡ true → has_name names name ≡ true) → is_some (least_name who) ≡ true

@@ -1,38 +1,13 @@
 -- What workers leave to the seat with which theirs were joined: each piece is one that was handed over.
-use Rattle.crews.proofs.Common.{◌≡◌, ℕ, suc, ◌<◌, true, false, List, [], ◌∷◌, ◌++◌, length, map, get_or, Contains, refl, sym, ap, subst, ◌∙◌, arith, inl, inr, All, both_ways, false_from_ne_true, All-member, Contains-cons_cases, IsHanded, IsFrom, from_wider, Fixed, Event, Piece, Named, SeatView, events_of, state_after, Name, has_name, claims, mine, names_of, seat_claims, Assembly, opening_view, AreAllNames, IsLent, get_or_from_slice_get, slice_get_within}
+use Rattle.crews.proofs.Common.{◌≡◌, ℕ, ◌<◌, true, false, List, [], ◌++◌, length, map, get_or, Contains, refl, sym, ap, subst, ◌∙◌, arith, inl, inr, All, both_ways, false_from_ne_true, All-member, Contains-cons_cases, IsHanded, IsFrom, from_wider, Fixed, Event, Piece, Named, SeatView, events_of, state_after, Name, has_name, claims, mine, names_of, seat_claims, Assembly, opening_view, AreAllNames}
 use Rattle.crews.specs.declared.crew.Crew.{Crew}
-use Rattle.crews.specs.Closing.{IsLeft}
-use Rattle.crews.specs.Crews.{Each, IsHandedTo, Worked}
-use Rattle.crews.specs.Joined.{AreCallsOf, AreClaimsOf, HasAllNamesOf, HaveAllNames, names_in}
+use Rattle.crews.specs.Crews.{Each, Worked}
+use Rattle.crews.specs.Joined.{AreCallsOf, AreClaimsOf, HasAllNamesOf}
 use Rattle.crews.specs.Seats.{BeginsAfter, KeepsItsOwn}
 
 -- what the holders of each of these crews may give
 abbrev pub AreLent : {H : Type 0} → (H → ℕ → ℕ → List ℕ → Type 0) → (Piece → Type 0) → List (Crew H) → Type 0
 AreLent {H = H} gives handed crews = All (λ (crew : Crew H). (piece : Piece) → IsHanded gives crew.holders.items piece → handed piece) crews
-
--- what crews hand over
-pub handed_wide : {H : Type 0} (gives : H → ℕ → ℕ → List ℕ → Type 0) (handed : Piece → Type 0) (crews : List (Crew H)) → AreLent gives handed crews → (piece : Piece)
-    → IsHandedTo gives crews piece → handed piece
-handed_wide {H = H} gives handed crews wide piece to =
-    let below : to.number < length crews = slice_get_within crews to.number to.crew to.there in
-    let here : get_or crews to.number to.crew ≡ to.crew = get_or_from_slice_get crews to.number to.crew to.crew to.there in
-    subst (λ (crew : Crew H). IsHanded gives crew.holders.items piece → handed piece) here (wide to.number to.crew below piece) to.handed
-
--- crews with lists of holders that were made alike
-pub lent_all : {H : Type 0} (gives : H → ℕ → ℕ → List ℕ → Type 0) (over : List H → Type 0) (crews : List (Crew H)) → All (λ (crew : Crew H). over crew.holders.items) crews
-    → AreLent gives (IsLent gives over) crews
-lent_all gives over crews are k d below piece handed = record { holders = (get_or crews k d).holders.items; are = are k d below; handed = handed }
-
--- crews whose seats have the same names
-names_each : {H : Type 0} (before after : List (Crew H)) → length after ≡ length before
-    → ((i : ℕ) (d : Crew H) → i < length before → (get_or after i d).seat.view.names ≡ (get_or before i d).seat.view.names) → names_in after ≡ names_in before
-names_each [] [] len each = refl
-names_each [] (y ∷ after) len each = absurd (omega (arith, len))
-names_each (x ∷ before) [] len each = absurd (omega (arith, len))
-names_each (x ∷ before) (y ∷ after) len each =
-    let first : y.seat.view.names ≡ x.seat.view.names = each 0 x (omega arith) in
-    let rest : names_in after ≡ names_in before = names_each before after (omega (arith, len)) (λ i d below. each (suc i) d (omega (arith, below))) in
-    ap (λ (ns : List Named). ns ++ names_in after) first ∙ ap (λ (ns : List Named). x.seat.view.names ++ ns) rest
 
 -- the first seat of a store has the only name
 pub opening_all : (fixed : Fixed) (view : SeatView) → view ≡ opening_view fixed → AreAllNames view.names
@@ -100,16 +75,3 @@ module _ (H : Type 0) (gives : H → ℕ → ℕ → List ℕ → Type 0) (count
         subst (λ (crew : Crew H). seat_claims crew.seat.view c ≡ true) (sym of.among.2) of.claims in
         absurd (both_ways _ ((begins i of.crew below).no_claims c) ((each.each i of.crew below).claimed c now))
   ])
-
-  pub left_to_one : (stays joined : SeatView) → KeepsItsOwn given stays → HaveAllNames stays before → (HaveAllNames stays after → AreAllNames joined.names)
-      → AreCallsOf stays after joined → HasAllNamesOf stays after joined → AreClaimsOf stays after joined → IsLeft handed joined
-  left_to_one stays joined keeps all names calls has claim =
-      let same : names_in after ≡ names_in before = names_each before after each.len (λ i d below. (each.each i d below).reports.gains.names_are) in
-      record {
-        alone = record {
-          all = names (subst (λ (ns : List Named). AreAllNames (stays.names ++ ns)) (sym same) all);
-          own = λ e name h by. (joined_from stays joined keeps calls has e h).1 name by;
-        };
-        from = λ e h. (joined_from stays joined keeps calls has e h).0;
-        unclaimed = claims_none stays joined keeps claim;
-      }

@@ -1,19 +1,17 @@
 -- What crews that meet know of each other, and so of whoever claimed a chunk while one of them closed.
-use Rattle.crews.proofs.Common.{◌≡◌, ◌≢◌, ◌⊎◌, ℕ, zero, suc, ◌+◌, ◌<◌, ◌≤◌, true, false, List, [], ◌∷◌, ◌++◌, append-nil, append_assoc, length, map, slice_index_or, Contains, Some, Option, refl, sym, ap, subst, ◌∙◌, arith, inl, inr, All, cases_Bool, cases_lt, both_ways, Contains-cons_cases, Contains-head, Contains-tail, Among, IsHanded, IsNone, IsServed, IsTooLarge, HasFailed, made_of, Event, Fixed, Form, Piece, Named, SeatView, AreOfOthers, IsLegal, events_of, is_by, state_after, Name, has_name, empty, is_among, mine, names_of, seat_claims, claims_last, legal-append, Assembly, Gripped, IsSeatOf, fixed_of}
+use Rattle.crews.proofs.Common.{◌≡◌, ◌≢◌, ◌⊎◌, ℕ, zero, suc, ◌+◌, ◌<◌, ◌≤◌, true, false, List, [], ◌∷◌, ◌++◌, append-nil, append_assoc, length, map, slice_index_or, Contains, Some, Option, refl, sym, ap, subst, ◌∙◌, arith, inl, inr, All, cases_Bool, cases_lt, both_ways, Contains-cons_cases, Contains-head, Contains-tail, Among, IsHanded, IsNone, IsTooLarge, HasFailed, made_of, Event, Fixed, Form, Piece, Named, SeatView, AreOfOthers, IsLegal, events_of, is_by, state_after, Name, has_name, empty, is_among, mine, names_of, seat_claims, claims_last, legal-append, Assembly, Gripped, IsSeatOf, fixed_of}
 use Rattle.std.proofs.Common.{length-set, get_or-set_other, get_or-set_same}
 use Rattle.std.proofs.lemmas.List.{append_cancel_left, get_or_default}
 use Rattle.std.proofs.lemmas.List.Elements.{filter-append}
 use Rattle.std.specs.Prelude.{slice_set}
 use Rattle.crews.specs.declared.crew.Crew.{Crew}
-use Rattle.crews.specs.Crews.{Each, WorkedFrom, WorkedOn, faults_of}
+use Rattle.crews.specs.Crews.{Each, WorkedOn}
 use Rattle.crews.specs.Filling.{Closes, IsBusyBeside, IsOfNone}
 use Rattle.crews.specs.Going.{goes}
-use Rattle.crews.specs.Joined.{IsClaimedBy}
-use Rattle.crews.specs.Lasting.{IsAlone, IsBusyOn, IsClaimedMeanwhile, IsOther, alone_on, lasts, meanwhile_from, meanwhile_on}
-use Rattle.crews.specs.Seats.{GoneOn, claims_of, fixed_of as fixed_at}
+use Rattle.crews.specs.Lasting.{IsBusyOn, IsClaimedMeanwhile, IsOther, alone_on, lasts, meanwhile_from, meanwhile_on}
+use Rattle.crews.specs.Seats.{GoneOn, claims_of}
 use Rattle.crews.specs.Turns.{AllMeet, HasSeen, Looks, Meets, Turns}
 use Rattle.crews.proofs.Sharing.{sees_on}
-use Rattle.gather.specs.Counts.{Reports}
 use Rattle.gather.specs.Parts.{HaveParts}
 use Rattle.gather.specs.declared.grain.Grain.TheVariants.{Group as ByGroup}
 use Rattle.store_core.specs.Knowledge.{KeepsClaims, Sees}

@@ -3,10 +3,7 @@ pub mod Summing
 pub mod Sharing
 pub mod Knowing
 pub mod Finishing
-pub mod Uniting
 pub mod Alone
 pub mod HandedOver
-pub mod Rereading
-pub mod HandingOut
 pub mod Giving
 pub mod InTurn

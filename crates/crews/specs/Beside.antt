@@ -4,7 +4,6 @@ use Rattle.b3tree.specs.declared.mode.Mode.{Mode}
 use Rattle.bao_check.specs.declared.outline.Outline.{Outline}
 use Rattle.bao_check.specs.Outline.{outline_mode, outline_root}
 use Rattle.store_core.specs.declared.fixed.Fixed.{Fixed}
-use Rattle.gather.specs.Large.{fixed_as}
 
 -- it was accepted under this root, in this mode
 pub record IsUnder (outline : Outline) (mode : Mode) (root : List ℕ) : Type 0 where
@@ -14,7 +13,3 @@ pub record IsUnder (outline : Outline) (mode : Mode) (root : List ℕ) : Type 0 
 -- under the store's
 abbrev pub IsOfStore : Fixed → Outline → Type 0
 IsOfStore fixed outline = IsUnder outline fixed.mode fixed.root.0
-
--- the store that is made for it, with room for so many chunks
-abbrev pub fixed_beside : Outline → ℕ → Fixed
-fixed_beside outline capacity = fixed_as (record { 0 = outline_root outline }) (outline_mode outline) capacity

@@ -1,21 +1,10 @@
 -- Crews' seats joined to one.
-use Rattle.std.specs.Prelude.{◌≡◌, ℕ, true, List, [], ◌∷◌, ◌++◌, ◌⊎◌, Contains}
+use Rattle.std.specs.Prelude.{◌≡◌, ℕ, true, List, ◌⊎◌, Contains}
 use Rattle.crews.specs.declared.crew.Crew.{Crew}
 use Rattle.store_core.specs.declared.history.Event.{Event}
-use Rattle.store_core.specs.declared.view.Named.{Named}
 use Rattle.store_core.specs.declared.view.SeatView.{SeatView}
 use Rattle.store_core.specs.Names.{Name, has_name}
 use Rattle.store_core.specs.Views.{mine, names_of, seat_claims}
-use Rattle.store_core.specs.Knowledge.{AreAllNames}
-
--- the names of the crews' seats, with their counts of splits
-abbrev pub names_in : {H : Type 0} → List (Crew H) → List Named
-names_in [] = []
-names_in (crew ∷ crews) = crew.seat.view.names ++ names_in crews
-
--- a seat and the crews' seats together have all names that there are
-abbrev pub HaveAllNames : {H : Type 0} → SeatView → List (Crew H) → Type 0
-HaveAllNames view crews = AreAllNames (view.names ++ names_in crews)
 
 -- the call is one of a crew's own
 pub record IsCallOf {H : Type 0} (crews : List (Crew H)) (e : Event) : Type 0 where

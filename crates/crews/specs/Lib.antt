@@ -8,5 +8,3 @@ pub mod Finished
 pub mod Peers
 pub mod Joined
 pub mod Beside
-pub mod Closing
-pub mod Wholes

@@ -2,27 +2,14 @@
 
 ghost use Rattle.std.specs.Prelude.{◌≡◌, ℕ, List, ◌+◌, ◌-◌, ◌*◌, ◌^◌, ◌<◌, ◌≤◌, ◌↔◌, length, IfSome, IsErr};
 ghost use Rattle.b3word.specs.Lanes.{lane8};
-ghost use Rattle.b3tree.specs.Chunk.{block_count};
 ghost use Rattle.b3tree.specs.Taken.{Holds};
 ghost use Rattle.b3tree.specs.declared.mode.Mode.{Mode};
 
 use b3tree::{
-    Cv, EightParents, Hash, Hasher, Input, Mode, TooLong, chunk_input, chunks_a_lane,
-    eight_parents, eight_values, hash, lane_parents, left_len, parent_input, parent_lanes,
-    root_hash, rooted, spaced_chunks, spaced_values, subtree_cv, top_input, xof, xof_fits,
+    Cv, Hash, Hasher, Input, Mode, TooLong, chunks_a_lane, eight_values, hash, parent_lanes,
+    root_hash, spaced_chunks, spaced_values, subtree_cv, xof, xof_fits,
 };
 use std::simd::u32x8;
-
-pub fn chunk_input_determined(mode: &Mode, i: u64, chunk: &[u8], k: usize) -> (Input, Input)
-    requires len { length chunk.now ≤ 1024 }
-    requires block { k < block_count (length chunk.now) }
-    ensures { result.0 ≡ result.1 }
-{
-    (
-        chunk_input(mode, i, chunk, k),
-        chunk_input(mode, i, chunk, k),
-    )
-}
 
 pub fn eight_values_determined(mode: &Mode, first: u64, bytes: &[u8]) -> ([Cv; 8], [Cv; 8])
     requires len { length bytes.now ≡ 8192 }
@@ -33,33 +20,6 @@ pub fn eight_values_determined(mode: &Mode, first: u64, bytes: &[u8]) -> ([Cv; 8
         eight_values(mode, first, bytes),
         eight_values(mode, first, bytes),
     )
-}
-
-pub fn eight_parents_determined(
-    mode: &Mode,
-    first: u64,
-    bytes: &[u8],
-) -> (EightParents, EightParents)
-    requires len { length bytes.now ≡ 8192 }
-    requires end { 1024 * first + 8192 ≤ 2 ^ 64 - 1 }
-    ensures { result.0 ≡ result.1 }
-{
-    (
-        eight_parents(mode, first, bytes),
-        eight_parents(mode, first, bytes),
-    )
-}
-
-pub fn lane_parents_determined(mode: &Mode, values: &[u32x8; 8]) -> (EightParents, EightParents)
-    ensures { result.0 ≡ result.1 }
-{
-    (lane_parents(mode, values), lane_parents(mode, values))
-}
-
-pub fn hasher_code_determined(a: &TooLong, b: &TooLong) -> (u16, u16)
-    ensures { result.0 ≡ result.1 }
-{
-    (a.code(), b.code())
 }
 
 // What a new hasher's buffer has isn't determined; what it holds is, and with it, below, what it answers.
@@ -97,12 +57,6 @@ pub fn finalize_xof_determined(a: &Hasher, b: &Hasher, at: u64, ours: &mut [u8],
     b.finalize_xof(at, theirs);
 }
 
-pub fn rooted_determined(input: &Input) -> (Input, Input)
-    ensures { result.0 ≡ result.1 }
-{
-    (rooted(input), rooted(input))
-}
-
 pub fn root_hash_determined(root: &Input) -> (Hash, Hash)
     ensures { result.0 ≡ result.1 }
 {
@@ -132,36 +86,6 @@ pub fn chunks_a_lane_determined(len: u64) -> (Option<usize>, Option<usize>)
     (chunks_a_lane(len), chunks_a_lane(len))
 }
 
-pub fn hash_mode_determined() -> (Mode, Mode)
-    ensures { result.0 ≡ result.1 }
-{
-    (Mode::hash(), Mode::hash())
-}
-
-pub fn keyed_determined(key: [u8; 32]) -> (Mode, Mode)
-    ensures { result.0 ≡ result.1 }
-{
-    (Mode::keyed(key), Mode::keyed(key))
-}
-
-pub fn derive_determined(context: &str) -> (Mode, Mode)
-    ensures { result.0 ≡ result.1 }
-{
-    (Mode::derive(context), Mode::derive(context))
-}
-
-pub fn context_key_determined(context: &[u8]) -> ([u8; 32], [u8; 32])
-    ensures { result.0 ≡ result.1 }
-{
-    (Mode::context_key(context), Mode::context_key(context))
-}
-
-pub fn from_context_key_determined(key: [u8; 32]) -> (Mode, Mode)
-    ensures { result.0 ≡ result.1 }
-{
-    (Mode::from_context_key(key), Mode::from_context_key(key))
-}
-
 pub fn xof_fits_determined(at: u64, len: u64) -> (bool, bool)
     ensures { result.0 ≡ result.1 }
 {
@@ -177,40 +101,11 @@ pub fn xof_determined(mode: &Mode, bytes: &[u8], at: u64, a: &mut [u8], b: &mut 
     xof(mode, bytes, at, b);
 }
 
-pub fn left_len_determined(len: u64) -> (u64, u64)
-    requires { 1024 < len }
-    ensures { result.0 ≡ result.1 }
-{
-    (left_len(len), left_len(len))
-}
-
-pub fn parent_input_determined(mode: &Mode, left: &Cv, right: &Cv) -> (Input, Input)
-    ensures { result.0 ≡ result.1 }
-{
-    (
-        parent_input(mode, left, right),
-        parent_input(mode, left, right),
-    )
-}
-
-pub fn top_input_determined(mode: &Mode, first: u64, bytes: &[u8]) -> (Input, Input)
-    requires { 1024 * first + length bytes.now ≤ 2 ^ 64 - 1 }
-    ensures { result.0 ≡ result.1 }
-{
-    (top_input(mode, first, bytes), top_input(mode, first, bytes))
-}
-
 pub fn from_bytes_determined(bytes: &[u8]) -> (Cv, Cv)
     requires { length bytes.now ≡ 32 }
     ensures { result.0 ≡ result.1 }
 {
     (Cv::from_bytes(bytes), Cv::from_bytes(bytes))
-}
-
-pub fn to_bytes_determined(value: &Cv) -> ([u8; 32], [u8; 32])
-    ensures { result.0 ≡ result.1 }
-{
-    (value.to_bytes(), value.to_bytes())
 }
 
 pub fn parent_lanes_determined(

@@ -3,43 +3,14 @@
 ghost use Rattle.std.specs.Prelude.{◌≡◌, ℕ, ◌/◌, ◌%◌, ◌^◌, ◌<◌, slice_index};
 ghost use Rattle.b3word.specs.Lanes.{lane8, lane16};
 
-use b3word::{Input, compress, cv, cv_lanes, cv_pair, cv_two_pairs, cv8, joined, transposed};
+use b3word::{Input, cv_lanes, cv_pair, joined, transposed};
 use std::simd::u32x8;
-
-pub fn compress_determined(input: &Input) -> ([u32; 16], [u32; 16])
-    ensures { result.0 ≡ result.1 }
-{
-    (compress(input), compress(input))
-}
-
-pub fn cv_determined(input: &Input) -> ([u32; 8], [u32; 8])
-    ensures { result.0 ≡ result.1 }
-{
-    (cv(input), cv(input))
-}
-
-pub fn cv8_determined(inputs: &[Input; 8]) -> ([[u32; 8]; 8], [[u32; 8]; 8])
-    ensures { result.0 ≡ result.1 }
-{
-    (cv8(inputs), cv8(inputs))
-}
 
 pub fn cv_pair_determined(a: &Input, b: &Input) -> (([u32; 8], [u32; 8]), ([u32; 8], [u32; 8]))
     ensures first { result.0.0 ≡ result.1.0 }
     ensures second { result.0.1 ≡ result.1.1 }
 {
     (cv_pair::<0>(a, b), cv_pair::<1>(a, b))
-}
-
-pub fn cv_two_pairs_determined(
-    a: &Input,
-    b: &Input,
-    c: &Input,
-    d: &Input,
-) -> ([[u32; 8]; 4], [[u32; 8]; 4])
-    ensures { result.0 ≡ result.1 }
-{
-    (cv_two_pairs(a, b, c, d), cv_two_pairs(a, b, c, d))
 }
 
 pub fn cv_lanes_determined(

@@ -5,75 +5,17 @@ ghost use Rattle.bao_text.specs.Rest.{rest_of};
 
 use b3tree::{Cv, Hash, Input, Mode};
 use bao_text::{
-    Choice, Memory, Node, Nodes, Places, WriteFault, append_cut, append_subtree, chunk_count,
-    claimed, combined, cut_slice, encoded_len, nodes, outboard, outboard_len, part_of, put_parent,
-    slice, subtree_size, write_combined, write_text, write_texts,
+    Choice, Memory, Node, Nodes, Places, WriteFault, append_cut, append_subtree, combined,
+    cut_slice, nodes, outboard, part_of, put_parent, slice, write_combined, write_text,
+    write_texts,
 };
 use std::alloc::Global;
 use std::io::Write;
-
-pub fn of_combined_determined(total: u64) -> (Choice, Choice)
-    ensures { result.0 ≡ result.1 }
-{
-    (Choice::of_combined(total), Choice::of_combined(total))
-}
-
-pub fn of_outboard_determined(total: u64) -> (Choice, Choice)
-    ensures { result.0 ≡ result.1 }
-{
-    (Choice::of_outboard(total), Choice::of_outboard(total))
-}
-
-pub fn of_nothing_determined() -> (Choice, Choice)
-    ensures { result.0 ≡ result.1 }
-{
-    (Choice::of_nothing(), Choice::of_nothing())
-}
-
-pub fn of_slice_determined(total: u64, start: u64, len: u64) -> (Choice, Choice)
-    ensures { result.0 ≡ result.1 }
-{
-    (
-        Choice::of_slice(total, start, len),
-        Choice::of_slice(total, start, len),
-    )
-}
-
-pub fn wants_determined(choice: &Choice, at: u64, n: u64) -> (bool, bool)
-    ensures { result.0 ≡ result.1 }
-{
-    (choice.wants(at, n), choice.wants(at, n))
-}
 
 pub fn covers_determined(choice: &Choice, at: u64, n: u64) -> (bool, bool)
     ensures { result.0 ≡ result.1 }
 {
     (choice.covers(at, n), choice.covers(at, n))
-}
-
-pub fn start_determined(choice: &Choice) -> (u64, u64)
-    ensures { result.0 ≡ result.1 }
-{
-    (choice.start(), choice.start())
-}
-
-pub fn end_determined(choice: &Choice) -> (u64, u64)
-    ensures { result.0 ≡ result.1 }
-{
-    (choice.end(), choice.end())
-}
-
-pub fn has_chunks_determined(choice: &Choice) -> (bool, bool)
-    ensures { result.0 ≡ result.1 }
-{
-    (choice.has_chunks(), choice.has_chunks())
-}
-
-pub fn claimed_determined(text: &[u8]) -> (u64, u64)
-    requires { 8 ≤ length text.now }
-    ensures { result.0 ≡ result.1 }
-{
-    (claimed(text), claimed(text))
 }
 
 pub fn cut_slice_determined(
@@ -90,18 +32,6 @@ pub fn cut_slice_determined(
     )
 }
 
-pub fn memory_code_determined(a: &Memory, b: &Memory) -> (u16, u16)
-    ensures { result.0 ≡ result.1 }
-{
-    (a.code(), b.code())
-}
-
-pub fn write_fault_code_determined(fault: &WriteFault) -> (u16, u16)
-    ensures { result.0 ≡ result.1 }
-{
-    (fault.code(), fault.code())
-}
-
 pub fn from_memory_determined(a: Memory, b: Memory) -> (WriteFault, WriteFault)
     ensures { result.0 ≡ result.1 }
 {
@@ -112,30 +42,6 @@ pub fn part_of_determined<'a>(bytes: &'a [u8], at: u128, len: u128) -> (&'a [u8]
     ensures { result.0.now ≡ result.1.now }
 {
     (part_of(bytes, at, len), part_of(bytes, at, len))
-}
-
-pub fn chunk_count_determined(len: u64) -> (u64, u64)
-    ensures { result.0 ≡ result.1 }
-{
-    (chunk_count(len), chunk_count(len))
-}
-
-pub fn subtree_size_determined(n: u64) -> (u128, u128)
-    ensures { result.0 ≡ result.1 }
-{
-    (subtree_size(n), subtree_size(n))
-}
-
-pub fn encoded_len_determined(len: u64) -> (u128, u128)
-    ensures { result.0 ≡ result.1 }
-{
-    (encoded_len(len), encoded_len(len))
-}
-
-pub fn outboard_len_determined(len: u64) -> (u128, u128)
-    ensures { result.0 ≡ result.1 }
-{
-    (outboard_len(len), outboard_len(len))
 }
 
 pub fn nodes_determined(length: u64, start: u64, len: u64) -> (Nodes, Nodes)

@@ -10,12 +10,6 @@ use b3tree::Input;
 use bao_bind::{AuditFault, ParentVerdict, Verdict, audit, audit_all, audit_parents};
 use bao_check::Checked;
 
-pub fn audit_code_determined(a: &AuditFault, b: &AuditFault) -> (u16, u16)
-    ensures { result.0 ≡ result.1 }
-{
-    (a.code(), b.code())
-}
-
 // Of two pieces that are the same. Which collision it exhibits isn't determined.
 pub fn audit_determined(
     blob: &[u8],

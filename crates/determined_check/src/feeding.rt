@@ -8,18 +8,6 @@ ghost use Rattle.determined_check.specs.Agreeing.{Agree, AgreeOrLack};
 use b3tree::{Hash, Mode};
 use bao_check::{CheckFault, Checking, Decoded};
 
-pub fn wants_determined(check: &Checking) -> (Option<usize>, Option<usize>)
-    ensures { result.0 ≡ result.1 }
-{
-    (check.wants(), check.wants())
-}
-
-pub fn wants_chunk_determined(check: &Checking) -> (bool, bool)
-    ensures { result.0 ≡ result.1 }
-{
-    (check.wants_chunk(), check.wants_chunk())
-}
-
 pub fn is_done_determined(a: &Checking, b: &Checking) -> (bool, bool)
     ensures { (task : CheckTask) (taken : List ℕ) → HasTakenAs a.now task taken → HasTakenAs b.now task taken → result.0 ≡ result.1 }
 {

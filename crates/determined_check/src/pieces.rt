@@ -8,7 +8,7 @@ ghost use Rattle.bao_text.specs.Rest.{rest_of};
 ghost use Rattle.determined_check.specs.Agreeing.{SameOutline, SamePiece};
 
 use b3tree::{Cv, Hash, Mode};
-use bao_check::{CheckFault, Checked, Outline, Tail};
+use bao_check::{Checked, Outline, Tail};
 use bao_text::Nodes;
 
 pub fn new_determined<'a>(
@@ -32,27 +32,6 @@ pub fn root_determined(a: &Checked<'_>, b: &Checked<'_>) -> (Hash, Hash)
     ensures { result.0 ≡ result.1 }
 {
     (a.root(), b.root())
-}
-
-pub fn mode_determined(a: &Checked<'_>, b: &Checked<'_>) -> (Mode, Mode)
-    requires { SamePiece a.now b.now }
-    ensures { result.0 ≡ result.1 }
-{
-    (a.mode(), b.mode())
-}
-
-pub fn claimed_determined(a: &Checked<'_>, b: &Checked<'_>) -> (u64, u64)
-    requires { SamePiece a.now b.now }
-    ensures { result.0 ≡ result.1 }
-{
-    (a.claimed(), b.claimed())
-}
-
-pub fn text_len_determined(a: &Checked<'_>, b: &Checked<'_>) -> (u128, u128)
-    requires { SamePiece a.now b.now }
-    ensures { result.0 ≡ result.1 }
-{
-    (a.text_len(), b.text_len())
 }
 
 pub fn chunks_determined(a: &Checked<'_>, b: &Checked<'_>) -> ((u64, u64), (u64, u64))
@@ -88,13 +67,6 @@ pub fn tail_determined<'a>(a: &Checked<'a>, b: &Checked<'a>) -> (Option<Tail<'a>
     (a.tail(), b.tail())
 }
 
-pub fn has_parent_determined(a: &Checked<'_>, b: &Checked<'_>, m: u64) -> (bool, bool)
-    requires { SamePiece a.now b.now }
-    ensures { result.0 ≡ result.1 }
-{
-    (a.has_parent(m), b.has_parent(m))
-}
-
 pub fn parents_of_determined(a: &Checked<'_>, b: &Checked<'_>, group: u64) -> (u64, u64)
     requires { SamePiece a.now b.now }
     ensures { result.0 ≡ result.1 }
@@ -120,20 +92,6 @@ pub fn tail_root_determined(a: &Tail<'_>, b: &Tail<'_>) -> (Hash, Hash)
     (a.root(), b.root())
 }
 
-pub fn tail_mode_determined(a: &Tail<'_>, b: &Tail<'_>) -> (Mode, Mode)
-    requires { SamePiece (tail_piece a.now) (tail_piece b.now) }
-    ensures { result.0 ≡ result.1 }
-{
-    (a.mode(), b.mode())
-}
-
-pub fn tail_length_determined(a: &Tail<'_>, b: &Tail<'_>) -> (u64, u64)
-    requires { SamePiece (tail_piece a.now) (tail_piece b.now) }
-    ensures { result.0 ≡ result.1 }
-{
-    (a.length(), b.length())
-}
-
 pub fn outline_determined<'a>(
     mode: &Mode,
     root: &Hash,
@@ -155,29 +113,9 @@ pub fn outline_root_determined(a: &Outline<'_>, b: &Outline<'_>) -> (Hash, Hash)
     (a.root(), b.root())
 }
 
-pub fn outline_mode_determined(a: &Outline<'_>, b: &Outline<'_>) -> (Mode, Mode)
-    requires { SameOutline a.now b.now }
-    ensures { result.0 ≡ result.1 }
-{
-    (a.mode(), b.mode())
-}
-
-pub fn outline_claimed_determined(a: &Outline<'_>, b: &Outline<'_>) -> (u64, u64)
-    requires { SameOutline a.now b.now }
-    ensures { result.0 ≡ result.1 }
-{
-    (a.claimed(), b.claimed())
-}
-
 pub fn leaf_determined(a: &Outline<'_>, b: &Outline<'_>, i: u64) -> (Option<Cv>, Option<Cv>)
     requires { SameOutline a.now b.now }
     ensures { result.0 ≡ result.1 }
 {
     (a.leaf(i), b.leaf(i))
-}
-
-pub fn fault_code_determined(fault: &CheckFault) -> (u16, u16)
-    ensures { result.0 ≡ result.1 }
-{
-    (fault.code(), fault.code())
 }

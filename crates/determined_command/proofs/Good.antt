@@ -7,6 +7,9 @@ use Rattle.bao_check.specs.declared.fault.CheckFault.TheVariants as check
 use Rattle.bao_decode.specs.declared.decode_fault.DecodeFault.{DecodeFault}
 use Rattle.bao_decode.specs.declared.decode_fault.DecodeFault.TheVariants as decode
 use Rattle.bao_files.specs.Disks.{FileState, IsKnown}
+use Rattle.bao_tasks.specs.declared.gathered_fault.GatheredFault.{GatheredFault}
+use Rattle.bao_tasks.specs.declared.gathered_fault.GatheredFault.TheVariants as gathered
+use Rattle.gather.specs.declared.fault.GatherFault.TheVariants as gather
 use Rattle.bao_request.specs.CommandLine.{AsksFor, program_app}
 use Rattle.bao_request.specs.declared.tasks.Request.{Request}
 use Rattle.bao_request.specs.declared.tasks.Task.{Task}
@@ -14,7 +17,7 @@ use Rattle.bao_request.specs.declared.tasks.Task.TheVariants.{Hash, Encode, CutS
 use Rattle.bao_command.specs.declared.fault.Fault.{Fault}
 use Rattle.bao_command.specs.declared.fault.Fault.TheVariants as fault
 use Rattle.bao_command.specs.Outcome.{IsUsage}
-use Rattle.bao_command.specs.Status.{decode_status_of, status_of}
+use Rattle.bao_command.specs.Status.{decode_status_of, gathered_status_of, status_of}
 use Rattle.bao_command.specs.Tasks.{IsDue, IsLedTo, IsNamed, LeadsListTo, ListClashes, ReadsListOf, ReadsOne, ReadsOutAs, WritesApart, out_of}
 use Rattle.bao_command.proofs.Refusals.{check_is_no_usage}
 use Rattle.bao_command.proofs.Telling.{file_is_no_usage}
@@ -23,6 +26,15 @@ use Rattle.determined_command.specs.Commands.{IsGood}
 decode_is_no_usage : (cause : DecodeFault) → decode_status_of cause ≢ 2
 decode_is_no_usage (decode.File cause) is = file_is_no_usage cause is
 decode_is_no_usage (decode.Check cause) is = check_is_no_usage cause is
+
+gathered_is_no_usage : (cause : GatheredFault) → gathered_status_of cause ≢ 2
+gathered_is_no_usage (gathered.File cause) is = file_is_no_usage cause is
+gathered_is_no_usage (gathered.Outboard cause) is = check_is_no_usage cause is
+gathered_is_no_usage (gathered.Gather gather.TooLarge) is = let bad : 1 ≡ 2 = is in absurd (omega arith)
+gathered_is_no_usage (gathered.Gather gather.Unfinished) is = let bad : 1 ≡ 2 = is in absurd (omega arith)
+gathered_is_no_usage (gathered.Gather gather.NotTheRoot) is = let bad : 1 ≡ 2 = is in absurd (omega arith)
+gathered_is_no_usage (gathered.Gather gather.Memory) is = let bad : 4 ≡ 2 = is in absurd (omega arith)
+gathered_is_no_usage (gathered.Gather gather.Starved) is = let bad : 4 ≡ 2 = is in absurd (omega arith)
 
 module _ (at : List ℕ → FileState) (known : (path : List ℕ) → IsKnown (at path)) where
   -- names of known files lead to one only where they are the same
@@ -89,13 +101,13 @@ module _ (at : List ℕ → FileState) (known : (path : List ℕ) → IsKnown (a
   not_due request good fault.OutIsOutput two due = due good.apart.0
   not_due request good fault.OutLeadsToOutput two due = out_apart request.task good.apart.0 due
   not_due request good fault.OutIsRead two due = good.apart.3 (out_read request.key_file request.task due)
-  not_due request good fault.LongAndOthers two due = good.mixed due
+  not_due request good fault.LongAndCapacity two due = good.mixed due
   not_due request good fault.ListIsOut two due = good.apart.1 due
   not_due request good fault.ListIsRead two due = good.apart.2 due
   not_due request good fault.ListLeadsToOther two due = list_apart request.key_file request.task good.apart.1 good.apart.2 due
   not_due request good (fault.File cause) two due = file_is_no_usage cause two
   not_due request good (fault.Decode cause) two due = decode_is_no_usage cause two
-  not_due request good (fault.Gather cause unlisted) two due = good.capacity (due.1 two)
+  not_due request good (fault.Gather cause unlisted) two due = gathered_is_no_usage cause two
   not_due request good (fault.Replay cause) two due = elim (due.1 two) [ inl none ↦ good.capacity none | inr bad ↦ good.script bad ]
 
   pub not_usage : (words : List Text) → ((request : Request) → AsksFor words request → IsGood at request) → (request : Request) × AsksFor words request → fault_of program_app words ≡ []

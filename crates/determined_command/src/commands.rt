@@ -21,18 +21,6 @@ use bao_files::{Disk, Progress};
 use std::io::Write;
 use std::thread::Threads;
 
-pub fn fault_status_determined(fault: Fault<'_>) -> (u8, u8)
-    ensures { result.0 ≡ result.1 }
-{
-    (fault.status(), fault.status())
-}
-
-pub fn fault_code_determined(fault: &Fault<'_>) -> (Option<u16>, Option<u16>)
-    ensures { result.0 ≡ result.1 }
-{
-    (fault.code(), fault.code())
-}
-
 // What is printed no contract says.
 pub fn report_determined<E: Write>(fault: Fault<'_>, ours: &mut E, theirs: &mut E) -> (u8, u8)
     ensures { result.0 ≡ result.1 }

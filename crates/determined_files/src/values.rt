@@ -2,39 +2,11 @@
 
 ghost use Rattle.std.specs.Prelude.{◌≡◌, IfOk, string_bytes};
 
-use bao_files::{FileFault, LateFile, Meter, Progress, Shown, bytes_of_digits};
-use bao_read::{ParFault, ReadFault};
+use bao_files::{LateFile, Meter, Progress, Shown, bytes_of_digits};
 use std::alloc::AllocError;
 use std::cell::Cell;
 use std::io::Write;
 use std::rt::{Clock, Files};
-
-pub fn pool_code_determined(a: &ParFault, b: &ParFault) -> (u16, u16)
-    ensures { result.0 ≡ result.1 }
-{
-    (a.code(), b.code())
-}
-
-pub fn source_code_determined(fault: &ReadFault) -> (u16, u16)
-    ensures { result.0 ≡ result.1 }
-{
-    (fault.code(), fault.code())
-}
-
-pub fn file_code_determined(fault: &FileFault<'_>) -> (Option<u16>, Option<u16>)
-    ensures { result.0 ≡ result.1 }
-{
-    (fault.code(), fault.code())
-}
-
-pub fn reader_code_determined(
-    a: &bao_files::InputFault,
-    b: &bao_files::InputFault,
-) -> (Option<u16>, Option<u16>)
-    ensures { result.0 ≡ result.1 }
-{
-    (a.code(), b.code())
-}
 
 pub fn bytes_of_digits_determined(text: &str) -> (Option<[u8; 32]>, Option<[u8; 32]>)
     ensures { result.0 ≡ result.1 }

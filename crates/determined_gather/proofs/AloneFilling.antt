@@ -1,5 +1,5 @@
 -- What a seat that is alone has seen after its rounds.
-use Rattle.std.proofs.Common.{◌≡◌, ◌∙◌, ◌⊎◌, ℕ, ◌<◌, true, false, List, [], ◌++◌, length, Contains, Some, is_some, inl, inr, sym, subst, append-nil}
+use Rattle.std.proofs.Common.{◌≡◌, ◌∙◌, ◌⊎◌, ℕ, true, false, List, [], ◌++◌, Contains, Some, is_some, inl, inr, sym, subst, append-nil}
 use Rattle.std.proofs.lemmas.Bool.{both_ways}
 use Rattle.b3tree.specs.Valid.{IsKeyed}
 use Rattle.crews.specs.Filling.{IsBusyBeside}

@@ -1,5 +1,5 @@
 -- A store that holds all nodes of a slice serves it.
-use Rattle.std.proofs.Common.{◌≡◌, ◌∙◌, ◌⊎◌, ◌<◌, ℕ, true, List, [], length, Option, None, Some, Result, Ok, Err, IfErr, IfSome, is_some, inl, inr, refl, sym, subst}
+use Rattle.std.proofs.Common.{◌≡◌, ◌∙◌, ℕ, true, List, [], Option, None, Some, Result, Ok, Err, IfErr, IfSome, is_some, refl, subst}
 use Rattle.std.specs.Prelude.{Contains}
 use Rattle.bao_text.specs.declared.walk.Node.{Node}
 use Rattle.bao_text.specs.NodeNames.{slice_names}

@@ -1,14 +1,10 @@
 pub mod Finishes
-pub mod Gathered
 pub mod Asked
 pub mod Fetched
 pub mod Sums
 pub mod Stored
-pub mod Firsts
-pub mod Alike
 pub mod LoneStoring
 pub mod PieceNodes
 pub mod FullServing
-pub mod SlicesServed
 pub mod Composing
 pub mod AloneFilling

@@ -40,10 +40,6 @@ abbrev pub AreStored : SeatView → Piece → ℕ → Type 0
 AreStored view piece end = (node : Node) → HasNode piece node → number_of node < view.fixed.capacity → number_of node / 64 < end
     → is_some (node_held (state_after view.seen) node) ≡ true
 
--- the text is the slice of each blob with the root, or a collision is exhibited from a piece that was handed over
-abbrev pub IsTheSlice : (Piece → Type 0) → Fixed → ℕ → ℕ → List ℕ → Type 0
-IsTheSlice handed fixed start len text = (blob : List ℕ) → IsBlob fixed blob → (text ≡ slice_text fixed.mode blob start len) ⊎ HasCollision handed fixed blob
-
 -- A store has every node of a blob: the blob's length is recorded, and each of its chunks and of its parents is held.
 pub record HasEveryNode (s : State) (blob : List ℕ) : Type 0 where
   pub recorded : s.recorded ≡ Some (length blob)

@@ -5,17 +5,12 @@
 //! contract: tests alone show it.
 #![tactic(auto)]
 
-mod copies;
-mod faults;
 mod filled;
 mod finishing;
 mod holders;
-mod lists;
 mod peers;
 mod rooms;
 mod rounds;
 mod served;
 mod shared;
-mod texts;
-mod wholes;
 mod workers;

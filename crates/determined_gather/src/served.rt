@@ -1,18 +1,9 @@
 // What was gathered or stored is served, unless there is no memory.
 
-ghost use Rattle.std.specs.Prelude.{◌≡◌, ◌⊎◌, ◌+◌, ◌≤◌, ℕ, IfErr, IfOk, List, MatchResult, length};
-ghost use Rattle.bao_check.specs.Accepted.{IsAccepted, slice_nodes};
+ghost use Rattle.std.specs.Prelude.{◌≡◌, ◌+◌, ◌≤◌, IfErr, IfOk, length};
 ghost use Rattle.bao_check.specs.Checked.{piece_claimed, piece_len, piece_start};
-ghost use Rattle.bao_text.specs.Choice.{chunk_count};
-ghost use Rattle.bao_text.specs.Texts.{slice_text};
 ghost use Rattle.crews.specs.Lasting.{IsAlone};
-ghost use Rattle.determined_gather.specs.Serves.{AreStored, HasSliceOf, IsReady, IsTheSlice};
-ghost use Rattle.gather.specs.Available.{HaveSlices};
-ghost use Rattle.gather.specs.Forms.{AreSlices};
-ghost use Rattle.gather.specs.HandedOut.{IsExcused};
-ghost use Rattle.gather.specs.Large.{HasCollision};
-ghost use Rattle.gather.specs.Lists.{IsFromSource, source_gives};
-ghost use Rattle.store_core.specs.Laws.{IsBlob};
+ghost use Rattle.determined_gather.specs.Serves.{AreStored, HasSliceOf, IsReady};
 ghost use Rattle.store_core.specs.Machine.{groups};
 ghost use Rattle.store_core.specs.Pieces.{piece_of};
 ghost use Rattle.store_core.specs.Stores.{IsOf};
@@ -20,47 +11,8 @@ ghost use Rattle.store_shared.specs.Seats.{IsGroupOf, IsSeatOf, fixed_of};
 
 use b3tree::{Hash, Mode};
 use bao_check::Checked;
-use bao_read::Source;
-use bao_text::Memory;
-use crews::{How, gather};
-use gather::{Form, GatherFault};
 use std::alloc::Global;
-use std::thread::Threads;
-use store_core::Fixed;
 use store_shared::{Assembly, NewFault, Seat, ServeFault};
-
-// Out of whatever sources a blob came together, each slice of it is served, and memory alone refuses it. It is accepted under the
-// root, and it is the slice of each blob with the root, or a collision is exhibited. Where the sources have a blob's slices
-// together, it is that blob's.
-pub fn gathered_is_served<R: Threads + Sync, S: Source + Sync>(
-    rt: &R,
-    alloc: Global,
-    fixed: &Fixed,
-    form: &Form<'_>,
-    how: How,
-    sources: &[S],
-    start: u64,
-    len: u64,
-) -> Result<Result<Vec<u8>, Memory>, GatherFault>
-    requires whole { fixed.now.base ≡ 0 }
-    ensures accepted { IfOk result (λ served. IfOk served (λ text. IsAccepted fixed.now.mode fixed.now.root.0 text.items (slice_nodes text.items start len))) }
-    ensures slice { IfOk result (λ served. IfOk served (λ text. IsTheSlice (IsFromSource form.now S.contents S.faultless sources.now) fixed.now start len text.items)) }
-    ensures covered { AreSlices form.now → (blob : List ℕ) → IsBlob fixed.now blob → chunk_count (length blob) ≤ fixed.now.capacity
-        → HaveSlices how.grain (source_gives S.contents S.faultless) fixed.now.mode blob sources.now
-        → MatchResult result (λ served. IfOk served (λ text. text.items ≡ slice_text fixed.now.mode blob start len)) IsExcused
-        ⊎ HasCollision (IsFromSource form.now S.contents S.faultless sources.now) fixed.now blob }
-{
-    // For the prover alone: the flags of a mode are apart from the tree's.
-    fixed.mode.is_keyed();
-    match gather(rt, alloc, fixed, form, how, sources) {
-        Ok(mut whole) => {
-            // For the prover alone: a length is of 64 bits.
-            let _len = whole.len();
-            Ok(whole.serve_slice(alloc, &fixed.mode, start, len))
-        }
-        Err(fault) => Err(fault),
-    }
-}
 
 // The first seat of a store is alone.
 pub fn first_is_alone(

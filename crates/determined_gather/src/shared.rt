@@ -1,16 +1,15 @@
 // Seats of a shared store.
 
-ghost use Rattle.std.specs.Prelude.{◌≡◌, ◌<◌, ℕ, IfErr, IfOk, List, OnOk, length, map, slice_index_or, vec_items, vec_len};
+ghost use Rattle.std.specs.Prelude.{◌≡◌, ◌<◌, IfErr, OnOk};
 ghost use Rattle.determined_gather.specs.Agreeing.{AgreeOrLack};
-ghost use Rattle.determined_gather.specs.Crews.{AreAlike};
 ghost use Rattle.gather.specs.declared.fault.FinishFault.TheVariants.{Memory};
 ghost use Rattle.store_core.specs.Histories.{state_after};
 ghost use Rattle.store_core.specs.Knowledge.{AreAllNames};
 ghost use Rattle.store_core.specs.Views.{mine};
 ghost use Rattle.store_shared.specs.Seats.{IsSeatOf, fixed_of};
 
-use crews::{Crew, Peer, crews_over, finish};
-use gather::{Encoded, FinishFault, GatherFault, Holder, HolderFault};
+use crews::{Crew, Peer, finish};
+use gather::{FinishFault, Holder, HolderFault};
 use std::alloc::Global;
 use store_shared::{Assembly, Seat};
 
@@ -46,16 +45,6 @@ pub fn peer_determined<'a>(
     let one = Peer::new(a, first);
     let other = Peer::new(b, second);
     (one, other)
-}
-
-pub fn into_seat_determined(a: &Assembly, first: Seat, second: Seat) -> (Seat, Seat)
-    requires of { IsSeatOf a.now first }
-    requires same { first ≡ second }
-    ensures { result.0 ≡ result.1 }
-{
-    let one = Peer::new(a, first);
-    let other = Peer::new(a, second);
-    (one.into_seat(), other.into_seat())
 }
 
 // Of two seats that have seen the same at the end. One may be out of memory.
@@ -127,29 +116,4 @@ pub fn peer_fetch_alone(
     let mut next = other.into_seat();
     b.look_round(&mut next);
     (fetched, also)
-}
-
-// Crews over the same texts, of two seats that have seen the same: which names their seats have isn't determined.
-pub fn crews_over_determined<'a>(
-    alloc: Global,
-    a: &Assembly,
-    b: &Assembly,
-    first: Seat,
-    second: Seat,
-    workers: u32,
-    texts: &'a [Vec<u8>],
-) -> (
-    Result<(Vec<Crew<Encoded<&'a [u8]>>>, Seat), GatherFault>,
-    Result<(Vec<Crew<Encoded<&'a [u8]>>>, Seat), GatherFault>,
-)
-    requires of { IsSeatOf a.now first }
-    requires of_theirs { IsSeatOf b.now second }
-    requires same { first.view ≡ second.view }
-    ensures count { IfOk result.0 (λ x. IfOk result.1 (λ y. vec_len x.0 ≡ vec_len y.0)) }
-    ensures crews { IfOk result.0 (λ x. IfOk result.1 (λ y. AreAlike x.0.items y.0.items)) }
-    ensures stays { IfOk result.0 (λ x. IfOk result.1 (λ y. x.1.view.seen ≡ y.1.view.seen)) }
-{
-    let one = crews_over(alloc, a, first, workers, texts);
-    let other = crews_over(alloc, b, second, workers, texts);
-    (one, other)
 }

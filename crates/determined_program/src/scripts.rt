@@ -8,18 +8,6 @@ use b3tree::{Hash, Mode};
 use bao_script::{NumberedLine, ReplayScriptFault, Script, ScriptFault, parse, replay_script};
 use std::alloc::Global;
 
-pub fn script_code_determined(a: &ScriptFault, b: &ScriptFault) -> (Option<u16>, Option<u16>)
-    ensures { result.0 ≡ result.1 }
-{
-    (a.code(), b.code())
-}
-
-pub fn replay_code_determined(fault: &ReplayScriptFault) -> (Option<u16>, Option<u16>)
-    ensures { result.0 ≡ result.1 }
-{
-    (fault.code(), fault.code())
-}
-
 pub fn lines_determined<'a>(script: &'a Script) -> (&'a [NumberedLine], &'a [NumberedLine])
     ensures { result.0.now ≡ result.1.now }
 {

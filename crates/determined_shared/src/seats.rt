@@ -6,7 +6,7 @@ ghost use Rattle.store_shared.specs.Seats.{IsSeatOf, fixed_of};
 
 use b3tree::{Hash, Mode};
 use std::alloc::Global;
-use store_shared::{Assembly, NewFault, NoGroup, OtherRoot, ParentsFault, Seat, SplitFault};
+use store_shared::{Assembly, NewFault, Seat, SplitFault};
 
 pub fn new_determined(
     alloc: Global,
@@ -41,41 +41,6 @@ pub fn from_chunk_determined(
     let one = Assembly::from_chunk(alloc, root, mode, base, capacity);
     let other = Assembly::from_chunk(alloc, root, mode, base, capacity);
     (one, other)
-}
-
-pub fn root_determined(a: &Assembly, b: &Assembly) -> (Hash, Hash)
-    requires { fixed_of a.now ≡ fixed_of b.now }
-    ensures { result.0 ≡ result.1 }
-{
-    (a.root(), b.root())
-}
-
-pub fn mode_determined(a: &Assembly, b: &Assembly) -> (Mode, Mode)
-    requires { fixed_of a.now ≡ fixed_of b.now }
-    ensures { result.0 ≡ result.1 }
-{
-    (a.mode(), b.mode())
-}
-
-pub fn capacity_determined(a: &Assembly, b: &Assembly) -> (u32, u32)
-    requires { fixed_of a.now ≡ fixed_of b.now }
-    ensures { result.0 ≡ result.1 }
-{
-    (a.capacity(), b.capacity())
-}
-
-pub fn base_determined(a: &Assembly, b: &Assembly) -> (u64, u64)
-    requires { fixed_of a.now ≡ fixed_of b.now }
-    ensures { result.0 ≡ result.1 }
-{
-    (a.base(), b.base())
-}
-
-pub fn groups_determined(a: &Assembly, b: &Assembly) -> (u32, u32)
-    requires { fixed_of a.now ≡ fixed_of b.now }
-    ensures { result.0 ≡ result.1 }
-{
-    (a.groups(), b.groups())
 }
 
 pub fn split_determined(
@@ -140,30 +105,6 @@ pub fn meet_determined(
 {
     a.meet(one, two);
     b.meet(three, four);
-}
-
-pub fn no_group_code_determined(a: &NoGroup, b: &NoGroup) -> (u16, u16)
-    ensures { result.0 ≡ result.1 }
-{
-    (a.code(), b.code())
-}
-
-pub fn other_root_code_determined(a: &OtherRoot, b: &OtherRoot) -> (u16, u16)
-    ensures { result.0 ≡ result.1 }
-{
-    (a.code(), b.code())
-}
-
-pub fn parents_code_determined(fault: &ParentsFault) -> (u16, u16)
-    ensures { result.0 ≡ result.1 }
-{
-    (fault.code(), fault.code())
-}
-
-pub fn split_code_determined(a: &SplitFault, b: &SplitFault) -> (u16, u16)
-    ensures { result.0 ≡ result.1 }
-{
-    (a.code(), b.code())
 }
 
 pub fn new_code_determined(fault: &NewFault) -> (u16, u16)

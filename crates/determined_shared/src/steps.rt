@@ -20,7 +20,7 @@ use b3tree::{Hash, Mode};
 use bao_check::{Checked, Tail};
 use std::alloc::Global;
 use store_calls::{commit, commit_parents, read, serve_slice};
-use store_core::{Fixed, Missing, ServeFault, Settling, Storing};
+use store_core::{Missing, ServeFault, Settling, Storing};
 use store_steps::{Grip, Item, NewFault, Words};
 
 pub fn words_new_determined(
@@ -40,20 +40,6 @@ pub fn words_new_determined(
     let one = Words::new(alloc, root, mode, base, capacity);
     let other = Words::new(alloc, root, mode, base, capacity);
     (one, other)
-}
-
-pub fn words_fixed_determined(a: &Words, b: &Words) -> (Fixed, Fixed)
-    requires { fixed_of a.now ≡ fixed_of b.now }
-    ensures { result.0 ≡ result.1 }
-{
-    (a.fixed(), b.fixed())
-}
-
-pub fn words_base_determined(a: &Words, b: &Words) -> (u64, u64)
-    requires { fixed_of a.now ≡ fixed_of b.now }
-    ensures { result.0 ≡ result.1 }
-{
-    (a.base(), b.base())
 }
 
 pub fn words_take_alone(

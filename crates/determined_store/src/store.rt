@@ -1,6 +1,6 @@
 // The calls of a store.
 
-ghost use Rattle.std.specs.Prelude.{◌≡◌, ◌↔◌, Err, ◌+◌, ◌≤◌, ℕ, List, IfOk, IsOk, length, take};
+ghost use Rattle.std.specs.Prelude.{◌≡◌, ◌↔◌, Err, IfOk, IsOk, length, take};
 ghost use Rattle.determined_store.specs.Agreeing.{Agree, AgreeOrLack, AreEqual};
 ghost use Rattle.store_core.specs.Stores.{IsSame};
 ghost use Rattle.store_core.specs.declared.fault.StoreFault.TheVariants as unstored;
@@ -9,7 +9,7 @@ ghost use Rattle.store_core.specs.declared.fault.ServeFault.TheVariants as unser
 use b3tree::{Hash, Mode};
 use bao_check::{Checked, Tail};
 use std::alloc::Global;
-use store_core::{BadCapacity, Fixed, Missing, ServeFault, Settling, Store, StoreFault};
+use store_core::{BadCapacity, Missing, ServeFault, Settling, Store, StoreFault};
 
 pub fn new_determined(
     alloc: Global,
@@ -40,13 +40,6 @@ pub fn from_chunk_determined(
         Store::from_chunk(alloc, root, mode, base, capacity),
         Store::from_chunk(alloc, root, mode, base, capacity),
     )
-}
-
-pub fn fixed_determined(a: &Store, b: &Store) -> (Fixed, Fixed)
-    requires { IsSame a.now b.now }
-    ensures { result.0 ≡ result.1 }
-{
-    (a.fixed(), b.fixed())
 }
 
 pub fn take_determined(
@@ -81,20 +74,6 @@ pub fn length_determined(a: &Store, b: &Store) -> (Option<u64>, Option<u64>)
     ensures { result.0 ≡ result.1 }
 {
     (a.length(), b.length())
-}
-
-pub fn has_parent_determined(a: &Store, b: &Store, boundary: u32) -> (bool, bool)
-    requires { IsSame a.now b.now }
-    ensures { result.0 ≡ result.1 }
-{
-    (a.has_parent(boundary), b.has_parent(boundary))
-}
-
-pub fn held_count_determined(a: &Store, b: &Store) -> (u64, u64)
-    requires { IsSame a.now b.now }
-    ensures { result.0 ≡ result.1 }
-{
-    (a.held_count(), b.held_count())
 }
 
 pub fn commit_determined(

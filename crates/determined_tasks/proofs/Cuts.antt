@@ -1,5 +1,5 @@
 -- Slices that are cut out of known files.
-use Rattle.std.proofs.Common.{◌≡◌, ◌^◌, ◌<◌, ℕ, List, length, Some, Result, Ok, Err, IfErr, IfOk, OnOk, inl, inr, sym, ap, subst, ◌∙◌}
+use Rattle.std.proofs.Common.{◌≡◌, ◌^◌, ◌<◌, ℕ, List, length, Some, Result, Ok, Err, IfErr, IfOk, OnOk, inl, inr, ap, subst, ◌∙◌}
 use Rattle.std.specs.Borrow.{Bor}
 use Rattle.b3tree.specs.declared.mode.Mode.{Mode}
 use Rattle.bao_decode.specs.Ranges.{IsPartText, written_count}

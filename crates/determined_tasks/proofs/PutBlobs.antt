@@ -84,9 +84,9 @@ module _ (mode : Mode) (root : List ℕ) (before one other : List ℕ → FileSt
   enough_agree how also blob P (Err e) (Err f) encode (inl p) (inl q) = inl (inr (inl p))
 
 -- how many workers there are, and the grain, have no part in which file is enough
-pub room_as : (how also : Gathering) (n : ℕ) → how.encode ≡ also.encode → how.long ≡ also.long → how.capacity ≡ also.capacity → HasRoom how n → HasRoom also n
-room_as how also n encode long capacity (inl any) = inl (sym encode ∙ any.0, sym long ∙ any.1)
-room_as how also n encode long capacity (inr fits) = inr (subst (λ (k : ℕ). chunk_count n ≤ k) capacity fits)
+pub room_as : (how also : Gathering) (n : ℕ) → how.long ≡ also.long → how.capacity ≡ also.capacity → HasRoom how n → HasRoom also n
+room_as how also n long capacity (inl any) = inl (sym long ∙ any)
+room_as how also n long capacity (inr fits) = inr (subst (λ (k : ℕ). chunk_count n ≤ k) capacity fits)
 
 -- an outboard encoding is accepted, or has one first fault
 module _ (state : FileState) (mode : Mode) (root text : List ℕ) (there : state ≡ Stored text) where

@@ -9,6 +9,5 @@ mod lacks;
 mod lists;
 mod replaying;
 mod slicing;
-mod spots;
 mod values;
 mod worths;

@@ -10,7 +10,6 @@ mod using_bao_check;
 mod using_bao_decode;
 mod using_bao_feed;
 mod using_bao_files;
-mod using_bao_join;
 mod using_bao_read;
 mod using_bao_script;
 mod using_bao_tasks;
@@ -40,7 +39,6 @@ fn encodings<R: Print + Threads + Sync>(rt: &R, alloc: Global, blob: &[u8]) -> R
     using_bao_text::show(rt, alloc, blob)?;
     using_bao_read::show(rt, alloc, blob)?;
     using_bao_check::show(rt, alloc, blob)?;
-    using_bao_join::show(rt, alloc, blob)?;
     using_bao_feed::show(rt, alloc, blob)?;
     using_bao_bind::show(rt, alloc, blob)
 }

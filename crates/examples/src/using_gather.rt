@@ -4,15 +4,28 @@ use crate::telling::tell_text;
 use anyhow::{Context, Result};
 use b3tree::{Hash, Mode};
 use bao_text::combined;
-use gather::{GatherFault, gather_texts};
-use std::alloc::Global;
+use gather::{Encoded, finish_one, run_one};
+use std::alloc::{AllocError, Global};
+use store_core::Store;
 
 // The most chunks that the blob may have.
 const CAPACITY: u32 = 256;
 
-/// The blob with this root out of copies of its combined encoding, none of which is trusted.
-pub fn gathered(alloc: Global, root: Hash, copies: &[Vec<u8>]) -> Result<Vec<u8>, GatherFault> {
-    gather_texts(alloc, root, Mode::hash(), CAPACITY, copies)
+/// A holder over each of these copies of a combined encoding, none of which is trusted.
+pub fn holders_over(alloc: Global, copies: &[Vec<u8>]) -> Result<Vec<Encoded<&[u8]>>, AllocError> {
+    let mut holders = Vec::with_capacity(alloc, copies.len())?;
+    for copy in copies {
+        holders.push(Encoded::new(copy.as_slice()))?;
+    }
+    Ok(holders)
+}
+
+/// The blob with this root.
+pub fn gathered(alloc: Global, root: Hash, copies: &[Vec<u8>]) -> Result<Vec<u8>> {
+    let mut store = Store::new(alloc, root, Mode::hash(), CAPACITY)?;
+    let mut holders = holders_over(alloc, copies)?;
+    run_one(alloc, &mut store, holders.as_mut_slice());
+    Ok(finish_one(alloc, &store)?)
 }
 
 // A copy of a text with another byte at this place.

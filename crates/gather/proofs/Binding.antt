@@ -2,8 +2,8 @@
 use Rattle.gather.proofs.Common.{Contains, map, option_map, ap, ◌∙◌, ◌≡◌, ◌⊎◌, zero, suc, ℕ, ◌+◌, ◌-◌, ◌<◌, List, length, Option, None, Some, is_some, true, false, slice_get, slice_index, refl, sym, subst, arith, inl, inr, below_more, ext_get_or, All-member, slice_get-map, get_or_from_slice_get, IsKeyed, AcceptedBinds, chunk_in, chunk_of, chunk_count, Fixed, Piece, Store, IsBlob, CollidesWith, has_room, length_of, places_in, Event, AreLegalFrom, IsLegal, run, IsReached, fixed_of, state_of, State, empty}
 use Rattle.gather.specs.Encodings.{EncodedBytes, IsCut, IsCutOf, cut_gives, encoding}
 use Rattle.gather.specs.Holders.{IsHanded}
-use Rattle.gather.specs.Finished.{BindsNone, BindsTo, IsNamedIn}
-use Rattle.gather.specs.Large.{AreLonger, AreTheBlob, HasCollision, IsOfNone, IsTooLarge}
+use Rattle.gather.specs.Finished.{BindsTo, IsNamedIn}
+use Rattle.gather.specs.Large.{AreLonger, AreTheBlob, HasCollision, IsTooLarge}
 use Rattle.gather.specs.Worked.{AreFrom, HasWorked, IsFrom, AddsBlobs, AddsCertified, IsCertified}
 
 certified_binds : AcceptedBinds → (handed : Piece → Type 0) (fixed : Fixed) (blob : List ℕ) (c : ℕ) (bytes : List ℕ) → IsKeyed fixed.mode → IsBlob fixed blob
@@ -72,12 +72,6 @@ pub pair_wider : (handed wider : Piece → Type 0) → ((piece : Piece) → hand
     → HasCollision wider fixed blob
 pair_wider handed wider more fixed blob has = record { piece = has.piece; from = more has.piece has.from; accepted = has.accepted; pair = has.pair }
 
-pub longer_wider : (handed wider : Piece → Type 0) → ((piece : Piece) → handed piece → wider piece) → (fixed : Fixed) → AreLonger handed fixed → AreLonger wider fixed
-longer_wider handed wider more fixed are blob is = elim (are blob is) [ inl long ↦ inl long | inr has ↦ inr (pair_wider handed wider more fixed blob has) ]
-
-pub none_wider : (handed wider : Piece → Type 0) → ((piece : Piece) → handed piece → wider piece) → (fixed : Fixed) → IsOfNone handed fixed → IsOfNone wider fixed
-none_wider handed wider more fixed none blob is = pair_wider handed wider more fixed blob (none blob is)
-
 -- the piece of each event
 event_from : (handed : Piece → Type 0) (events : List Event) (e : Event) → AreFrom handed events → Contains events e → IsFrom handed e.call
 event_from handed events e from there = All-member (λ (it : Event). IsFrom handed it.call) events from e there
@@ -100,13 +94,6 @@ worked_reaches handed old new chunks parents fresh worked = record {
       (subst (λ (s : State). AreLegalFrom (fixed_of old) s worked.events) fresh worked.legal);
   is = sym (worked.after ∙ ap (λ (s : State). run s worked.events) fresh);
 }
-
-pub of_none : (handed : Piece → Type 0) (old new : Store) (fixed : Fixed) (chunks parents : ℕ) → fixed_of old ≡ fixed → state_of old ≡ empty
-    → HasWorked handed old new chunks parents → ((by : IsReached (fixed_of new) (state_of new)) → BindsNone (fixed_of new) by.history) → IsOfNone handed fixed
-unfolding worked_reaches
-of_none handed old new fixed chunks parents same fresh worked none =
-    subst (λ (f : Fixed). IsOfNone handed f) (worked.fixed ∙ same) (λ blob is.
-    pair_of handed (fixed_of new) worked.events blob worked.from (none (worked_reaches handed old new chunks parents fresh worked) blob is))
 
 -- bytes that bind by a history of pieces that were handed over
 pub found_by : (handed : Piece → Type 0) (fixed : Fixed) (history : List Event) (bytes : List ℕ) → AreFrom handed history → BindsTo fixed history bytes → AreTheBlob handed fixed bytes

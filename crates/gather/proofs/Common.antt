@@ -1,5 +1,5 @@
 -- What the proofs of this crate name of std and of the crates below it.
-pub use Rattle.std.proofs.Common.{Bool, Contains, Err, Global, IfErr, IfOk, IfSome, IsErr, IsErrAnd, IsErrOf, IsOk, IsSome, IsTrue, List, MatchResult, None, Ok, OnErr, OnOk, Option, Result, Some, Vec, [], ap, append-nil, append_assoc, arith, below_more, bit_and, bytes_eq, count_ones, div-lt_iff_lt-mul, drop, drop_at, eq-eqb, eqb-true, ext_get_or, false, get_or, get_or-append-add, if◌then◌else◌, inl, inr, is_ok, is_some, length, length-append, length-drop, length-set, length-take, length-take-le, lit<, lt-ltb, ltb-false, ltb-true, map, max, min, mod-eq_of_lt, mod-lt, mul-lt-mul_of_pos_right, mul_comm, nat_eq, nat_lt, not, option_and_then, option_map, refl, replicate, rules, set, slice_get, slice_index, slice_index_or, subst, suc, sum_by, sym, take, take-append-drop, take-take, take_all, take_at, true, vec_items, vec_len, w64, zero, ℕ, ◌%◌, ◌&&◌, ◌*◌, ◌++◌, ◌+◌, ◌-◌, ◌/◌, ◌<◌, ◌==◌, ◌^◌, ◌||◌, ◌↔◌, ◌∙◌, ◌∷◌, ◌≡◌, ◌≢◌, ◌≤◌, ◌⊎◌}
+pub use Rattle.std.proofs.Common.{if◌then◌else◌, Bool, Contains, Err, IfErr, IfOk, IfSome, IsErr, IsErrOf, IsOk, IsSome, IsTrue, List, MatchResult, None, Ok, OnErr, OnOk, Option, Result, Some, [], ap, append-nil, append_assoc, arith, below_more, bit_and, bytes_eq, count_ones, div-lt_iff_lt-mul, drop, eq-eqb, eqb-true, ext_get_or, false, get_or, get_or-append-add, inl, inr, is_ok, is_some, length, length-append, length-drop, length-set, length-take, length-take-le, lt-ltb, ltb-true, map, max, min, mod-eq_of_lt, mod-lt, mul-lt-mul_of_pos_right, mul_comm, nat_eq, nat_lt, not, option_and_then, option_map, refl, replicate, rules, set, slice_get, slice_index, slice_index_or, subst, suc, sum_by, sym, take, take-take, take_all, take_at, true, vec_len, w64, zero, ℕ, ◌%◌, ◌&&◌, ◌*◌, ◌++◌, ◌+◌, ◌-◌, ◌/◌, ◌<◌, ◌==◌, ◌^◌, ◌||◌, ◌↔◌, ◌∙◌, ◌∷◌, ◌≡◌, ◌≢◌, ◌≤◌, ◌⊎◌}
 pub use Rattle.std.proofs.Math.Nat.{add-mod_right}
 pub use Rattle.std.proofs.Math.Seq.{take-append-add}
 pub use Rattle.std.proofs.lemmas.Bool.{and_from, and_parts, and_right, both_ways, cases_Bool, cases_lt}
@@ -7,7 +7,6 @@ pub use Rattle.std.proofs.lemmas.List.{drop_all, get_or-replicate, get_or_append
 pub use Rattle.std.proofs.lemmas.List.Sums.{sum_by-cons, sum_by-set}
 pub use Rattle.std.proofs.lemmas.Nat.Bits.{bit_at-lt, bit_at-zero, bit_at_and, bit_at_not}
 pub use Rattle.std.proofs.lemmas.Option.{get_or_from_slice_get, slice_get-get_or, slice_get-map, slice_get_within}
-pub use Rattle.std.proofs.lemmas.Result.{on_ok_weaker}
 pub use Rattle.std.proofs.lemmas.Slice.Eq.{bytes_eq-Decides}
 pub use Rattle.std.specs.Int.{bit_at, bit_not}
 pub use Rattle.b3tree.specs.Hashing.{hash}
@@ -33,15 +32,13 @@ pub use Rattle.bao_check.specs.declared.fault.CheckFault.TheVariants.{Memory, Mi
 pub use Rattle.bao_check.specs.declared.outline.Outline.{Outline}
 pub use Rattle.bao_read.proofs.Parts.{GivenAt-append}
 pub use Rattle.bao_read.specs.Given.{GivenAt, ReadsAt}
-pub use Rattle.bao_text.proofs.Laws.{cut_text-combined, length-combined_text}
 pub use Rattle.bao_text.specs.Choice.{chunk_count, of_slice, slice_end, slice_start}
-pub use Rattle.bao_text.specs.Cut.{cut_text}
 pub use Rattle.bao_text.specs.NodeNames.{name}
 pub use Rattle.bao_text.specs.Nodes.{nodes}
 pub use Rattle.bao_text.specs.Rest.{rest_of}
-pub use Rattle.bao_text.specs.Texts.{combined_text, slice_text}
+pub use Rattle.bao_text.specs.Texts.{slice_text}
 pub use Rattle.bao_text.specs.declared.walk.Node.{Node}
-pub use Rattle.store_core.proofs.Bound.{byte_binds, held_binds, record_binds}
+pub use Rattle.store_core.proofs.Bound.{byte_binds, record_binds}
 pub use Rattle.store_core.proofs.HasRoom.{base_recorded, has_room_of, no_room_of}
 pub use Rattle.store_core.proofs.ReadLaws.{read_means}
 pub use Rattle.store_core.specs.Events.{IsRightReply, after, after_call, has_room, is_free, settling}

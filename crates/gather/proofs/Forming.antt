@@ -1,5 +1,5 @@
 -- What is made of what holders give, and what of that is known of a blob's slices.
-use Rattle.gather.proofs.Common.{◌≡◌, ◌∙◌, piece, slice_get, Some, ℕ, ◌+◌, ◌-◌, ◌*◌, ◌/◌, ◌^◌, ◌<◌, ◌≤◌, max, List, [], length, Ok, Err, false, true, refl, ap, arith, length-append, of_slice, sym, subst, Checked, CheckFault, IsAccepted, slice_nodes, bare_len, Outline, outline_claimed, Mode, chunk_count, slice_text, piece_of, IsOf, Fixed, Piece}
+use Rattle.gather.proofs.Common.{◌≡◌, ◌∙◌, piece, ℕ, ◌+◌, ◌-◌, ◌*◌, ◌/◌, ◌^◌, ◌<◌, ◌≤◌, max, List, [], length, Ok, Err, false, true, refl, ap, arith, length-append, of_slice, sym, subst, Checked, CheckFault, IsAccepted, slice_nodes, bare_len, Outline, outline_claimed, Mode, chunk_count, slice_text, piece_of, IsOf, Fixed, Piece}
 use Rattle.bao_check.proofs.BareFound.{bare_accepted}
 use Rattle.bao_check.specs.Accepted.{outboard_nodes, text_end}
 use Rattle.bao_check.specs.Bare.{bare_part}
@@ -16,7 +16,7 @@ use Rattle.gather.specs.declared.form.Form.{Form}
 use Rattle.gather.specs.declared.form.Form.TheVariants.{Slices, Bare}
 use Rattle.gather.specs.declared.form.ByteRange.{ByteRange}
 use Rattle.gather.specs.Forms.{AreSlices, IsChunk, IsEnd, IsGroup, IsLengthOf, IsMade, IsPart, IsSliceCheck, checked_len, checked_text, chunks_of_part, form_mode, form_root, made_of}
-use Rattle.gather.specs.Parts.{HaveParts, IsAskedIn, IsBareFor, IsEndIn, IsFor, IsOutlineFor, IsOwn}
+use Rattle.gather.specs.Parts.{HaveParts, IsAskedIn, IsEndIn, IsFor, IsOutlineFor, IsOwn}
 use Rattle.gather.specs.Holders.{AreLater, GivesNoMore, IsGiven}
 
 -- what comes of a holder that gives no more is no more
@@ -175,22 +175,6 @@ end_slice form gives mode blob holder part start len is end slice =
     subst (λ (n : ℕ). GivesSlice (made_of form gives) mode blob n (checked_len form part) holder) (sym at.0)
     (subst (λ (n : ℕ). GivesSlice (made_of form gives) mode blob start n holder) (sym at.1) slice)
 
-pub bare_for : (form : Form) (fixed : Fixed) (blob : List ℕ) → IsBareFor form fixed blob → IsFor form fixed blob
-bare_for Slices fixed blob bare = absurd bare
-bare_for (Bare outline) fixed blob bare = bare
-
--- what is asked for beside an outline are whole chunks of the blob
-end_chunks : (n : ℕ) (start len : ℕ) → (start ≡ 1024 * (chunk_count n - 1)) × (len ≡ 1024) → IsOfChunks n start len
-end_chunks n start len end = record { starts = omega (arith, end.0); within = omega (arith, end.0); ends = omega (arith, end.0, end.1) }
-
-asked_chunks : (form : Form) (fixed : Fixed) (blob : List ℕ) (grain : Grain) (c start len : ℕ) → IsBareFor form fixed blob → c < chunk_count (length blob) → IsAskedIn form grain c start len
-    → IsOfChunks (length blob) start len
-asked_chunks Slices fixed blob grain c start len of below asked = absurd of
-asked_chunks (Bare outline) fixed blob ByGroup c start len of below asked =
-    record { starts = omega (arith, asked.0); within = omega (arith, asked.0, below); ends = omega (arith, asked.0, asked.1, below, of.claims) }
-asked_chunks (Bare outline) fixed blob ByChunk c start len of below asked =
-    record { starts = omega (arith, asked.0); within = omega (arith, asked.0, below); ends = omega (arith, asked.0, asked.1, below) }
-
 -- one that gives nothing but a blob's bytes makes each slice, beside the blob's own outline
 own_slice : {H : Type 0} (form : Form) (fixed : Fixed) (gives : H → ℕ → ℕ → List ℕ → Type 0) (blob : List ℕ) (start len : ℕ) (holder : H) → IsOwn form fixed blob
     → IsOfChunks (length blob) start len → ((at n : ℕ) (bytes : List ℕ) → gives holder at n bytes → bytes ≡ piece blob at n) → GivesSlice (made_of form gives) fixed.mode blob start len holder
@@ -203,26 +187,3 @@ own_slice (Bare outline) fixed gives blob start len holder own chunks true_bytes
     let ends : length (outboard_text fixed.mode blob) ≡ text_end (outboard_nodes (outboard_text fixed.mode blob)) =
     subst (λ (xs : List ℕ). length xs ≡ text_end (outboard_nodes xs)) text_is outline.now.accepted.ends in
     made.is ∙ (λ i. beside_text (text_is i) start len (bytes i)) ∙ own_makes fixed.mode blob start len claims ends chunks
-
-own_bare : (form : Form) (fixed : Fixed) (blob : List ℕ) → IsOwn form fixed blob → IsBareFor form fixed blob
-own_bare Slices fixed blob own = absurd own
-own_bare (Bare outline) fixed blob own = own.of
-
-own_end : (form : Form) (fixed : Fixed) (blob : List ℕ) (start len : ℕ) → IsBareFor form fixed blob → IsEndIn form start len → IsOfChunks (length blob) start len
-own_end Slices fixed blob start len of end = absurd of
-own_end (Bare outline) fixed blob start len of end = subst (λ (n : ℕ). IsOfChunks n start len) of.claims (end_chunks (outline_claimed outline.now) start len end)
-
-pub own_for : (form : Form) (fixed : Fixed) (blob : List ℕ) → IsOwn form fixed blob → IsFor form fixed blob
-own_for form fixed blob own = bare_for form fixed blob (own_bare form fixed blob own)
-
-pub own_parts : {H : Type 0} (form : Form) (fixed : Fixed) (grain : Grain) (gives : H → ℕ → ℕ → List ℕ → Type 0) (blob : List ℕ) (holders : List H) (place : ℕ) (holder : H)
-    → IsOwn form fixed blob → slice_get holders place ≡ Some holder → ((at n : ℕ) (bytes : List ℕ) → gives holder at n bytes → bytes ≡ piece blob at n)
-    → HaveParts form grain gives fixed.mode blob holders
-own_parts form fixed grain gives blob holders place holder own there true_bytes =
-    let bare = own_bare form fixed blob own in
-    record {
-      end = λ start len is.
-          record { place = place; holder = holder; there = there; gives_slice = own_slice form fixed gives blob start len holder own (own_end form fixed blob start len bare is) true_bytes };
-      each = λ c start len below asked.
-          record { place = place; holder = holder; there = there; gives_slice = own_slice form fixed gives blob start len holder own (asked_chunks form fixed blob grain c start len bare below asked) true_bytes };
-    }

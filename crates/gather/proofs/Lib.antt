@@ -12,9 +12,6 @@ pub mod Serving
 pub mod Served
 pub mod Finishing
 pub mod Handing
-pub mod Answering
-pub mod Rooms
 pub mod Reading
 pub mod Appending
-pub mod HolderLists
 pub mod Owning

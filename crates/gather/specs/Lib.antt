@@ -9,7 +9,6 @@ pub mod Reads
 pub mod Claims
 pub mod Large
 pub mod HandedOut
-pub mod Room
 pub mod Counts
 pub mod Available
 pub mod Groups

@@ -53,11 +53,6 @@ pub record IsAgreed {S : Type 0} (records : S → ℕ → Type 0) (form : Form) 
   pub is : records seat recorded
   pub told : IsLengthOf form recorded → result ≡ Some recorded
 
--- the form has an outline, which is for the blob, or is its own
-abbrev pub IsBareFor : Form → Fixed → List ℕ → Type 0
-IsBareFor Slices fixed blob = ⊥
-IsBareFor (Bare outline) fixed blob = IsOutlineFor fixed outline.now blob
-
 abbrev pub IsOwn : Form → Fixed → List ℕ → Type 0
 IsOwn Slices fixed blob = ⊥
 IsOwn (Bare outline) fixed blob = IsOwnOutline fixed outline.now blob

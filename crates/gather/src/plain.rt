@@ -72,17 +72,3 @@ impl<P: Holding> Holder for Plain<P> {
         self.places.faults()
     }
 }
-
-/// Returns a holder for each plain copy, in order. The copies' bytes aren't copied.
-pub fn copies_over<'a>(
-    alloc: Global,
-    copies: &'a [Vec<u8>],
-) -> Result<Vec<Plain<&'a [u8]>>, AllocError>
-    ensures { IfOk result (λ holders. map copy_of holders.items ≡ map vec_items copies.now) }
-{
-    let mut holders = Vec::with_capacity(alloc, copies.len())?;
-    for copy in copies {
-        holders.push(Plain::new(copy.as_slice()))?;
-    }
-    Ok(holders)
-}

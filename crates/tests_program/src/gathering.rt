@@ -1,16 +1,14 @@
 use crate::program::{expect, path};
 use b3tree::{Cv, Hash, Mode, cv, parent_input, root_hash, rooted, subtree_cv};
-use bao_tasks::{Form, GatheredFault, Gathering, Grain, write_gathered};
 use bao_text::combined;
 use std::alloc::Global;
 use std::fs::File;
-use std::io::ErrorKind;
 use std::process::Abort;
 use std::rt::Files;
 use std::test::Fail;
 use std::thread::Threads;
 use std::{fs, process};
-use tests_libraries::bytes::{Broken, blob, failing, taking};
+use tests_libraries::bytes::blob;
 
 // A text of nodes, with the length that it claims.
 fn text_of(alloc: Global, len: u64, nodes: &[&[u8]]) -> Result<Vec<u8>, Fail> {
@@ -111,56 +109,4 @@ fn a_root_of_no_blob(rt: HostRuntime) -> Result<(), Fail> {
     let (root, start, end) = texts_of_no_blob(rt.alloc())?;
     let id = process::id(rt.process());
     with_files(&rt, id, &root, start.as_slice(), end.as_slice())
-}
-
-fn written<R: AllocGlobal + Threads + Sync>(
-    rt: &R,
-    root: &Hash,
-    how: Gathering,
-    sources: &[&[u8]],
-    out: &mut Broken,
-) -> Result<u64, GatheredFault<'static>> {
-    let form = Form::Slices;
-    write_gathered(rt, &Mode::hash(), root, &form, how, 1, sources, "OUT", out)
-}
-
-// The text goes to writers that fail, after a beginning of it, and to one that can't be flushed.
-fn is_written<R: AllocGlobal + Threads + Sync + Abort>(
-    rt: &R,
-    root: &Hash,
-    encode: bool,
-    sources: &[&[u8]],
-    text: &[u8],
-) {
-    let how = Gathering {
-        workers: 2,
-        capacity: 3,
-        long: false,
-        encode,
-        count: false,
-        parts: 0,
-        grain: Grain::Group,
-    };
-    for room in [0, 10, 2048] {
-        let mut out: Broken = failing(rt.alloc(), room, ErrorKind::Interrupted);
-        let fault = written(rt, root, how, sources, &mut out);
-        assert!(rt; fault.is_err());
-        assert!(rt; Some(out.held.as_slice()) == text.get(..room));
-    }
-    let mut out = taking(rt.alloc());
-    out.stuck = true;
-    let fault = written(rt, root, how, sources, &mut out);
-    assert!(rt; fault.is_err());
-    assert!(rt; out.held.as_slice() == text);
-}
-
-// Of the blob and of its encoding.
-#[test]
-fn blobs_to_writers(rt: HostRuntime) -> Result<(), Fail> {
-    let bytes = blob(rt.alloc(), 2049)?;
-    let (root, whole) = combined(rt.alloc(), &Mode::hash(), bytes.as_slice())?;
-    let sources = [whole.as_slice()];
-    is_written(&rt, &root, false, &sources, bytes.as_slice());
-    is_written(&rt, &root, true, &sources, whole.as_slice());
-    Ok(())
 }

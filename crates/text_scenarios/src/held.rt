@@ -35,9 +35,7 @@ pub fn piece_of<'a>(
 ) -> Result<Checked<'a>> {
     match form {
         Form::Combined => Ok(check_combined(alloc, mode, root, text)?),
-        Form::Slice { start, len }
-        | Form::Joined { start, len, .. }
-        | Form::Stream { start, len, .. } => {
+        Form::Slice { start, len } | Form::Stream { start, len, .. } => {
             Ok(check_slice(alloc, mode, root, start, len, text)?)
         }
         Form::Outboard | Form::Bare { .. } => bail!("a text with chunks and parents"),

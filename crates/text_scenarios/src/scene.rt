@@ -89,7 +89,7 @@ impl Scene {
             "combined" | "outboard" | "slice" => self.make(alloc, name, words),
             "cut" | "part" => self.take(alloc, name, words),
             "hash" | "pieces" | "output" | "sizes" => self.figures(alloc, name, words),
-            "check" | "cuts" | "flips" => self.check(rt, alloc, name, words),
+            "check" | "cuts" | "flips" => self.check(alloc, name, words),
             "fails" => self.fails(alloc),
             "write" => self.write(alloc, words),
             "source" => self.source(rt, alloc, words),
@@ -181,45 +181,39 @@ impl Scene {
         listed(alloc, bao_text::nodes(length, start, len))
     }
 
-    fn check<R: Threads + Sync>(
-        &mut self,
-        rt: &R,
-        alloc: Global,
-        name: &str,
-        words: &str,
-    ) -> Result<String> {
+    fn check(&mut self, alloc: Global, name: &str, words: &str) -> Result<String> {
         match name {
             "check" => {
                 self.form = Form::read(alloc, words)?;
-                self.verdict_of(rt, alloc, self.text.as_slice())
+                self.verdict_of(alloc, self.text.as_slice())
             }
-            "cuts" => self.cuts(rt, alloc),
-            _ => self.flips(rt, alloc),
+            "cuts" => self.cuts(alloc),
+            _ => self.flips(alloc),
         }
     }
 
-    fn verdict_of<R: Threads + Sync>(&self, rt: &R, alloc: Global, text: &[u8]) -> Result<String> {
+    fn verdict_of(&self, alloc: Global, text: &[u8]) -> Result<String> {
         let outline = self.outline.as_slice();
-        verdict(rt, alloc, &self.mode, &self.root, self.form, outline, text)
+        verdict(alloc, &self.mode, &self.root, self.form, outline, text)
     }
 
     // The verdicts on the text cut after each number of bytes.
-    fn cuts<R: Threads + Sync>(&self, rt: &R, alloc: Global) -> Result<String> {
+    fn cuts(&self, alloc: Global) -> Result<String> {
         let mut runs = Runs::new(alloc);
         let text = self.text.as_slice();
         for len in 0..text.len() {
-            runs.add(self.verdict_of(rt, alloc, &text[..len])?)?;
+            runs.add(self.verdict_of(alloc, &text[..len])?)?;
         }
         runs.end()
     }
 
     // The verdicts on the text with the lowest bit of each byte changed.
-    fn flips<R: Threads + Sync>(&self, rt: &R, alloc: Global) -> Result<String> {
+    fn flips(&self, alloc: Global) -> Result<String> {
         let mut runs = Runs::new(alloc);
         let mut text = self.text.clone()?;
         for at in 0..text.len() {
             flip(text.as_mut_slice(), at)?;
-            runs.add(self.verdict_of(rt, alloc, text.as_slice())?)?;
+            runs.add(self.verdict_of(alloc, text.as_slice())?)?;
             flip(text.as_mut_slice(), at)?;
         }
         runs.end()

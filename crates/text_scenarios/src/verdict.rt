@@ -6,10 +6,8 @@ use bao_check::{
     CheckFault, Checked, bare_fits, check_bare, check_combined, check_outboard, check_slice,
     check_stream,
 };
-use bao_join::check_slice_join;
 use std::alloc::Global;
 use std::io::ErrorKind;
-use std::thread::Threads;
 
 // As which text bytes are checked.
 #[derive(Clone, Copy)]
@@ -17,8 +15,6 @@ pub enum Form {
     Combined,
     Outboard,
     Slice { start: u64, len: u64 },
-    // On threads, each of at most so many chunks.
-    Joined { start: u64, len: u64, grain: u64 },
     // Through a reader that gives at most so many bytes a call.
     Stream { start: u64, len: u64, most: u64 },
     // So many chunks from this one on, without parents: those are in the outline.
@@ -33,10 +29,6 @@ impl Form {
             Some(("slice", range)) => {
                 let (start, len) = two(alloc, range)?;
                 Ok(Form::Slice { start, len })
-            }
-            Some(("joined", range)) => {
-                let (start, len, grain) = three(alloc, range)?;
-                Ok(Form::Joined { start, len, grain })
             }
             Some(("stream", range)) => {
                 let (start, len, most) = three(alloc, range)?;
@@ -92,8 +84,7 @@ fn beside(
     }
 }
 
-pub fn verdict<R: Threads + Sync>(
-    rt: &R,
+pub fn verdict(
     alloc: Global,
     mode: &Mode,
     root: &Hash,
@@ -104,13 +95,6 @@ pub fn verdict<R: Threads + Sync>(
     match form {
         Form::Combined => told(alloc, check_combined(alloc, mode, root, text)),
         Form::Slice { start, len } => told(alloc, check_slice(alloc, mode, root, start, len, text)),
-        Form::Joined { start, len, grain } => {
-            let grain = grain.max(1);
-            told(
-                alloc,
-                check_slice_join(rt, mode, root, start, len, text, grain),
-            )
-        }
         Form::Stream { start, len, most } => {
             let mut held = Vec::new(alloc);
             let mut reader = Trickle::new(text, most as usize);

@@ -1,26 +1,11 @@
 use crate::bytes::array;
 use b3tree::{Hash, Mode};
 use bao_text::{combined, slice};
-use gather::{Encoded, GatherFault, Holder, HolderFault, Plain, finish_one, gather_texts, run_one};
+use gather::{Encoded, Holder, HolderFault, Plain, finish_one, run_one};
 use std::alloc::Global;
 use std::process::Abort;
 use std::test::Fail;
 use store_core::Store;
-
-// What the texts give, if need be at the second call.
-fn gathered<R: AllocGlobal + Abort>(
-    rt: &R,
-    root: Hash,
-    texts: &[Vec<u8>],
-) -> Result<Vec<u8>, GatherFault> {
-    match gather_texts(rt.alloc(), root, Mode::hash(), 3, texts) {
-        Err(fault) => {
-            assert!(rt; matches!(fault, GatherFault::Memory | GatherFault::Starved));
-            gather_texts(rt.alloc(), root, Mode::hash(), 3, texts)
-        }
-        gathered => gathered,
-    }
-}
 
 // Has a worker store all, if need be at the second call.
 fn fill<R: AllocGlobal + Abort>(rt: &R, store: &mut Store, whole: &[u8]) -> Result<(), Fail> {
@@ -52,16 +37,9 @@ fn by_one_worker<R: AllocGlobal + Abort>(
 fn one_worker(rt: HostRuntime) -> Result<(), Fail> {
     let bytes = array::<3000>();
     let (root, whole) = combined(rt.alloc(), &Mode::hash(), &bytes)?;
-    let texts = vec![in rt.alloc(); whole]?;
-    let blob = gathered(&rt, root, texts.as_slice())?;
-    assert!(rt; blob.as_slice() == bytes.as_slice());
-    let blob = by_one_worker(&rt, root, whole_of(&texts)?)?;
+    let blob = by_one_worker(&rt, root, whole.as_slice())?;
     assert!(rt; blob.as_slice() == bytes.as_slice());
     Ok(())
-}
-
-fn whole_of(texts: &Vec<Vec<u8>>) -> Result<&[u8], Fail> {
-    Ok(texts.first().ok_or("text")?.as_slice())
 }
 
 // What a holder appends, at the second call where a growth is refused at the first, which appends nothing.

@@ -1,12 +1,10 @@
 use crate::bytes::array;
 use b3tree::{Hash, Mode, hash};
 use bao_check::{CheckFault, check_combined, check_outboard, check_slice, check_stream};
-use bao_join::{check_combined_join, check_slice_join};
 use bao_text::{Memory, WriteFault, combined, cut_slice, outboard, slice, write_combined};
 use std::alloc::Global;
 use std::process::Abort;
 use std::test::Fail;
-use std::thread::Threads;
 
 // The published hash of the 2049 bytes i mod 251.
 const ROOT: Hash = Hash([
@@ -108,7 +106,7 @@ fn a_text_for_a_vector(rt: HostRuntime) -> Result<(), Fail> {
     Ok(())
 }
 
-fn check_whole<R: AllocGlobal + Threads + Sync + Abort>(
+fn check_whole<R: AllocGlobal + Abort>(
     rt: &R,
     text: &[u8],
     second: Option<&[u8]>,
@@ -116,20 +114,16 @@ fn check_whole<R: AllocGlobal + Threads + Sync + Abort>(
     let mode = Mode::hash();
     let piece = check_combined(rt.alloc(), &mode, &ROOT, text)?;
     assert!(rt; piece.chunk(1) == second);
-    let piece = check_combined_join(rt, &mode, &ROOT, text, 1)?;
-    assert!(rt; piece.chunk(1) == second);
     Ok(())
 }
 
-fn check_part<R: AllocGlobal + Threads + Sync + Abort>(
+fn check_part<R: AllocGlobal + Abort>(
     rt: &R,
     text: &[u8],
     second: Option<&[u8]>,
 ) -> Result<(), CheckFault> {
     let mode = Mode::hash();
     let piece = check_slice(rt.alloc(), &mode, &ROOT, 1000, 100, text)?;
-    assert!(rt; piece.chunk(1) == second);
-    let piece = check_slice_join(rt, &mode, &ROOT, 1000, 100, text, 1)?;
     assert!(rt; piece.chunk(1) == second);
     Ok(())
 }
@@ -140,7 +134,7 @@ fn check_bare<R: AllocGlobal + Abort>(rt: &R, text: &[u8]) -> Result<(), CheckFa
     Ok(())
 }
 
-// A check takes no memory but for what a reader gives, and for threads, without which it goes on.
+// A check takes no memory but for what a reader gives.
 #[test]
 fn checks(rt: HostRuntime) -> Result<(), Fail> {
     let mode = Mode::hash();

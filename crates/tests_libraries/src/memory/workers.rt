@@ -1,26 +1,16 @@
 ghost use Rattle.store_shared.specs.Seats.{IsSeatOf};
 
-use crate::bytes::{InPieces, array, blob};
+use crate::bytes::array;
 use crate::memory::stores::{made, parted};
 use b3tree::{Hash, Mode};
-use bao_check::{Outline, check_outboard};
-use bao_text::{combined, outboard};
-use crews::{Crew, How, Open, finish, gather, gather_copies, gather_texts, run};
-use gather::{Encoded, FinishFault, Form, GatherFault, Grain, Report};
+use bao_text::combined;
+use crews::{Crew, Open, finish, run};
+use gather::{Encoded, FinishFault, Report};
 use std::alloc::Global;
 use std::process::Abort;
 use std::test::Fail;
 use std::thread::Threads;
-use store_core::Fixed;
 use store_shared::{Assembly, Seat};
-
-// Whether it is a fault of memory.
-fn is_of_memory(fault: GatherFault) -> bool {
-    matches!(
-        fault,
-        GatherFault::Store | GatherFault::Seat | GatherFault::Memory | GatherFault::Starved
-    )
-}
 
 // Asserts that one fetch was for the length and one for the group, and that after a refusal there was one more.
 fn is_right<R: Abort>(rt: &R, report: &Report) -> Result<(), Fail> {
@@ -76,78 +66,4 @@ fn a_run(rt: HostRuntime) -> Result<(), Fail> {
     let gathered = by_a_run(&rt, root, whole.as_slice())?;
     assert!(rt; gathered.as_slice() == bytes.as_slice());
     Ok(())
-}
-
-// Each of sixteen workers takes memory of its own, so that where one after another is refused there are many to refuse.
-#[test]
-fn sixteen_workers(rt: HostRuntime) -> Result<(), Fail> {
-    let mode = Mode::hash();
-    let bytes = array::<3000>();
-    let (root, whole) = combined(rt.alloc(), &mode, &bytes)?;
-    let texts = vec![in rt.alloc(); whole]?;
-    let texts = texts.as_slice();
-    let gathered = match gather_texts(&rt, rt.alloc(), root, mode, 3, 16, Grain::Group, texts) {
-        Err(fault) if is_of_memory(fault) => {
-            gather_texts(&rt, rt.alloc(), root, mode, 3, 2, Grain::Group, texts)?
-        }
-        gathered => gathered?,
-    };
-    assert!(rt; gathered.as_slice() == bytes.as_slice());
-    Ok(())
-}
-
-fn from_sources<R: AllocGlobal + Threads + Sync + Abort>(
-    rt: &R,
-    outline: &Outline<'_>,
-    bytes: &[u8],
-) -> Result<Vec<u8>, Fail> {
-    let alloc = rt.alloc();
-    let sources = [InPieces(&[]), InPieces(bytes)];
-    let fixed = Fixed {
-        root: outline.root(),
-        mode: outline.mode(),
-        capacity: 700,
-        base: 0,
-    };
-    let how = How {
-        workers: 3,
-        grain: Grain::Group,
-        room: 700,
-    };
-    let form = Form::Bare(outline);
-    let mut whole = gather(rt, alloc, &fixed, &form, how, &sources)?;
-    Ok(whole.to_vec(alloc)?)
-}
-
-fn from_copies<R: AllocGlobal + Threads + Sync + Abort>(
-    rt: &R,
-    outline: &Outline<'_>,
-    copy: Vec<u8>,
-) -> Result<Vec<u8>, Fail> {
-    let alloc = rt.alloc();
-    let copies = vec![in alloc; blob(alloc, 1_000)?, copy]?;
-    let copies = copies.as_slice();
-    Ok(gather_copies(rt, alloc, outline, 700, 3, Grain::Group, copies)?)
-}
-
-fn copies_give<R: AllocGlobal + Threads + Sync + Abort>(
-    rt: &R,
-    outline: &Outline<'_>,
-    bytes: &[u8],
-) -> Result<(), Fail> {
-    let gathered = from_sources(rt, outline, bytes)?;
-    assert!(rt; gathered.as_slice() == bytes);
-    let gathered = from_copies(rt, outline, gathered)?;
-    assert!(rt; gathered.as_slice() == bytes);
-    Ok(())
-}
-
-// The same of plain copies, in memory and read by position: a cut one and the true one.
-#[test]
-fn copies(rt: HostRuntime) -> Result<(), Fail> {
-    let mode = Mode::hash();
-    let bytes = blob(rt.alloc(), 100_001)?;
-    let (root, text) = outboard(rt.alloc(), &mode, bytes.as_slice())?;
-    let outline = check_outboard(rt.alloc(), &mode, &root, text.as_slice())?;
-    copies_give(&rt, &outline, bytes.as_slice())
 }

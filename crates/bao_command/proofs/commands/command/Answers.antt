@@ -5,7 +5,7 @@ use Rattle.clap.specs.declared.error.kind.ErrorKind.TheVariants.{OutOfMemory}
 use Rattle.bao_request.specs.declared.tasks.Request.{Request}
 use Rattle.bao_request.specs.CommandLine.{AsksFor, IsUnasked, program_app}
 use Rattle.bao_command.specs.declared.fault.Fault.{Fault}
-use Rattle.bao_command.specs.declared.fault.Fault.TheVariants.{Word, Root, Key, KeyAndContext, KeyFile, KeyFileAndOthers, OutputRange, TooManyFiles, OutIsOutput, OutLeadsToOutput, OutIsRead, LongAndOthers, ListIsOut, ListIsRead, ListLeadsToOther, File, Decode, Gather, Replay}
+use Rattle.bao_command.specs.declared.fault.Fault.TheVariants.{Word, Root, Key, KeyAndContext, KeyFile, KeyFileAndOthers, OutputRange, TooManyFiles, OutIsOutput, OutLeadsToOutput, OutIsRead, LongAndCapacity, ListIsOut, ListIsRead, ListLeadsToOther, File, Decode, Gather, Replay}
 use Rattle.bao_files.specs.Disks.{FileState}
 use Rattle.bao_files.specs.declared.fault.FileFault.TheVariants as file
 use Rattle.bao_command.specs.Outcome.{Begun, IsUsage}
@@ -26,7 +26,7 @@ begun words request at after old new TooManyFiles asks leaves = inl leaves
 begun words request at after old new OutIsOutput asks leaves = inl leaves
 begun words request at after old new OutLeadsToOutput asks leaves = inl leaves
 begun words request at after old new OutIsRead asks leaves = inl leaves
-begun words request at after old new LongAndOthers asks leaves = inl leaves
+begun words request at after old new LongAndCapacity asks leaves = inl leaves
 begun words request at after old new ListIsOut asks leaves = inl leaves
 begun words request at after old new ListIsRead asks leaves = inl leaves
 begun words request at after old new ListLeadsToOther asks leaves = inl leaves

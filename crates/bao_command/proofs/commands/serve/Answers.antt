@@ -4,7 +4,7 @@ use Rattle.std.proofs.lemmas.Bool.Decides.{Decides-eqb}
 use Rattle.b3tree.specs.declared.mode.Mode.{Mode}
 use Rattle.bao_files.specs.Disks.{FileState, KeepsFiles}
 use Rattle.bao_command.specs.declared.fault.Fault.{Fault}
-use Rattle.bao_command.specs.declared.fault.Fault.TheVariants.{Word, Root, Key, KeyAndContext, KeyFile, KeyFileAndOthers, OutputRange, TooManyFiles, OutIsOutput, OutLeadsToOutput, OutIsRead, LongAndOthers, ListIsOut, ListIsRead, ListLeadsToOther, File, Decode, Gather, Replay}
+use Rattle.bao_command.specs.declared.fault.Fault.TheVariants.{Word, Root, Key, KeyAndContext, KeyFile, KeyFileAndOthers, OutputRange, TooManyFiles, OutIsOutput, OutLeadsToOutput, OutIsRead, LongAndCapacity, ListIsOut, ListIsRead, ListLeadsToOther, File, Decode, Gather, Replay}
 use Rattle.bao_files.specs.declared.fault.FileFault.TheVariants as file
 use Rattle.bao_request.specs.declared.tasks.Request.{Request}
 use Rattle.bao_command.specs.Effects.{Writes, list_of}
@@ -40,7 +40,7 @@ module _ (request : Request) (at after : List ℕ → FileState) (mode : Mode) (
   answers bytes old new (Err OutIsOutput) apart right prints = prints
   answers bytes old new (Err OutLeadsToOutput) apart right prints = prints
   answers bytes old new (Err OutIsRead) apart right prints = prints
-  answers bytes old new (Err LongAndOthers) apart right prints = prints
+  answers bytes old new (Err LongAndCapacity) apart right prints = prints
   answers bytes old new (Err ListIsOut) apart right prints = prints
   answers bytes old new (Err ListIsRead) apart right prints = prints
   answers bytes old new (Err ListLeadsToOther) apart right prints = prints

@@ -236,10 +236,9 @@ returns-in-Gather-clause-due g c =
     let NoRoot : Type 0 = ¬ IsDigits c.in-Gather.root.now in
     let Many : Type 0 = 64 < length c.as_slice-files.result.now in
     let many : Many → 64 < length c.in-Gather.files.items = subst (λ (files : List (Bor (List ℕ))). Many → 64 < length files) c.as_slice-files.ensures.value (λ is. is) in
-    let Bad : Type 0 = IsNoCapacity c.in-Gather.capacity in
-    gather_due (g.D.Disk.at c.args.disk.now) c.args.task.now NoRoot Many Bad c.gather.result (subst (λ (t : Task). NoRoot → ¬ HasRoot t) (sym c.in-Gather.is) (λ no. no))
+    gather_due (g.D.Disk.at c.args.disk.now) c.args.task.now NoRoot Many c.gather.result (subst (λ (t : Task). NoRoot → ¬ HasRoot t) (sym c.in-Gather.is) (λ no. no))
     (subst (λ (t : Task). Many → HasManyFiles t) (sym c.in-Gather.is) many) (subst Gathers (sym c.in-Gather.is) tt)
-    (subst (λ (t : Task). Bad → HasNoCapacity t) (sym c.in-Gather.is) (λ bad. bad)) c.gather.ensures.due
+    c.gather.ensures.due
 
 pub returns-in-Replay-clause-due : goal.returns-in-Replay-clause-due
 returns-in-Replay-clause-due g c =
@@ -262,10 +261,10 @@ returns-in-Gather-clause-refused g c =
     let at = g.D.Disk.at c.args.disk.now in
     subst (λ (task : Task). IfErr c.gather.result (λ fault. status_of fault ≡ 1 → IsRefused sure at c.args.mode.now task)) (sym c.in-Gather.is)
     (subst (λ (files : List (Bor (List ℕ))). IfErr c.gather.result (λ fault. status_of fault ≡ 1
-    → OfRoot c.in-Gather.root.now (IsRefusedGathering sure at c.args.mode.now (if c.in-Gather.salvage then ByChunk else ByGroup) c.in-Gather.encode c.in-Gather.long c.in-Gather.capacity c.in-Gather.outboard files c.in-Gather.path.now)))
+    → OfRoot c.in-Gather.root.now (IsRefusedGathering sure at c.args.mode.now (if c.in-Gather.salvage then ByChunk else ByGroup) c.in-Gather.long c.in-Gather.capacity c.in-Gather.outboard files c.in-Gather.path.now)))
     c.as_slice-files.ensures.value
     (subst (λ (grain : Grain). IfErr c.gather.result (λ fault. status_of fault ≡ 1
-    → OfRoot c.in-Gather.root.now (IsRefusedGathering sure at c.args.mode.now grain c.in-Gather.encode c.in-Gather.long c.in-Gather.capacity c.in-Gather.outboard c.as_slice-files.result.now c.in-Gather.path.now)))
+    → OfRoot c.in-Gather.root.now (IsRefusedGathering sure at c.args.mode.now grain c.in-Gather.long c.in-Gather.capacity c.in-Gather.outboard c.as_slice-files.result.now c.in-Gather.path.now)))
     c.grain_of.ensures c.gather.ensures.refused))
 
 pub returns-in-Replay-clause-refused : goal.returns-in-Replay-clause-refused

@@ -23,7 +23,7 @@ use Rattle.bao_command.specs.Gaps.{IsLack}
 use Rattle.bao_command.specs.Printed.{CommandPrints}
 use Rattle.bao_command.specs.Refused.{IsEachBlob, IsRefusedGathering}
 use Rattle.bao_command.specs.Status.{gathered_status_of}
-use Rattle.bao_command.specs.Tasks.{IsBeside, IsNoCapacity, IsOfFile}
+use Rattle.bao_command.specs.Tasks.{IsBeside, IsOfFile}
 use Rattle.bao_command.specs.Works.{IsRightBlob, LeavesGathered}
 use Rattle.bao_command.proofs.Listing.{list_of_file, not_looked}
 use Rattle.bao_command.proofs.Telling.{file_is_no_usage, file_refuses_none, no_refusal, no_usage, not_relisted, of_file_or, on_line, on_printed, told_prints}
@@ -31,27 +31,11 @@ use Rattle.bao_command.proofs.Refusals.{check_is_no_usage}
 use Rattle.bao_command.proofs.gathering.gather.Goals as goal
 use Rattle.bao_command.proofs.gathering.gather.Goals.{in-None, in-Some}
 
--- of the faults of gathering 802 alone is one of the arguments
-gathered_usage : (fault : GatheredFault) → gathered_status_of fault ≡ 2 → fault ≡ Gather gather.Capacity
-gathered_usage (File cause) is = absurd (file_is_no_usage cause is)
-gathered_usage (Outboard cause) is = absurd (check_is_no_usage cause is)
-gathered_usage (Gather gather.Store) is = let bad : 4 ≡ 2 = is in absurd (omega arith)
-gathered_usage (Gather gather.Capacity) is = refl
-gathered_usage (Gather gather.TooLarge) is = let bad : 1 ≡ 2 = is in absurd (omega arith)
-gathered_usage (Gather gather.Seat) is = let bad : 4 ≡ 2 = is in absurd (omega arith)
-gathered_usage (Gather gather.Unfinished) is = let bad : 1 ≡ 2 = is in absurd (omega arith)
-gathered_usage (Gather gather.NotTheRoot) is = let bad : 1 ≡ 2 = is in absurd (omega arith)
-gathered_usage (Gather gather.Memory) is = let bad : 4 ≡ 2 = is in absurd (omega arith)
-gathered_usage (Gather gather.Starved) is = let bad : 4 ≡ 2 = is in absurd (omega arith)
-
 -- a fault that isn't one of the files has another status than 1
 excused_status : (fault : GatheredFault) → IsExcusedGathering fault → gathered_status_of fault ≢ 1
 excused_status (File cause) excused is = file_refuses_none cause is
 excused_status (Outboard cause) excused is = absurd excused
-excused_status (Gather gather.Store) excused is = let bad : 4 ≡ 1 = is in omega arith
-excused_status (Gather gather.Capacity) excused is = let bad : 2 ≡ 1 = is in omega arith
 excused_status (Gather gather.TooLarge) excused is = absurd excused
-excused_status (Gather gather.Seat) excused is = let bad : 4 ≡ 1 = is in omega arith
 excused_status (Gather gather.Unfinished) excused is = absurd excused
 excused_status (Gather gather.NotTheRoot) excused is = absurd excused
 excused_status (Gather gather.Memory) excused is = let bad : 4 ≡ 1 = is in omega arith
@@ -276,7 +260,7 @@ returns-clause-refused g c = λ one.
     let how = c.args.how in
     let out : List ℕ = c.args.paths.out.now in
     let root = c.in_ok-root.root in
-    let refused : IsRefusedGathering (g.D.Disk.faultless c.args.disk.now) at mode how.grain how.encode how.long how.capacity c.args.paths.outboard c.args.files.now out root = elim c.match-paths.branch [
+    let refused : IsRefusedGathering (g.D.Disk.faultless c.args.disk.now) at mode how.grain how.long how.capacity c.args.paths.outboard c.args.files.now out root = elim c.match-paths.branch [
       | in-None w ↦ rw w.in-None.is (λ sure known blob is_blob place have.
           other_is at (g.D.Disk.at w.gather_on-gathered.new.disk) out how mode blob w.gather_on-gathered.result c.in-Err.fault (sym w.gathered-is ∙ c.in-Err.is) one
           (w.gather_on-gathered.ensures.available sure known blob
@@ -352,18 +336,7 @@ returns-in_err-list_nothing-in-Ok-gathered-clause-due g c =
     of_file_or _ result (of_residual result _ c.from_residual-in_err-list_nothing-in-Ok-gathered.ensures.1 (quiet.0, quiet.1))
 
 pub returns-clause-due : goal.returns-clause-due
-returns-clause-due g c = inr (inr (inr (
-  c.in-Err.fault,
-  c.relist-unlisted.result,
-  refl,
-  λ two.
-      let capacity : Err c.in-Err.fault ≡ Err (Gather gather.Capacity) = ap (λ (f : GatheredFault). Err f) (gathered_usage c.in-Err.fault two) in
-      let none : IsNoCapacity c.args.how.capacity = elim c.match-paths.branch [
-        | in-None w ↦ w.gather_on-gathered.ensures.capacity (sym w.gathered-is ∙ c.in-Err.is ∙ capacity)
-        | in-Some w ↦ w.gather_beside_on-gathered.ensures.capacity (sym w.gathered-is ∙ c.in-Err.is ∙ capacity)
-      ] in
-      none,
-)))
+returns-clause-due g c = inr (inr (inr (c.in-Err.fault, c.relist-unlisted.result, refl)))
 
 pub returns-in-Ok-gathered-clause-few : goal.returns-in-Ok-gathered-clause-few
 returns-in-Ok-gathered-clause-few g c = on_printed c.told.result (omega (arith, c.if-files-gt-MOST_FILES.false))

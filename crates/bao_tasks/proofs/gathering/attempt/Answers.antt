@@ -20,8 +20,8 @@ returns-in-Ok-ended-clause-right g c = λ known blob is.
     let before : Option (List ℕ) = g.D.Draft.Write.contents c.in-Ok.out in
     let after : Option (List ℕ) = g.D.Draft.Write.contents c.write_taken-ended.new.out in
     let text : List ℕ = gathered_text wanted.how.encode wanted.mode.now blob in
-    let right = subst (λ (r : Result ℕ GatheredFault). IsRightOf handed (fixed_as wanted.root.now wanted.mode.now wanted.how.capacity) wanted.how blob before after r) c.in-Ok-ended.is
-    (c.write_taken-ended.ensures.right blob is) in
+    let right = subst (λ (r : Result ℕ GatheredFault). IsRightOf handed (fixed_as wanted.root.now wanted.mode.now wanted.how.capacity) wanted.how.encode blob before after r) c.in-Ok-ended.is
+    (c.write_taken-ended.ensures.gathered.right known blob is) in
     elim right [
       | inl done ↦ inl (done.0, all_of_draft after text (subst (λ (t : Option (List ℕ)). Appends t after text) (c.in-Ok.ensures known) done.1))
       | inr pair ↦ inr pair
@@ -49,8 +49,8 @@ returns-then-is_some-clause-left g c = λ is known blob enough before.
     let met : c.unfinished_by-tried.result ≡ open_fault c.write_taken-ended.result = c.unfinished_by-tried.ensures in
     let some : is_some c.unfinished_by-tried.result ≡ true = cc in
     let helps : is_some (open_fault c.write_taken-ended.result) ≡ true = subst (λ (f : Option GatherFault). is_some f ≡ true) met some in
-    elim (open_starved handed fixed wanted.how blob (g.D.Draft.Write.contents c.in-Ok.out) (g.D.Draft.Write.contents c.write_taken-ended.new.out) c.write_taken-ended.result
-    (c.write_taken-ended.ensures.available blob enough) helps) [
+    elim (open_starved handed fixed wanted.how.encode blob (g.D.Draft.Write.contents c.in-Ok.out) (g.D.Draft.Write.contents c.write_taken-ended.new.out) c.write_taken-ended.result
+    (c.write_taken-ended.ensures.gathered.available known blob enough) helps) [
       | inl starved ↦ inl (met ∙ starved)
       | inr pair ↦ inr pair
     ]

@@ -1,6 +1,6 @@
-use Rattle.std.proofs.Common.{◌≡◌, ◌⊎◌, ◌<◌, ℕ, List, IfSome, None, Option, Some, Ok, Err, false, true, length, refl, sym, ap, subst, ◌∙◌, inl, inr}
+use Rattle.std.proofs.Common.{◌≡◌, ◌⊎◌, ℕ, List, IfSome, None, Option, Some, Ok, Err, false, true, length, refl, sym, ap, subst, ◌∙◌, inl, inr}
 use Rattle.gather.specs.declared.fault.GatherFault.{GatherFault as Cause}
-use Rattle.gather.specs.declared.fault.GatherFault.TheVariants.{Capacity, Starved, TooLarge, Unfinished}
+use Rattle.gather.specs.declared.fault.GatherFault.TheVariants.{Starved, TooLarge, Unfinished}
 use Rattle.gather.specs.Large.{HasCollision, fixed_as}
 use Rattle.gather.specs.Lists.{IsFromSource}
 use Rattle.bao_files.specs.Disks.{FileState}
@@ -15,7 +15,7 @@ use Rattle.bao_tasks.specs.MissingInFiles.{IsLackIn, wanted_for}
 use Rattle.bao_tasks.specs.declared.missing.Lack.{Lack}
 use Rattle.bao_tasks.specs.TakenFiles.{AreOfFiles, HasSound}
 use Rattle.bao_tasks.specs.Givens.{given_contents, is_given_faultless, most_bytes, watched_contents, watched_faultless}
-use Rattle.bao_tasks.proofs.FromFiles.{drafted_of, excused_end, fault_of, first_unread, long_wider, met_or_pair, no_sources, none_untried, not_capacity, not_of_reading, not_open, not_other_root, one_large, pair_of_files, right_draft, same_ok, untried_draft}
+use Rattle.bao_tasks.proofs.FromFiles.{drafted_of, excused_end, fault_of, first_unread, long_wider, met_or_pair, no_sources, none_untried, not_of_reading, not_open, not_other_root, one_large, pair_of_files, right_draft, same_ok, untried_draft}
 use Rattle.bao_tasks.proofs.MissingInFiles.{lack_as}
 use Rattle.bao_tasks.proofs.Together.{all_taken, enough_wider}
 use Rattle.bao_tasks.proofs.gathering.drafted.Given.{Over}
@@ -235,9 +235,3 @@ returns-clause-too_large g c = λ slices surely is.
     ] in
     let large : c.cause_of.result ≡ Gather TooLarge = cc in
     one_large c.cause_of.result c.attempt.new.tried.met c.attempt-2.new.tried.met (AreTooLong (IsFromFile c.args.wanted.now.form.now c.args.wanted.now.how.capacity (g.D.Disk.at c.args.disk.now) c.args.files.now) (fixed_as c.args.wanted.now.root.now c.args.wanted.now.mode.now c.args.wanted.now.how.capacity) c.args.wanted.now.how.capacity) c.cause_of.ensures.cause first second large
-
-pub returns-clause-capacity : goal.returns-clause-capacity
-returns-clause-capacity g c = λ is.
-    let no : c.cause_of.result ≡ Gather Capacity = cc in
-    absurd {A = (c.args.wanted.now.how.capacity ≡ 0) ⊎ (65536 < c.args.wanted.now.how.capacity)}
-    (not_capacity c.cause_of.result c.attempt-2.new.tried.met c.cause_of.ensures.cause (c.attempt-2.ensures.met (c.attempt.ensures.met tt)) no)

@@ -1,4 +1,4 @@
-use Rattle.crews.proofs.Common.{ℕ, ◌<◌, List, length, arith, refl, subst, common_steps, SeatView}
+use Rattle.crews.proofs.Common.{◌<◌, List, length, arith, refl, subst, common_steps, SeatView}
 use Rattle.std.proofs.lemmas.List.{get_or_default}
 use Rattle.crews.proofs.InTurn.{meets_from, meets_on, sees_none, sees_then}
 use Rattle.crews.proofs.Summing.{round_on}

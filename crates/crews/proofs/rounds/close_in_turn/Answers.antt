@@ -1,4 +1,4 @@
-use Rattle.crews.proofs.Common.{◌<◌, List, length, arith, subst, common_steps}
+use Rattle.crews.proofs.Common.{◌<◌, List, length, arith, subst}
 use Rattle.std.proofs.lemmas.List.{get_or_default}
 use Rattle.crews.proofs.InTurn.{turns}
 use Rattle.crews.specs.Filling.{Closes}

@@ -1,4 +1,4 @@
-use Rattle.crews.proofs.Common.{ℕ, ◌+◌, ◌<◌, List, length, arith, inl, inr, cases_lt, common_steps, ◌∙◌, refl}
+use Rattle.crews.proofs.Common.{ℕ, ◌<◌, List, length, arith, inl, inr, cases_lt, common_steps, ◌∙◌, refl}
 use Rattle.crews.proofs.InTurn.{looks_none, turned_done, turned_rest}
 use Rattle.crews.specs.declared.crew.Crew.{Crew}
 use Rattle.crews.proofs.rounds.last_round.Goals as goal

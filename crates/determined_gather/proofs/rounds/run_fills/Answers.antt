@@ -1,4 +1,4 @@
-use Rattle.std.proofs.Common.{ℕ, ◌<◌, List, Contains, length, slice_index_or, subst, inl, inr}
+use Rattle.std.proofs.Common.{◌≡◌, ℕ, ◌<◌, List, Contains, false, length, slice_index_or, subst, inl, inr}
 use Rattle.b3tree.specs.Valid.{IsKeyed}
 use Rattle.b3tree.specs.declared.mode.Mode.{Mode}
 use Rattle.crews.specs.declared.crew.Crew.{Crew}

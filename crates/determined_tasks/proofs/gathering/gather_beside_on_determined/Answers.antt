@@ -75,7 +75,7 @@ returns-clause-enough g c = λ surely also_surely known blob is room some few ow
     let s = c.gather_beside_on-2.result in
     let theirs_put = c.gather_beside_on-2.ensures.available also_surely (subst IsKnown (c.requires.same path) known) blob
     (subst (λ (k : ℕ). IsBlob (fixed_as root mode k) blob) c.requires.capacity is)
-    (room_as how also (length blob) c.requires.encode c.requires.long c.requires.capacity room) some few (sym (c.requires.same c.args.outboard.now) ∙ own)
+    (room_as how also (length blob) c.requires.long c.requires.capacity room) some few (sym (c.requires.same c.args.outboard.now) ∙ own)
     (subst (λ (at : List ℕ → FileState). IsInFile at c.args.files.now blob ⊎ HaveBytes (IsInFile at c.args.files.now) also.grain blob) same also_copies) in
     enough_agree mode root.0 ours one other path how also blob (CollidesBeside (fixed_as root mode how.capacity) how.capacity ours c.args.files.now blob)
     c.gather_beside_on.result s c.requires.encode (c.gather_beside_on.ensures.available surely known blob is room some few own copies)

@@ -1,4 +1,4 @@
-use Rattle.gather.proofs.Common.{◌≡◌, ◌∙◌, ℕ, IsTrue, None, Some, false, subst, sym, true}
+use Rattle.gather.proofs.Common.{◌≡◌, ◌∙◌, ℕ, IsTrue, Some, false, subst, sym, true}
 use Rattle.gather.specs.Forms.{IsLengthOf}
 use Rattle.gather.proofs.completing.length_for.Goals as goal
 

@@ -1,4 +1,4 @@
-use Rattle.gather.proofs.Common.{◌≡◌, ◌+◌, ◌-◌, ◌≤◌, ℕ, List, ◌++◌, length, take, drop, Option, None, Some, replicate, rules, refl, true, vec_len, if◌then◌else◌, ◌∙◌, sym, ap, arith, take-append-add, append_assoc, length-take-le, take-append-le, take-take, take_all, take_at, is_ok, GivenAt, ReadsAt}
+use Rattle.gather.proofs.Common.{if◌then◌else◌, ◌≡◌, ◌+◌, ◌-◌, ◌≤◌, ℕ, List, ◌++◌, length, take, drop, Option, None, Some, replicate, rules, refl, true, vec_len, ◌∙◌, sym, ap, arith, take-append-add, append_assoc, length-take-le, take-append-le, take-take, take_all, take_at, is_ok, GivenAt, ReadsAt}
 use Rattle.gather.specs.Reads.{ReadFrom}
 use Rattle.gather.proofs.Reading.{read_more}
 use Rattle.gather.proofs.places.PlacedPlaces.append.Goals as goal

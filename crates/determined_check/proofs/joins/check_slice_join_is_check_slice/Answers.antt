@@ -1,7 +1,0 @@
-use Rattle.determined_check.proofs.OneFault.{slices_agree}
-use Rattle.determined_check.proofs.joins.check_slice_join_is_check_slice.Goals as goal
-
-pub returns : goal.returns
-returns g c =
-    slices_agree c.args.mode.now c.args.root.now.0 c.args.start c.args.len c.args.text.now c.check_slice_join.result c.check_slice.result
-    c.check_slice_join.ensures.accepted c.check_slice.ensures.accepted c.check_slice_join.ensures.piece c.check_slice.ensures.piece c.check_slice_join.ensures.fault c.check_slice.ensures.fault
