@@ -67,7 +67,7 @@ help:
 	@echo 'make fetch-install PREFIX=DIR copies bw-fetch to DIR/bin, its manual page to DIR/share/man'
 	@echo 'make fetch-test           runs bw-fetch against hostile mirrors on loopback, under what is installed of sanitizers;'
 	@echo '                          DRAWN=N for another number of fetches from drawn mirrors than 4000'
-	@echo 'make fetch-bench          measures bw-fetch beside curl and aria2c, where they are installed, over mirrors on loopback'
+	@echo 'make fetch-bench          measures bw-fetch beside curl, b3sum and aria2c, on loopback and over links of 10 and 100 Mbit/s'
 	@echo '                          (needs nginx)'
 	@echo 'make bench                measures times and prints them with their ratios, beside b3sum where it is installed and'
 	@echo '                          beside what is wanted; with RECORD=1 it adds them to bench/history.tsv'
@@ -354,4 +354,5 @@ fetch-test:
 	@python3 fetch/tests/all.py $(DRAWN)
 
 fetch-bench: fetch
+	@python3 fetch/tests/links.py out/bw-fetch
 	@python3 fetch/tests/measure.py out/bw-fetch

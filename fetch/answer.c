@@ -2,7 +2,6 @@
 
 #include <ctype.h>
 #include <strings.h>
-#include <time.h>
 
 enum {
     HEADERS_MOST = 65536,
@@ -11,7 +10,7 @@ enum {
 };
 
 void answer_begin(answer *it, piece *asked, size_t count, uint64_t lacking) {
-    *it = (answer){.asked = asked, .count = count, .most = lacking + SLACK + count * SLACK_OF_PART, .wait = -1};
+    *it = (answer){.asked = asked, .count = count, .most = lacking + SLACK + count * SLACK_OF_PART};
 }
 
 bool answer_moves(const answer *it) {
@@ -44,15 +43,6 @@ static bool read_content_range(const char *text, uint64_t *from, uint64_t *len) 
     return true;
 }
 
-/* "120", or a date (RFC 9110, 10.2.3). In seconds from now, or -1. */
-static double read_retry_after(const char *text) {
-    uint64_t seconds;
-    const char *end = read_digits(text, &seconds);
-    if (end) return end[strspn(end, " \t\r\n")] ? -1 : (double)seconds;
-    time_t at = curl_getdate(text, NULL), now = time(NULL);
-    return at < 0 ? -1 : at > now ? difftime(at, now) : 0;
-}
-
 bool answer_header(answer *it, const char *line, size_t len) {
     char text[LOCATION_MOST];
     if ((it->header_bytes += len) > HEADERS_MOST) return false;
@@ -60,14 +50,13 @@ bool answer_header(answer *it, const char *line, size_t len) {
     text[strcspn(text, "\r\n")] = 0;
     if (!strncasecmp(text, "http/", 5)) {
         const char *code = strchr(text, ' ');
-        it->ranged = it->multipart = it->is_coded = false, it->wait = -1, it->location[0] = 0;
+        it->ranged = it->multipart = it->is_coded = false, it->location[0] = 0;
         it->code = code ? strtol(code, NULL, 10) : 0;
     }
     const char *range = value_of(text, "content-range:"), *type = value_of(text, "content-type:");
-    const char *later = value_of(text, "retry-after:"), *to = value_of(text, "location:"), *as = value_of(text, "transfer-encoding:");
+    const char *to = value_of(text, "location:"), *as = value_of(text, "transfer-encoding:");
     if (range) it->ranged = read_content_range(range, &it->at, &it->left);
     if (type) it->multipart = value_of(type, "multipart/byteranges");
-    if (later) it->wait = read_retry_after(later);
     if (to && len < LOCATION_MOST) strcpy(it->location, to);
     if (as) it->is_coded = strcasecmp(as, "chunked") && strcasecmp(as, "identity");
     return true;
@@ -121,7 +110,7 @@ static void begin_body(answer *it) {
     if (it->is_coded) return;
     if (it->code == 206 && it->multipart) it->state = PART_HEADERS, it->left = 0;
     else if (it->code == 206 && it->ranged) it->state = ONE_BODY;
-    else if (it->code == 200) it->state = end <= it->most ? ONE_BODY : WHOLE_FILE, it->at = 0;
+    else if (it->code == 200) it->state = it->streams || end <= it->most ? ONE_BODY : WHOLE_FILE, it->at = 0;
 }
 
 bool answer_body(answer *it, const uint8_t *bytes, size_t len) {
@@ -133,4 +122,14 @@ bool answer_body(answer *it, const uint8_t *bytes, size_t len) {
         else used += take_part(it, bytes + used, len - used);
     }
     return it->state != REFUSED && it->came <= it->most;
+}
+
+bool answer_stream(answer *it, const uint8_t *bytes, size_t len) {
+    const piece *last = &it->asked[it->count - 1];
+    if (it->state == NOTHING_YET) begin_body(it);
+    const uint64_t at = it->at;
+    spread(it, bytes, len);
+    if (it->at > last->at + last->len) return it->at = at, false;
+    it->came += len;
+    return true;
 }

@@ -17,7 +17,7 @@ static char *text;                          /* a line of it */
 static size_t room;
 static int worst;
 static bool has_output;                     /* standard output wasn't closed */
-static volatile sig_atomic_t interrupted, has_bell;
+static volatile sig_atomic_t interrupted;
 
 /* --- What is to be fetched */
 
@@ -77,7 +77,6 @@ static void start_next(fetch **f) {
 static void on_signal(int number) {
     (void)number;
     interrupted = 1;
-    if (has_bell) pool_ring(&all.pool);
 }
 
 /* A second signal ends the program at once. One that is ignored stays so. A file that may not become longer is a fault like
@@ -146,7 +145,6 @@ int main(int argc, char **argv) {
     if (said.manifest && argc > optind) return usage("--manifest has all files");
     if (said.manifest && !(manifest = fopen(said.manifest, "re"))) return file_fault(said.manifest);
     if (!hub_new(&all, &given.set)) return no_memory();
-    has_bell = true;
     worst = said.manifest ? DONE : make_fetch(&running[0], argv + optind);
     if (worst) fetch_free(running[0]), running[0] = NULL;
     for (uint64_t wake; turn_all(&wake);) hub_wait(&all, wake);

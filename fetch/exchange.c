@@ -1,7 +1,7 @@
 /* A request of a plan, from its beginning to its end: the parents of an outboard encoding, then the bytes of a mirror. */
 #include "fetch.h"
 
-enum { USELESS = 3, BAD_ENOUGH = 4, LOST_ENOUGH = 3, TRY_AFTER = GROUP_LEN, SHORT_WAIT = 100, ORPHANS_MOST = 4 * BW_GROUP_CHUNKS };
+enum { USELESS = 3, BAD_ENOUGH = 4, LOST_ENOUGH = 3, TRY_AFTER = GROUP_LEN, SHORT_WAIT = 100 };
 
 size_t pieces_lay_out(pieces *of, uint8_t *at, const uint8_t *head, size_t head_len) {
     size_t used = 0;
@@ -20,10 +20,8 @@ static bool are_whole(const pieces *of) {
     return !pieces_lacking(of->list, of->count);
 }
 
-static size_t bytes_of(const pieces *of) {
-    size_t have = 0;
-    for (size_t i = 0; i < of->count; i++) have += of->list[i].have;
-    return have;
+static uint64_t bytes_there(const exchange *e) {
+    return e->bytes_len - pieces_lacking(e->list, e->parts.count);
 }
 
 static void came(leg *of) {
@@ -32,128 +30,209 @@ static void came(leg *of) {
 
 static void ended(leg *of, leg_end as) {
     exchange *e = of->with;
-    e->has_ended = true, e->end = as;
-    if (as != LEG_ALL && !(e->step == HEAD && of->at_end)) fetch_say(e->fetch, e->leg.of == &e->from->at ? e->from : e->by, NULL);
+    e->has_ended = true, e->end = as, e->later_ms = of->wait_ms;
+    if (as != LEG_ALL && !(e->step == HEAD && of->at_end)) fetch_say(e->fetch, e->asked, NULL);
     exchange_move(e);
+}
+
+/* A stream that breaks off ends the exchange, once the parents that are under way came. What is behind the file's end isn't asked
+ * for. */
+static void flow_ended(leg *of, leg_end as) {
+    exchange *e = of->with;
+    fetch *f = e->fetch;
+    for (uint64_t g = e->unit * UNIT_GROUPS; of->at_end && g < groups_of(f->total); g++) {
+        fetch_must(f, bw_plan_lacks(&f->chunks, e->from->holder, g, UINT64_MAX));
+    }
+    e->has_broken_off = true;
+    e->flow_end = as;
+    if (e->step == UNIT) ended(of, as);
 }
 
 exchange *exchange_new(fetch *f, peer *from) {
     exchange *e = malloc(sizeof *e + BYTES_MOST + HEAD_LEN + GROUP_SLICE_MOST + (f->out.is_pipe ? UNIT_LEN : 0));
     if (!e) return NULL;
-    *e = (exchange){.fetch = f, .from = from, .next = f->exchanges, .try_at = TRY_AFTER};
-    e->parts = (pieces){e->list, 0, PIECES_MOST}, e->parents = (pieces){e->parent_list, 0, BW_RANGES_MAX};
-    e->head = e->bytes + BYTES_MOST, e->slice = e->head + HEAD_LEN, e->image = f->out.is_pipe ? e->slice + GROUP_SLICE_MOST : NULL;
-    e->leg.came = came, e->leg.ended = ended, e->leg.with = e;
-    f->exchanges = e, f->live++, from->busy++;
+    *e = (exchange){
+        .fetch = f, .from = from, .asked = from, .next = f->exchanges, .try_at = TRY_AFTER,
+        .streams = from->at.no_ranges && from->at.kind != OUTBOARD,
+        .parts = {e->list, 0, PIECES_MOST}, .parents = {e->parent_list, 0, BW_RANGES_MAX},
+        .leg = {.came = came, .ended = ended, .with = e},
+        .flow = {.came = came, .ended = flow_ended, .with = e, .streams = true},
+        .head = e->bytes + BYTES_MOST, .slice = e->bytes + BYTES_MOST + HEAD_LEN,
+    };
+    if (f->out.is_pipe) e->image = e->slice + GROUP_SLICE_MOST;
+    f->exchanges = e;
+    f->live++;
+    from->busy++;
     return e;
 }
 
 void exchange_sweep(fetch *f) {
     for (exchange **at = &f->exchanges, *e; (e = *at);) {
-        if (!e->is_over || e->leg.runs || e->is_busy) at = &e->next;
-        else *at = e->next, leg_free(&e->leg), free(e);
+        if (!e->is_over || e->leg.runs || e->flow.runs || e->is_busy) at = &e->next;
+        else *at = e->next, leg_free(&e->leg), leg_free(&e->flow), free(e);
     }
 }
 
-/* A file that has no ranges is copied whole, beside OUT: an outboard encoding at once, a mirror where nobody better is left. */
+/* An outboard encoding that has no ranges is copied whole, beside OUT. */
 void exchange_get(exchange *e, peer *of, pieces *wanted) {
     fetch *f = e->fetch;
-    source *at = &of->at;
-    uint64_t most = f->is_settled ? f->total : f->set->most;
-    e->has_ended = false;
-    e->leg.copy_to = at->no_ranges || at->kind == OUTBOARD ? f->out.folder : NULL;
-    e->leg.copy_most = at->kind == COMBINED ? bw_encoded_len(most) : at->kind == OUTBOARD ? bw_outboard_len(most) : most;
-    leg_start(&e->leg, f->hub, at, wanted);
+    bool is_line = of->at.kind == OUTBOARD;
+    e->has_ended = false, e->asked = of;
+    e->leg.copy_to = is_line ? f->out.folder : NULL;
+    e->leg.copy_most = is_line ? bw_outboard_len(f->is_settled ? f->total : e->claimed) : 0;
+    leg_start(&e->leg, f->hub, &of->at, wanted);
 }
 
-/* The chunks of a group that are among some. */
-static uint64_t mask_in(uint64_t group, uint64_t first, uint64_t count) {
-    uint64_t start = group * BW_GROUP_CHUNKS, low = first > start ? first - start : 0, end = first + count - start;
+static uint64_t end_of(run it) {
+    return it.first + it.count;
+}
+
+/* The chunks of a group that are in a run. */
+static uint64_t mask_in(uint64_t group, run of) {
+    uint64_t start = group * BW_GROUP_CHUNKS, low = of.first > start ? of.first - start : 0, end = end_of(of) - start;
     return mask_of((span){(unsigned)low, end < BW_GROUP_CHUNKS ? (unsigned)end - 1 : BW_GROUP_CHUNKS - 1});
-}
-
-static uint64_t last_group(const exchange *e) {
-    return (e->first + e->count - 1) / BW_GROUP_CHUNKS;
 }
 
 /* --- Parents: an outboard encoding is told what is wanted of it just then, and its plan says whether to ask it */
 
-/* Tells a plan that a holder has, or lacks, the chunks of an exchange. */
-static void tell(exchange *e, bw_plan *plan, size_t holder, bool has) {
-    for (uint64_t g = e->first / BW_GROUP_CHUNKS; g <= last_group(e); g++) {
-        fetch_must(e->fetch, (has ? bw_plan_has : bw_plan_lacks)(plan, holder, g, mask_in(g, e->first, e->count)));
+/* Tells a plan that a holder has, or lacks, some chunks of an exchange, but for those that were refused meanwhile. */
+static void tell(const exchange *e, const booking *of, run it, bool has) {
+    for (uint64_t g = it.first / BW_GROUP_CHUNKS; it.count && g * BW_GROUP_CHUNKS < end_of(it); g++) {
+        uint64_t mask = mask_in(g, it) & ~(has ? e->refuted[g % UNIT_GROUPS] : 0);
+        fetch_must(e->fetch, (has ? bw_plan_has : bw_plan_lacks)(of->plan, of->holder, g, mask));
     }
+}
+
+static bool do_meet(run a, run b) {
+    return a.first < end_of(b) && b.first < end_of(a);
 }
 
 /* Whether some of an exchange's chunks are asked of an outboard encoding already, for another one. */
 static bool is_asked_for(const exchange *e, const peer *line) {
     for (const exchange *x = e->fetch->exchanges; x; x = x->next) {
-        if (x->asks_line && x->by == line && x->line_first < e->first + e->count && e->first < x->line_first + x->line_count) return true;
+        if (x->of_by.is_open && x->of_by.of == &line->at && do_meet(x->of_by.chunks, e->chunks)) return true;
     }
     return false;
 }
 
-/* Asks one for the chunks. False: it isn't to be asked now, but may be from *until on. */
+/* Asks one for the chunks, of which it is told to have those that are asked for alone. False: it isn't to be asked now, but may be
+ * from *until on. */
 static bool take_line(exchange *e, peer *line, uint64_t now, uint64_t *until) {
     fetch *f = e->fetch;
-    bw_plan_next next = {0};
-    uint64_t soon = now + SHORT_WAIT;
-    if (line->at.live >= line->at.most || line->later > now || is_asked_for(e, line)) return *until = soon < *until ? soon : *until, false;
-    tell(e, &f->parents, line->holder, true);
-    bool is_there = !bw_plan_ask(&f->parents, line->holder, now, &next) && next.kind == BW_NEXT_FETCH;
-    if (is_there && next.first >= e->first && next.first + next.count <= e->first + e->count) {
-        e->by = line, e->asks_line = true;
-        e->line_first = e->get_first = next.first, e->line_count = e->get_count = next.count;
-        return true;
+    booking of = booking_of(f, line);
+    uint64_t next = now + SHORT_WAIT;
+    if (line->at.live < line->at.most && line->later <= now && !is_asked_for(e, line)) {
+        const run all = e->chunks;
+        tell(e, &of, all, true);
+        next = fetch_book(f, &of, now);
+        run got = of.is_open ? of.chunks : (run){all.first, 0};
+        tell(e, &of, (run){all.first, got.first - all.first}, false);
+        tell(e, &of, (run){end_of(got), end_of(all) - end_of(got)}, false);
     }
-    if (is_there) fetch_ended(f, &f->parents, &line->at, line->holder, next.first, next.count, BW_ENDED_CUT, 0);
-    if (is_there || next.kind == BW_NEXT_WAIT) *until = is_there ? soon : next.until_ms < *until ? next.until_ms : *until;
-    tell(e, &f->parents, line->holder, false);
-    return false;
+    if (!of.is_open) {
+        if (next < *until) *until = next;
+        return false;
+    }
+    e->by = line;
+    e->of_by = of;
+    e->line_since = now;
+    e->proving = of.chunks;
+    return true;
 }
 
-/* Picks one for the chunks: the mirror's own, or one that follows it. False: none now, and from *until on there may be one, or
- * never where that is UINT64_MAX. */
-static bool pick_line(exchange *e, uint64_t now, uint64_t *until) {
-    peer *line = e->from->line, *first = line;
+/* Whether most of what it has is false, as far as is known. */
+static bool lies(const peer *it) {
+    return it->bad >= BAD_ENOUGH && it->bad > it->good;
+}
+
+/* Whether others overtake it. */
+static bool lags(const peer *it) {
+    return it->lost >= LOST_ENOUGH && (uint64_t)it->lost * UNIT_GROUPS > it->good;
+}
+
+/* Picks one for the chunks: the mirror's own, or one that follows it; of those that lie or lag, or of the others. */
+static bool pick_among(exchange *e, bool is_last, uint64_t now, uint64_t *until) {
+    peer *const first = e->from->line;
+    peer *line = first;
     *until = UINT64_MAX;
     while (line) {
-        if (line->is_in && take_line(e, line, now, until)) return true;
+        if (line->is_holder && (lies(line) || lags(line)) == is_last && take_line(e, line, now, until)) return true;
         line = line->next ? line->next : e->fetch->lines;
         if (line == first) break;
     }
     return false;
 }
 
+/* Those that lie or lag are the last. False: none now, and from *until on there may be one, or never where that is UINT64_MAX. */
+static bool pick_line(exchange *e, uint64_t now, uint64_t *until) {
+    uint64_t of_last;
+    if (pick_among(e, false, now, until) || pick_among(e, true, now, &of_last)) return true;
+    if (of_last < *until) *until = of_last;
+    return false;
+}
+
 /* --- Begin and end */
 
-/* Plans what is asked for, of the mirror and of an outboard encoding, and asks. */
-void exchange_unit(exchange *e) {
-    fetch *f = e->fetch;
-    bool is_combined = e->from->at.kind == COMBINED;
-    uint64_t start = e->get_first * BW_CHUNK_LEN, end = (e->get_first + e->get_count) * BW_CHUNK_LEN;
-    if (end > f->total) end = f->total;
-    e->unit = e->get_first / UNIT_CHUNKS;
-    trail_to(&e->above, f->total, e->unit * UNIT_LEN, UNIT_LEN);
-    fetch_recall(f, &e->above);
-    e->parts.count = e->parents.count = 0;
-    bool ok = add_ranges(is_combined ? &e->parts : &e->parents, &e->above, is_combined, f->total, start, end - start);
-    if (!is_combined && end > start) e->list[0] = (piece){.at = start, .len = (size_t)(end - start)}, e->parts.count = 1;
-    size_t used = pieces_lay_out(&e->parents, e->bytes, e->by ? e->by->head : NULL, e->by ? e->by->head_len : 0);
-    pieces_lay_out(&e->parts, e->bytes + used, NULL, 0);
+/* Asks for the parents, which lie behind the other bytes in memory. */
+static void ask_parents(exchange *e) {
+    uint64_t start = e->proving.first * BW_CHUNK_LEN, len = e->proving.count * BW_CHUNK_LEN;
+    e->parents.count = e->next_group = 0;
+    e->is_whole = false;
+    e->wrong_parent = 0;
+    bool ok = !e->by || add_ranges(&e->parents, &e->above, false, e->fetch->total, start, len);
     if (!ok) return exchange_end(e, BW_ENDED_OVER, 0);
+    if (e->by) pieces_lay_out(&e->parents, e->bytes + e->bytes_len, e->by->head, e->by->head_len);
     e->step = PARENTS, e->has_ended = true, e->end = LEG_ALL;
     if (are_whole(&e->parents)) return exchange_move(e);
     exchange_get(e, e->by, &e->parents);
 }
 
-static void end_line_request(exchange *e, uint64_t later) {
-    bool was_cut = e->step == UNIT || e->end == LEG_ALL || !e->has_ended;
-    if (!e->asks_line) return;
-    e->asks_line = false;
-    fetch_ended(e->fetch, &e->fetch->parents, &e->by->at, e->by->holder, e->line_first, e->line_count,
-                was_cut ? BW_ENDED_CUT : e->end == LEG_LATER ? BW_ENDED_LATER : BW_ENDED_OVER, later);
-    tell(e, &e->fetch->parents, e->by->holder, false);
+/* The parents above a unit that a stream has passed already are taken as they came. */
+static void give_passed(exchange *e) {
+    for (piece *it = e->list; it < e->list + e->parts.count; it++) {
+        for (size_t i = 0; i < e->passed.count; i++) {
+            const ancestor *of = &e->passed.list[i];
+            if (it->at + it->have != of->combined_at || it->len - it->have < BW_PARENT_LEN) continue;
+            memcpy(it->bytes + it->have, of->text, BW_PARENT_LEN);
+            it->have += BW_PARENT_LEN;
+        }
+    }
+}
+
+static void keep_passed(exchange *e) {
+    e->passed = e->above;
+    for (size_t i = 0; i < e->passed.count; i++) {
+        ancestor *it = &e->passed.list[i];
+        const uint8_t *bytes = it->is_known ? NULL : pieces_find(&e->parts, it->combined_at, BW_PARENT_LEN);
+        if (bytes) memcpy(it->text, bytes, BW_PARENT_LEN);
+    }
+}
+
+void exchange_unit(exchange *e, run of) {
+    fetch *f = e->fetch;
+    bool is_combined = e->from->at.kind == COMBINED, ok = true;
+    uint64_t start = of.first * BW_CHUNK_LEN, end = start + of.count * BW_CHUNK_LEN;
+    if (end > f->total) end = f->total;
+    e->unit = of.first / UNIT_CHUNKS;
+    e->chunks = of;
+    e->try_at = TRY_AFTER;
+    memset(e->refuted, 0, sizeof e->refuted);
+    trail_to(&e->above, f->total, e->unit * UNIT_LEN, UNIT_LEN);
+    fetch_recall(f, &e->above);
+    e->parts.count = 0;
+    if (is_combined) ok = add_ranges(&e->parts, &e->above, true, f->total, start, end - start);
+    else if (end > start) e->list[0] = (piece){.at = start, .len = (size_t)(end - start)}, e->parts.count = 1;
+    e->bytes_len = pieces_lay_out(&e->parts, e->bytes, NULL, 0);
+    give_passed(e);
+    if (!ok) return exchange_end(e, BW_ENDED_OVER, 0);
+    ask_parents(e);
+}
+
+/* Afterwards nothing is wanted of the outboard encoding. */
+static void close_line(exchange *e, booking *of, uint32_t outcome, uint64_t later) {
+    if (!of->is_open) return;
+    fetch_close(e->fetch, of, outcome, later);
+    tell(e, of, of->chunks, false);
 }
 
 /* Also by the plan that isn't made yet: a server's wish to be left alone is about it, and not about what it is asked for. */
@@ -164,29 +243,42 @@ static void leave_alone(const fetch *f, peer *it, uint64_t ms) {
 
 void exchange_end(exchange *e, uint32_t outcome, uint64_t later_ms) {
     fetch *f = e->fetch;
-    source *at = e->leg.of ? e->leg.of : &e->from->at;
     if (e->is_over) return;
-    bool is_lines = e->step == PARENTS && e->has_ended && e->end != LEG_ALL;
     leg_cut(&e->leg);
-    end_line_request(e, later_ms);
+    leg_cut(&e->flow);
+    close_line(e, &e->of_by, BW_ENDED_CUT, 0);
     e->is_over = true, f->live--, e->from->busy--, f->changes++;
-    if (outcome == BW_ENDED_LATER) leave_alone(f, is_lines ? e->by : e->from, later_ms);
-    if (e->opener) e->opener->is_busy = false, fetch_ended(f, &f->length, at, e->opener->holder, 0, 1, outcome, later_ms);
-    if (is_lines || e->orphaned) outcome = BW_ENDED_CUT;
-    if (e->is_asked) fetch_ended(f, &f->chunks, &e->from->at, e->from->holder, e->first, e->count, outcome, later_ms);
+    if (outcome == BW_ENDED_LATER) leave_alone(f, e->from, later_ms);
+    if (e->opener) fetch_close(f, &e->opener->booked, outcome, later_ms);
+    fetch_close(f, &e->of_from, e->orphaned ? BW_ENDED_CUT : outcome, later_ms);
 }
 
-/* What an end of the bytes is to the plans. A server that refuses one connection beside others gets fewer. */
-void exchange_end_by(exchange *e) {
-    source *of = e->leg.of ? e->leg.of : &e->from->at;
+/* What an end of the bytes is to the plans. A file that comes only whole is streamed at last, and can't be asked for what certifies
+ * a length. A server that refuses one connection beside others gets fewer. */
+static uint32_t outcome_of(exchange *e) {
+    fetch *f = e->fetch;
+    source *of = &e->asked->at;
     if (e->end == LEG_NO_RANGES) {
-        of->most = 1, e->from->rank = 2;
-        fetch_must(e->fetch, e->opener ? bw_plan_rank(&e->fetch->length, e->opener->holder, 2) : bw_plan_rank(&e->fetch->chunks, e->from->holder, 2));
-        exchange_end(e, BW_ENDED_CUT, 0);
-    } else if (e->end != LEG_ALL && of->is_far && of->live) {
-        of->most = of->live;
-        exchange_end(e, BW_ENDED_CUT, 0);
-    } else exchange_end(e, e->end == LEG_LATER ? BW_ENDED_LATER : BW_ENDED_OVER, leg_wait(&e->leg));
+        e->from->rank = 2;
+        fetch_must(f, e->opener ? bw_plan_lacks(&f->length, e->opener->booked.holder, 0, 1) : bw_plan_rank(&f->chunks, e->from->holder, 2));
+        return BW_ENDED_CUT;
+    }
+    if (e->end != LEG_ALL && of->is_far && of->live) return of->most = of->live, BW_ENDED_CUT;
+    return e->end == LEG_LATER ? BW_ENDED_LATER : BW_ENDED_OVER;
+}
+
+void exchange_end_by(exchange *e) {
+    exchange_end(e, outcome_of(e), e->later_ms);
+}
+
+/* The parents didn't come: another outboard encoding is asked. */
+static void change_line(exchange *e) {
+    uint32_t outcome = outcome_of(e);
+    uint64_t until;
+    if (outcome == BW_ENDED_LATER) leave_alone(e->fetch, e->by, e->later_ms);
+    close_line(e, &e->of_by, outcome, e->later_ms);
+    if (!e->leg.runs && pick_line(e, now_ms(), &until)) ask_parents(e);
+    else exchange_end(e, BW_ENDED_CUT, 0);
 }
 
 /* --- What a job found */
@@ -198,22 +290,23 @@ static void set_rank(fetch *f, peer *m, uint32_t rank) {
 
 /* A mirror of mostly false groups, or one that others overtake, is asked last. */
 static void judge(fetch *f, peer *m) {
-    bool lies = m->bad >= BAD_ENOUGH && m->bad > m->good, lags = m->lost >= LOST_ENOUGH && (uint64_t)m->lost * UNIT_GROUPS > m->good;
-    uint32_t rank = lies || lags || m->at.hangs ? 2 : m->at.is_local ? 0 : 1;
-    if (m != &f->own && m->is_in && m->rank < rank) set_rank(f, m, rank);
+    uint32_t rank = lies(m) || lags(m) || m->at.hangs || m->at.no_ranges ? 2 : m->at.is_local ? 0 : 1;
+    if (m != &f->own && m != f->believed && m->is_holder && m->rank < rank) set_rank(f, m, rank);
 }
 
 static void take_group(exchange *e, unsigned g) {
     fetch *f = e->fetch;
     peer *m = e->from;
     uint64_t group = e->unit * UNIT_GROUPS + g, none;
+    bool has_line = e->by && e->by->is_holder;
     if (e->kept[g]) {
         fetch_keep(f, m->holder, group, e->kept[g], e->image ? e->image + (size_t)g * GROUP_LEN : NULL);
-        if (e->asks_line) fetch_must(f, bw_plan_kept(&f->parents, e->by->holder, group, e->kept[g], &none));
+        if (has_line) fetch_must(f, bw_plan_kept(&f->parents, e->by->holder, group, e->kept[g], &none)), e->by->good++;
         m->good++;
     }
+    e->refuted[g] |= e->refused[g];
     if (e->refused[g] && m != &f->own) fetch_must(f, bw_plan_refused(&f->chunks, m->holder, group, e->refused[g])), m->bad++;
-    if (e->orphans[g] && e->asks_line) {
+    if (e->orphans[g] && has_line) {
         fetch_must(f, bw_plan_refused(&f->parents, e->by->holder, group, e->orphans[g]));
         e->by->bad++, e->orphaned += (unsigned)__builtin_popcountll(e->orphans[g]);
     }
@@ -232,27 +325,117 @@ static void take_results(exchange *e) {
     judge(f, e->from);
 }
 
-/* Whether none of its chunks is lacking any more. */
+/* Whether none of its chunks is lacking any more, but for those that were refused. */
 static bool is_decided(const exchange *e) {
-    for (uint64_t g = e->first / BW_GROUP_CHUNKS; g <= last_group(e); g++) {
-        uint64_t mask = 0;
-        if (!bw_plan_lacking(&e->fetch->chunks, g, &mask) && mask & mask_in(g, e->first, e->count)) return false;
+    for (uint64_t g = e->chunks.first / BW_GROUP_CHUNKS; g * BW_GROUP_CHUNKS < end_of(e->chunks); g++) {
+        uint64_t mask = 0, own = mask_in(g, e->chunks) & ~e->refuted[g % UNIT_GROUPS];
+        if (!bw_plan_lacking(&e->fetch->chunks, g, &mask) && mask & own) return false;
     }
     return true;
 }
 
 /* Whether it needn't be ended for others' sake: all came, or it is read just then, which nobody else may look at. */
 static bool is_coming(const exchange *e) {
-    return (e->leg.runs && e->leg.is_local) || e->from->at.is_copying || are_whole(&e->parts);
+    return (e->leg.runs && e->leg.is_local) || e->streams || are_whole(&e->parts);
 }
 
 /* Ends those whose chunks others gave meanwhile. */
 static void end_overtaken(fetch *f, const exchange *but) {
     for (exchange *e = f->exchanges; e; e = e->next) {
-        if (e == but || e->is_over || !e->is_asked || is_coming(e) || !is_decided(e)) continue;
+        if (e == but || e->is_over || !e->of_from.is_open || is_coming(e) || !is_decided(e)) continue;
         e->from->lost++;
         judge(f, e->from);
         exchange_end(e, BW_ENDED_OVER, 0);
+    }
+}
+
+/* Chunks whose parents were false are verified once more, out of the same bytes, by what another outboard encoding has. False:
+ * there is none. */
+static bool verify_again(exchange *e) {
+    uint64_t now = now_ms();
+    bool is_through = e->next_group == UNIT_GROUPS || e->waits == FOR_PARENTS;
+    if (!is_through || !e->by || e->from == &e->fetch->own) return false;
+    if (is_decided(e)) return false;
+    if (!pick_line(e, now, &e->wait_until)) {
+        e->waits = e->wait_until == UINT64_MAX ? FOR_NOTHING : FOR_PARENTS;
+        return e->waits;
+    }
+    e->waits = FOR_NOTHING, e->orphaned = 0;
+    ask_parents(e);
+    return true;
+}
+
+/* --- A file that comes whole: each unit is verified where something of it is lacking */
+
+/* Goes on with the next of these. */
+static void stream_on(exchange *e) {
+    fetch *f = e->fetch;
+    uint64_t now = now_ms();
+    for (; e->next_unit < f->unit_count; e->next_unit++) {
+        if (fetch_has_unit(f, e->next_unit)) continue;
+        e->wait_until = now, e->waits = FOR_WINDOW;
+        if (f->out.is_pipe && e->next_unit >= f->drained + WINDOW_UNITS) return;
+        e->chunks = e->proving = run_of_unit(f->total, e->next_unit);
+        memset(e->refuted, 0, sizeof e->refuted);
+        if (e->from->at.kind == COMBINED || pick_line(e, now, &e->wait_until)) {
+            e->waits = FOR_NOTHING, e->next_unit++;
+            return exchange_unit(e, e->chunks);
+        }
+        e->waits = FOR_UNIT;
+        if (e->wait_until != UINT64_MAX) return;
+        tell(e, &e->of_from, e->chunks, false);
+    }
+    e->waits = FOR_NOTHING;
+    exchange_end(e, BW_ENDED_OVER, 0);
+}
+
+/* Asks for the unit's bytes, of a stream that has come to them. */
+static void ask_bytes(exchange *e) {
+    if (!e->streams) return exchange_get(e, e->from, &e->parts);
+    e->has_ended = false;
+    if (e->has_broken_off) return ended(&e->flow, e->flow_end);
+    if (e->flow.runs) leg_go_on(&e->flow);
+    else leg_start(&e->flow, e->fetch->hub, &e->from->at, &e->parts);
+}
+
+/* All that there is of a unit was verified. A length that is believed is false where no parent is true. */
+static void end_unit(exchange *e) {
+    bool is_vain = e->fetch->believed && e->orphaned && !e->taken;
+    if (e->end == LEG_ALL && verify_again(e)) return;
+    if (!e->streams || e->end != LEG_ALL || is_vain) return exchange_end_by(e);
+    keep_passed(e);
+    stream_on(e);
+}
+
+bool exchange_all_wait(const fetch *f) {
+    for (const exchange *e = f->exchanges; e; e = e->next) {
+        if (!e->is_over && e->waits != FOR_WINDOW) return false;
+    }
+    return true;
+}
+
+/* Parents that don't come are asked of another outboard encoding, unless there is none but those that lie or lag. */
+static void overtake_line(exchange *e, uint64_t now) {
+    fetch *f = e->fetch;
+    peer *slow = e->by;
+    booking of_slow = e->of_by;
+    uint64_t until;
+    if (!of_slow.is_open || e->leg.is_local) return;
+    if (e->line_since + OVERTAKE_MS > now) return fetch_wait(f, e->line_since + OVERTAKE_MS);
+    if (!pick_among(e, false, now, &until)) return;
+    slow->lost++;
+    close_line(e, &of_slow, BW_ENDED_CUT, 0);
+    leg_cut(&e->leg);
+    ask_parents(e);
+}
+
+static void end_waits(fetch *f, uint64_t now) {
+    for (exchange *e = f->exchanges; e && f->status == GOES_ON; e = e->next) {
+        if (!e->is_over) overtake_line(e, now);
+        if (e->is_over || !e->waits) continue;
+        if (e->wait_until > now) fetch_wait(f, e->wait_until);
+        else if (e->waits == FOR_PARENTS) end_unit(e);
+        else stream_on(e);
     }
 }
 
@@ -263,26 +446,28 @@ static void move_unit(exchange *e) {
     take_results(e);
     if (e->taken) end_overtaken(e->fetch, e);
     if (e->is_over || e->fetch->status != GOES_ON) return;
-    bool found_out = e->from->rank > rank || (e->orphaned >= ORPHANS_MOST && !e->taken);
-    if (found_out && !is_all) return exchange_end(e, BW_ENDED_OVER, 0);
-    if (e->next_group < UNIT_GROUPS && (bytes_of(&e->parts) >= e->try_at || is_all) && !e->is_whole) {
-        e->try_at = bytes_of(&e->parts) + TRY_AFTER, e->is_whole = is_all;
-        return verify_unit(e);
+    if (e->from->rank > rank && !is_all && !e->from->at.no_ranges) return exchange_end(e, BW_ENDED_OVER, 0);
+    if (e->next_group < UNIT_GROUPS && (bytes_there(e) >= e->try_at || is_all) && !e->is_whole) {
+        e->try_at = bytes_there(e) + TRY_AFTER, e->is_whole = is_all;
+        return verify(e);
     }
-    if (e->has_ended) exchange_end_by(e);
+    if (e->has_ended || (e->streams && is_all)) end_unit(e);
 }
 
 void exchange_move(exchange *e) {
     bool was_all = e->has_ended && e->end == LEG_ALL;
+    bool hangs = e->has_ended && e->leg.runs;   /* a read of a file: it still uses the pieces, which nobody else may look at */
     if (e->is_over) {
         if (!e->is_busy && e->step == UNIT && e->fetch->is_settled) take_results(e);
-    } else if (e->opener) open_move(e);
+    } else if (hangs && e->step != PARENTS) exchange_end_by(e);
+    else if (e->opener) open_move(e);
     else if (e->step == UNIT) move_unit(e);
     else if (was_all) {
-        e->step = UNIT;
-        if (e->parts.count) exchange_get(e, e->from, &e->parts);
-        else move_unit(e);                  /* of an empty blob */
-    } else if (e->has_ended) exchange_end_by(e);
+        close_line(e, &e->of_by, BW_ENDED_CUT, 0);     /* whether they are true is told later: until then others may ask for the same */
+        e->step = UNIT, e->asked = e->from;
+        if (are_whole(&e->parts)) move_unit(e);
+        else ask_bytes(e);
+    } else if (e->has_ended) change_line(e);
 }
 
 /* --- Who is asked */
@@ -296,22 +481,24 @@ static bool some_line_is_in(fetch *f) {
 
 /* What the plan wants of a mirror now. Whether it was asked. */
 static bool ask_one(fetch *f, peer *m, uint64_t now) {
-    bw_plan_next next = {0};
-    uint64_t until;
-    fetch_must(f, bw_plan_ask(&f->chunks, m->holder, now, &next));
-    if (next.kind != BW_NEXT_FETCH) {
-        m->wait = next.kind == BW_NEXT_WAIT ? next.until_ms : UINT64_MAX, m->seen = f->changes;
+    booking of = booking_of(f, m);
+    uint64_t until = fetch_book(f, &of, now);
+    if (!of.is_open) {
+        m->wait = until;
+        m->seen = f->changes;
         return false;
     }
     exchange *e = exchange_new(f, m);
     if (!e) {                               /* it is as a failure of the mirror's */
         f->no_memory = true;
-        fetch_ended(f, &f->chunks, &m->at, m->holder, next.first, next.count, BW_ENDED_OVER, 0);
+        fetch_close(f, &of, BW_ENDED_OVER, 0);
         return false;
     }
-    e->is_asked = true, e->first = e->get_first = next.first, e->count = e->get_count = next.count;
-    if (m->at.kind == COMBINED || pick_line(e, now, &until)) return exchange_unit(e), true;
-    if (until == UINT64_MAX) tell(e, &f->chunks, m->holder, false);
+    e->of_from = of;
+    e->chunks = e->proving = of.chunks;
+    if (e->streams) return stream_on(e), true;
+    if (m->at.kind == COMBINED || pick_line(e, now, &until)) return exchange_unit(e, e->proving), true;
+    if (until == UINT64_MAX) tell(e, &of, of.chunks, false);
     else m->later = until;
     exchange_end(e, BW_ENDED_CUT, 0);
     return until == UINT64_MAX;
@@ -319,11 +506,12 @@ static bool ask_one(fetch *f, peer *m, uint64_t now) {
 
 void exchange_ask_all(fetch *f, uint64_t now) {
     bool has_lines = some_line_is_in(f);
+    end_waits(f, now);
     for (peer *m = f->peers; m != f->lines && f->status == GOES_ON; m = m->next) {
         judge(f, m);
-        if (!m->is_in) continue;
+        if (!m->is_in || (f->believed && m != f->believed)) continue;
         bool is_useless = m->at.kind == PLAIN && !has_lines;
-        if (is_useless != (m->rank == USELESS)) set_rank(f, m, is_useless ? USELESS : !m->at.is_local);
+        if (is_useless != (m->rank == USELESS)) set_rank(f, m, is_useless ? USELESS : m->at.no_ranges ? 2 : !m->at.is_local);
         if (is_useless) continue;           /* nobody waits for it */
         if (m->later > now) fetch_wait(f, m->later);
         bool is_known = m->seen == f->changes && now < m->wait;

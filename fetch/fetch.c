@@ -1,15 +1,12 @@
 #include "fetch.h"
 
-enum { PAUSE_MS = 100, OVERTAKE_MS = 1000, ROUND_MS = 1000, ROUND_MOST_MS = 10000, LOOK_MS = 1000 };
+enum { PAUSE_MS = 100, ROUND_MS = 1000, ROUND_MOST_MS = 10000, LOOK_MS = 1000 };
 
 /* --- Made and freed */
 
 bool read_hash(const char *digits, uint8_t hash[BW_HASH_LEN]) {
     if (strlen(digits) != 64 || strspn(digits, "0123456789abcdefABCDEF") != 64) return false;
-    for (int i = 0; i < BW_HASH_LEN; i++) {
-        char pair[3] = {digits[2 * i], digits[2 * i + 1], 0};
-        hash[i] = (uint8_t)strtoul(pair, NULL, 16);
-    }
+    for (int i = 0; i < BW_HASH_LEN; i++) sscanf(digits + 2 * i, "%2hhx", &hash[i]);
     return true;
 }
 
@@ -62,6 +59,11 @@ uint64_t units_of(uint64_t total) {
     return (chunks_of(total) - 1) / UNIT_CHUNKS + 1;
 }
 
+run run_of_unit(uint64_t total, uint64_t unit) {
+    uint64_t first = unit * UNIT_CHUNKS, left = chunks_of(total) - first;
+    return (run){first, left < UNIT_CHUNKS ? left : UNIT_CHUNKS};
+}
+
 uint64_t groups_of(uint64_t total) {
     return (chunks_of(total) - 1) / BW_GROUP_CHUNKS + 1;
 }
@@ -100,14 +102,32 @@ void fetch_wait(fetch *f, uint64_t until) {
     if (until < f->wake) f->wake = until;
 }
 
+static bw_plan *plan_of(fetch *f, const peer *it) {
+    return it->at.kind == OUTBOARD ? &f->parents : &f->chunks;
+}
+
 void fetch_must(fetch *f, bw_status of) {
     if (of) fetch_stop(f, OTHER_ROOT);
 }
 
-void fetch_ended(fetch *f, bw_plan *plan, source *of, size_t holder, uint64_t first, uint64_t count, uint32_t how, uint64_t later_ms) {
+booking booking_of(fetch *f, peer *it) {
+    return (booking){.plan = plan_of(f, it), .of = &it->at, .holder = it->holder};
+}
+
+uint64_t fetch_book(fetch *f, booking *it, uint64_t now) {
+    bw_plan_next next = {0};
+    fetch_must(f, bw_plan_ask(it->plan, it->holder, now, &next));
+    it->is_open = next.kind == BW_NEXT_FETCH;
+    it->chunks = (run){next.first, next.count};
+    return it->is_open ? 0 : next.kind == BW_NEXT_WAIT ? next.until_ms : UINT64_MAX;
+}
+
+void fetch_close(fetch *f, booking *it, uint32_t how, uint64_t later_ms) {
     uint32_t failed = 0;
-    fetch_must(f, bw_plan_ended(plan, holder, first, count, how, later_ms, now_ms(), &failed));
-    of->faults += failed;
+    if (!it->is_open) return;
+    it->is_open = false;
+    fetch_must(f, bw_plan_ended(it->plan, it->holder, it->chunks.first, it->chunks.count, how, later_ms, now_ms(), &failed));
+    it->of->faults += failed;
 }
 
 void fetch_stop(fetch *f, int status) {
@@ -115,7 +135,7 @@ void fetch_stop(fetch *f, int status) {
     f->status = status;
     atomic_store(&f->out.is_over, status != DONE);
     for (exchange *e = f->exchanges; e; e = e->next) {
-        if (!e->is_over) e->is_over = true, f->live--, e->from->busy--, leg_cut(&e->leg);
+        if (!e->is_over) e->is_over = true, f->live--, e->from->busy--, leg_cut(&e->leg), leg_cut(&e->flow);
     }
 }
 
@@ -124,7 +144,9 @@ void fetch_keep(fetch *f, size_t holder, uint64_t group, uint64_t mask, const ui
     uint64_t taken = 0, start = group * GROUP_LEN;
     if (bw_plan_kept(&f->chunks, holder, group, mask, &taken)) return fetch_stop(f, OTHER_ROOT);
     f->chunks_open -= (uint64_t)__builtin_popcountll(taken);
-    if (taken) f->moved_at = now_ms(), f->rounds = 0;
+    uint64_t had = chunks_of(f->total) - f->chunks_open, last = chunks_of(f->total) - 1;
+    if (had > f->most_had) f->most_had = had, f->moved_at = now_ms(), f->rounds = 0;
+    if (f->believed && group == last / BW_GROUP_CHUNKS && mask >> last % BW_GROUP_CHUNKS & 1) fetch_certify(f);
     for (unsigned j = 0; j < BW_GROUP_CHUNKS && f->out.is_pipe; j++) {
         uint64_t at = start + (uint64_t)j * BW_CHUNK_LEN, len = f->total - at < BW_CHUNK_LEN ? f->total - at : BW_CHUNK_LEN;
         if (taken >> j & 1 && at < f->total) out_put(&f->out, at, bytes + (size_t)j * BW_CHUNK_LEN, (size_t)len);
@@ -133,20 +155,19 @@ void fetch_keep(fetch *f, size_t holder, uint64_t group, uint64_t mask, const ui
 
 /* --- Who is in: at most so many at a time, that no list of mirrors costs more memory or descriptors */
 
-static bw_plan *plan_of(fetch *f, const peer *it) {
-    return it->at.kind == OUTBOARD ? &f->parents : &f->chunks;
-}
-
 bool fetch_has_left_out(fetch *f, const peer *it) {
     uint32_t out = 0;
-    return it->is_in && plan_of(f, it)->at && !bw_plan_is_left_out(plan_of(f, it), it->holder, &out) && out;
+    return it->is_holder && plan_of(f, it)->at && !bw_plan_is_left_out(plan_of(f, it), it->holder, &out) && out;
 }
 
+/* While a length is only believed, no plan has more holders than those that are asked. */
 static void let_in(fetch *f, peer *it) {
     bw_plan *plan = plan_of(f, it);
-    it->is_in = true, it->rank = !it->at.is_local;
-    if (!f->is_settled) return;
-    it->is_in = !bw_plan_add_holder(plan, &it->holder) && !bw_plan_rank(plan, it->holder, it->rank);
+    bool is_late = f->believed && it != f->believed && (it->at.kind != OUTBOARD || it->claimed != f->total);
+    it->is_in = true;
+    if (!f->is_settled || it->is_holder || is_late) return;
+    it->rank = it == f->believed ? 0 : it->at.no_ranges ? 2 : !it->at.is_local;
+    it->is_holder = it->is_in = !bw_plan_add_holder(plan, &it->holder) && !bw_plan_rank(plan, it->holder, it->rank);
     f->no_memory |= !it->is_in;
     for (uint64_t g = 0; g < groups_of(f->total) && it->is_in && it->at.kind == OUTBOARD; g++) fetch_must(f, bw_plan_lacks(plan, it->holder, g, UINT64_MAX));
 }
@@ -185,22 +206,63 @@ static bool make_plans(fetch *f) {
     return ok && !bw_plan_new(f->total, &policy, &f->parents);
 }
 
-void fetch_settle(fetch *f, uint64_t total) {
-    f->is_settled = true, f->total = total, f->unit_count = units_of(total), f->chunks_open = chunks_of(total);
-    bw_plan_free(&f->length);
-    if (!make_plans(f)) return fetch_stop(f, NO_MEMORY);
-    int status = f->out.fd < 0 ? out_open(&f->out, total) : 0;
+/* What was passed on to a pipe is true, whatever its length is. What is in OUT.part.fetch is verified anew. */
+static void begin_anew(fetch *f, uint64_t total) {
+    f->total = total, f->unit_count = units_of(total), f->chunks_open = chunks_of(total);
+    if (!make_plans(f) || (!f->out.is_pipe && bw_hasher_new(&f->set->mode, &f->hasher))) return fetch_stop(f, NO_MEMORY);
+    if (!f->out.is_pipe) f->drained = 0;
+    int status = f->out.fd < 0 || f->out.total != total ? out_open(&f->out, total) : 0;
     if (status) return fetch_stop(f, status);
+    for (peer *it = f->peers; it; it = it->next) it->is_holder = false;
+    memset(f->known, 0, sizeof f->known);
+}
+
+static void keep_drained(fetch *f) {
+    uint64_t none;
+    for (uint64_t g = 0; g < f->drained * UNIT_GROUPS && f->status == GOES_ON; g++) {
+        fetch_must(f, bw_plan_kept(&f->chunks, 0, g, UINT64_MAX, &none));
+        f->chunks_open -= (uint64_t)__builtin_popcountll(none);
+    }
+}
+
+static void let_all_in(fetch *f) {
     for (peer *it = f->peers; it; it = it->next) {
         if (it->is_in) let_in(f, it);
     }
+}
+
+void fetch_settle(fetch *f, uint64_t total) {
+    bool is_new = !f->chunks.at || f->total != total;
+    f->is_settled = true;
+    if (is_new) begin_anew(f, total);
+    if (f->status != GOES_ON) return;
+    let_all_in(f);
     if (!admit_all(f)) return fetch_stop(f, NO_MEMORY);     /* what is resumed needs a holder, too */
-    if (f->out.is_pipe) fetch_must(f, bw_plan_limit(&f->chunks, (uint64_t)WINDOW_UNITS * UNIT_CHUNKS));
+    if (is_new) keep_drained(f);
+    if (f->out.is_pipe) fetch_must(f, bw_plan_limit(&f->chunks, (f->drained + WINDOW_UNITS) * UNIT_CHUNKS));
+    if (!f->believed) fetch_certify(f);
+}
+
+void fetch_certify(fetch *f) {
+    f->believed = NULL, f->changes++;
+    let_all_in(f);
+    bw_plan_free(&f->length);
+    int status = out_certify(&f->out);
+    if (status) fetch_stop(f, status);
+}
+
+/* A length that was believed wasn't certified. */
+static void doubt(fetch *f) {
+    for (exchange *e = f->exchanges; e; e = e->next) {
+        if (!e->is_over) exchange_end(e, BW_ENDED_CUT, 0);
+    }
+    f->is_settled = false, f->believed = NULL, f->changes++;
+    fetch_wait(f, now_ms());
 }
 
 /* --- Hashed in order, as it stands in OUT.part.fetch or is passed on: this decides about status 0 */
 
-static bool is_unit_whole(fetch *f, uint64_t unit) {
+bool fetch_has_unit(fetch *f, uint64_t unit) {
     uint64_t lacking = 0;
     for (uint64_t g = unit * UNIT_GROUPS; g < (unit + 1) * UNIT_GROUPS && g < groups_of(f->total) && !lacking; g++) {
         fetch_must(f, bw_plan_lacking(&f->chunks, g, &lacking));
@@ -245,7 +307,7 @@ static void was_finished(job *of) {
 
 static void drain_turn(fetch *f) {
     bool finishes = f->drained == f->unit_count;
-    if (f->is_draining || (!finishes && !is_unit_whole(f, f->drained))) return;
+    if (f->is_draining || (!finishes && !fetch_has_unit(f, f->drained))) return;
     for (exchange *e = f->exchanges; e && finishes; e = e->next) {
         if (!e->is_over) exchange_end(e, BW_ENDED_CUT, 0);
         if (e->is_busy) return;             /* it may still write behind the blob */
@@ -268,16 +330,16 @@ static void start_resuming(fetch *f) {
 
 static void resume_turn(fetch *f) {
     while (f->status == GOES_ON && f->live < IN_MOST && f->resumed < f->unit_count) {
-        uint64_t unit = f->resumed++, at = out_data(&f->out, unit * UNIT_LEN), first = unit * UNIT_CHUNKS;
+        uint64_t unit = f->resumed++, at = out_data(&f->out, unit * UNIT_LEN);
         if (at >= (unit + 1) * UNIT_LEN) {
             f->resumed = at / UNIT_LEN < f->unit_count ? at / UNIT_LEN : f->unit_count;
             continue;
         }
         exchange *e = exchange_new(f, &f->own);
         if (!e) return f->live ? (void)f->resumed-- : fetch_stop(f, NO_MEMORY);
-        e->by = &f->own_line, e->get_first = first;
-        e->get_count = chunks_of(f->total) - first < UNIT_CHUNKS ? chunks_of(f->total) - first : UNIT_CHUNKS;
-        exchange_unit(e);
+        e->by = &f->own_line;
+        e->proving = run_of_unit(f->total, unit);
+        exchange_unit(e, e->proving);
     }
     f->is_resuming = f->live || f->resumed < f->unit_count;
 }
@@ -291,14 +353,15 @@ static bool forgive(fetch *f, uint64_t now, bool some) {
     f->rounds++, f->changes++;
     for (peer *it = f->peers; it; it = it->next) {
         it->later = now + (pause < ROUND_MOST_MS ? pause : ROUND_MOST_MS);
+        it->is_tried &= !it->at.is_far;
         if (it->at.kind != OUTBOARD && !it->at.no_ranges) it->at.most = (unsigned)f->set->connections;
-        if (!it->is_in || !f->is_settled) continue;
+        if (!it->is_holder) continue;
         if (it->at.is_far) fetch_must(f, bw_plan_forgive(plan_of(f, it), it->holder));
         /* parents that no outboard encoding had may be had of one that is asked again */
         for (uint64_t g = 0; g < groups_of(f->total) && it->at.kind == PLAIN; g++) fetch_must(f, bw_plan_has(&f->chunks, it->holder, g, UINT64_MAX));
     }
     for (opener *it = f->openers; it && !f->is_settled; it = it->next) {
-        if (it->from->at.is_far) fetch_must(f, bw_plan_forgive(&f->length, it->holder));
+        if (it->from->at.is_far) fetch_must(f, bw_plan_forgive(&f->length, it->booked.holder));
     }
     fetch_wait(f, now + 1);
     return true;
@@ -306,6 +369,8 @@ static bool forgive(fetch *f, uint64_t now, bool some) {
 
 static void give_up(fetch *f, uint64_t now) {
     bool some = false, may_pass = false;    /* the network is why something is lacking: then it may be there later */
+    if (f->believed) return doubt(f);
+    if (!f->is_settled && open_believe(f, now)) return;
     for (const peer *it = f->peers; it; it = it->next) {
         bool is_far = it->at.is_far && it->at.faults;
         some |= is_far && it->is_in, may_pass |= is_far;
@@ -343,8 +408,8 @@ bool fetch_turn(fetch *f, uint64_t now) {
         admit_all(f);
         exchange_ask_all(f, now);
     }
-    bool is_idle = !f->live && !f->waits && !f->is_draining && !f->is_resuming;
-    bool drains = f->is_settled && (f->drained == f->unit_count || is_unit_whole(f, f->drained));
+    bool is_idle = exchange_all_wait(f) && !f->waits && !f->is_draining && !f->is_resuming;
+    bool drains = f->is_settled && (f->drained == f->unit_count || fetch_has_unit(f, f->drained));
     if (f->status == GOES_ON && is_idle && !drains) give_up(f, now);
     return f->status != GOES_ON;
 }

@@ -20,6 +20,7 @@ enum {
     UNIT_PARENTS = BW_NODES_MAX(UNIT_CHUNKS) - UNIT_CHUNKS,
     WINDOW_UNITS = 16,                      /* of a pipe */
     IN_MOST = 16,                           /* mirrors, and outboard encodings, that are asked at a time */
+    OVERTAKE_MS = 1000,                     /* what doesn't come so long is asked of another */
     SETTLING = 12,                          /* stall times that a server is left alone at most */
     PIECES_MOST = 64,                       /* in one request */
     HEAD_LEN = 12288,                       /* of a file, asked for at first: what a server may send over a new connection
@@ -77,6 +78,9 @@ int out_resume(output *it);
 /* Makes OUT.part.fetch anew, or the window, for a blob of so many bytes. 0, or a status. */
 int out_open(output *it, uint64_t total);
 
+/* The length is certified: a later run can go on. 0, or a status. */
+int out_certify(output *it);
+
 /* The first byte from there on that isn't in a hole, or UINT64_MAX. */
 uint64_t out_data(const output *it, uint64_t from);
 
@@ -99,6 +103,19 @@ bool out_learn(const output *it, trail *above, uint64_t start, uint64_t len, con
 
 /* --- A fetch */
 
+typedef struct run {
+    uint64_t first, count;                  /* chunks */
+} run;
+
+/* Chunks that a plan has a holder asked for, until it is told how that ended. */
+typedef struct booking {
+    bw_plan *plan;
+    source *of;
+    size_t holder;
+    bool is_open;
+    run chunks;
+} booking;
+
 /* A mirror, or an outboard encoding. */
 typedef struct peer {
     struct peer *next, *line;               /* line: the outboard encoding that is asked first beside a plain file */
@@ -109,9 +126,11 @@ typedef struct peer {
     unsigned busy;                          /* exchanges with it */
     uint64_t later, wait;                   /* it isn't asked before; and, by a plan, not before something else has changed */
     uint64_t seen;                          /* how many changes there were when that was said */
+    bool is_holder, is_tried;               /* a plan has it as `holder`; its file was streamed for a length of `tried` */
+    uint64_t tried;
     uint64_t good, bad;                     /* groups that were taken, and refused */
     unsigned lost;                          /* requests that others overtook */
-    uint64_t claimed;                       /* of an outboard encoding: the length, */
+    uint64_t claimed;                       /* the length that it claims; of an outboard encoding also */
     uint8_t *spine, *head;                  /* the parents above its last chunk, and then what it begins with, or NULL */
     size_t head_len;
 } peer;
@@ -121,8 +140,7 @@ typedef struct peer {
 typedef struct opener {
     struct opener *next;
     peer *from, *by;
-    size_t holder;
-    bool is_busy;
+    booking booked;
 } opener;
 
 typedef struct span {
@@ -136,26 +154,33 @@ typedef struct exchange {
     fetch *fetch;
     enum { HEAD, SPINE, PROOF, PARENTS, UNIT } step;
     opener *opener;                         /* before the length is certified */
-    peer *from, *by;
+    peer *from, *by, *asked;                /* a mirror, an outboard encoding, and that of them which was asked last */
     bool is_over, has_ended;                /* the plans were told its end; its last bytes came */
     leg_end end;
-    uint64_t claimed, unit;
+    uint64_t later_ms, claimed, unit;
+    bool streams;                           /* the mirror's file comes whole, by `flow`: a unit after the other, */
+    bool has_broken_off;                    /* or it came until here */
+    leg_end flow_end;
+    uint64_t next_unit;
+    enum { FOR_NOTHING, FOR_WINDOW, FOR_UNIT, FOR_PARENTS } waits;      /* until a moment, or until a window has moved */
+    uint64_t wait_until;
     bool opens_unit;                        /* the unit is asked for together with what certifies the length */
     size_t certifying;                      /* so many of the first pieces do that */
-    bool is_asked, asks_line;               /* of which plan something is under way: */
-    uint64_t first, count, line_first, line_count;
-    uint64_t get_first, get_count;          /* the chunks that are asked for indeed */
-    trail above;
+    booking of_from, of_by;                 /* what is asked of these */
+    uint64_t line_since;                    /* when the outboard encoding was asked */
+    run chunks, proving;                    /* what it is about, and that of it whose parents are asked for */
+    trail above, passed;                    /* passed: as they came in a stream, which has them once */
     piece list[PIECES_MOST], parent_list[BW_RANGES_MAX];
     pieces parts, parents;
-    size_t head_len, try_at;
-    leg leg;
+    size_t head_len, try_at, bytes_len;
+    leg leg, flow;
     /* of the job under way: */
     bool is_busy, is_whole, is_certified, is_refuted, failed_to_write, learned, is_parent_false;
     piece seen_list[PIECES_MOST];
     pieces seen;
     unsigned next_group, orphaned, taken;
     uint64_t kept[UNIT_GROUPS], refused[UNIT_GROUPS], orphans[UNIT_GROUPS];
+    uint64_t refuted[UNIT_GROUPS];          /* what was refused of the unit until now */
     uint64_t wrong, wrong_of_line, wrong_parent;
     uint8_t chunk[BW_CHUNK_LEN];
     size_t chunk_len, slice_len;
@@ -183,13 +208,14 @@ struct fetch {
     bool has_own_lines;                     /* each plain file has its own outboard encoding */
     opener *openers;
     bw_plan length, chunks, parents;
+    peer *believed;                         /* nobody certifies the length, which is what this mirror claims that has no ranges */
     exchange *exchanges;
     unsigned live;
     int status;
     bool is_one_of_many, is_told;           /* of a manifest; how it ended was printed, */
     uint64_t ended, shown_at;               /* when it ended, and when its progress was printed last */
     bool is_settled, is_resuming, waits, no_memory;     /* waits: for a moment that a plan named */
-    uint64_t total, unit_count, chunks_open, resumed, claimed_above;
+    uint64_t total, unit_count, chunks_open, most_had, resumed, claimed_above;
     uint64_t began, wake, moved_at;         /* when it has to be looked at again, and when a chunk came last */
     unsigned rounds;                        /* of forgiving, without one */
     uint64_t drained, changes;              /* units that were hashed; ends of exchanges, and what else a plan may answer anew for */
@@ -219,13 +245,18 @@ void fetch_stop(fetch *f, int status);
 /* No call of a plan fails but for memory: else this program has a fault. */
 void fetch_must(fetch *f, bw_status of);
 
-/* Tells a plan how a request ended, and counts a failure as the source's. */
-void fetch_ended(fetch *f, bw_plan *plan, source *of, size_t holder, uint64_t first, uint64_t count, uint32_t how, uint64_t later_ms);
+/* Asks the plan what is wanted of a holder: 0, and then the booking is open; or until when there is nothing, UINT64_MAX for ever. */
+uint64_t fetch_book(fetch *f, booking *it, uint64_t now);
+
+/* Tells the plan how it ended, if it is open, and counts a failure as the source's. */
+void fetch_close(fetch *f, booking *it, uint32_t how, uint64_t later_ms);
+booking booking_of(fetch *f, peer *it);
 
 /* Whether all that used the fetch has ended. */
 bool fetch_is_quiet(fetch *f);
 
 uint64_t units_of(uint64_t total);
+run run_of_unit(uint64_t total, uint64_t unit);
 uint64_t groups_of(uint64_t total);
 void fetch_recall(const fetch *f, trail *it);
 void fetch_remember(fetch *f, const trail *it);
@@ -236,8 +267,13 @@ void fetch_wait(fetch *f, uint64_t until);
 /* Takes chunks of a group as there. */
 void fetch_keep(fetch *f, size_t holder, uint64_t group, uint64_t mask, const uint8_t *bytes);
 
-/* The length is certified: makes the plans and, where there is none yet, OUT.part.fetch. */
+/* A length is certified, or believed: makes the plans and, where there is none yet, OUT.part.fetch. What came under the same
+ * length stays. */
 void fetch_settle(fetch *f, uint64_t total);
+
+/* The last chunk came of a blob whose length was believed. */
+void fetch_certify(fetch *f);
+bool fetch_has_unit(fetch *f, uint64_t unit);
 
 void fetch_say(const fetch *f, const peer *of, const char *what);
 
@@ -258,8 +294,13 @@ size_t pieces_lay_out(pieces *of, uint8_t *at, const uint8_t *head, size_t head_
 void exchange_end_by(exchange *e);
 void exchange_end(exchange *e, uint32_t outcome, uint64_t later_ms);
 void exchange_ask_all(fetch *f, uint64_t now);
-void exchange_unit(exchange *e);
+
+/* Asks for bytes of chunks of a unit, and for the parents of those in `proving`. */
+void exchange_unit(exchange *e, run of);
 void exchange_sweep(fetch *f);
+
+/* Whether all that are left wait for a window to move. */
+bool exchange_all_wait(const fetch *f);
 
 /* Moves an exchange on, after its last bytes came or its job was done. */
 void exchange_move(exchange *e);
@@ -267,12 +308,15 @@ void exchange_move(exchange *e);
 /* --- open.c */
 
 void open_all(fetch *f, uint64_t now);
+
+/* Nobody certifies a length: takes that which a mirror claims whose file can only be streamed. False: there is none. */
+bool open_believe(fetch *f, uint64_t now);
 void open_move(exchange *e);
 
-/* --- verify.c: posts the job that verifies what came, as far as it goes: groups of the unit, or what certifies the length. */
+/* --- verify.c */
 
-void verify_unit(exchange *e);
-void verify_proof(exchange *e);
+/* Posts the job that verifies what came, as far as it goes: groups of the unit, or what certifies the length. */
+void verify(exchange *e);
 uint64_t mask_of(span of);
 
 /* --- report.c */

@@ -10,6 +10,7 @@ enum {
     BUFFER_LEN = 131072,
     HOPS_MOST = 5,
     RATE_LEAST = 1024,
+    DAY = 86400,
     POLL_MS = 200,
     LIMITED_MS = 20
 };
@@ -22,10 +23,11 @@ static bool is_held_up(const hub *it) {
     return rate && it->bytes * 1000 / rate > now_ms() - it->began;
 }
 
+/* Here and below, `with` is NULL once the request is left alone. */
 static size_t on_header(char *line, size_t one, size_t len, void *with) {
     leg *it = with;
     (void)one;
-    return answer_header(&it->answer, line, len) ? len : 0;
+    return it && answer_header(&it->answer, line, len) ? len : 0;
 }
 
 /* The bytes of a file that is copied whole. */
@@ -33,16 +35,21 @@ static bool copy_bytes(leg *it, const char *bytes, size_t len) {
     uint64_t at = it->answer.came - len;
     if (!it->copy_to || it->several) return false;
     if (it->fd < 0) it->fd = open(it->copy_to, O_TMPFILE | O_RDWR | O_CLOEXEC, 0600);
-    it->of->is_copying = it->fd >= 0;
     return it->fd >= 0 && write_at(it->fd, at, bytes, len) == len && at + len <= it->copy_most;
 }
 
+/* What a file that streams has behind the pieces waits until these are others. */
 static size_t on_body(char *at, size_t one, size_t len, void *with) {
     leg *it = with;
-    answer *a = &it->answer;
     (void)one;
+    if (!it) return 0;
+    answer *a = &it->answer;
+    bool streams = it->streams && a->code == 200 && !a->is_coded;
     if (is_held_up(it->hub)) return it->is_paused = true, CURL_WRITEFUNC_PAUSE;
-    it->of->bytes += len, it->hub->bytes += len, it->has_news = true;
+    it->has_news = true;
+    if (streams && !answer_stream(a, (const uint8_t *)at, len)) return it->is_full = true, CURL_WRITEFUNC_PAUSE;
+    it->of->bytes += len, it->hub->bytes += len;
+    if (streams) return len;
     if (a->code >= 300) return (a->came += len) <= a->most ? len : 0;
     if (!answer_body(a, (const uint8_t *)at, len)) return 0;
     return a->state != WHOLE_FILE || copy_bytes(it, at, len) ? len : 0;
@@ -52,7 +59,7 @@ static size_t on_body(char *at, size_t one, size_t len, void *with) {
 static curl_socket_t open_socket(void *with, curlsocktype purpose, struct curl_sockaddr *to) {
     leg *it = with;
     (void)purpose;
-    if (it->is_guarded && address_is_private(&to->addr)) return CURL_SOCKET_BAD;
+    if (!it || (it->is_guarded && address_is_private(&to->addr))) return CURL_SOCKET_BAD;
     return socket(to->family, to->socktype | SOCK_CLOEXEC, to->protocol);
 }
 
@@ -102,8 +109,10 @@ static size_t near_ones(const piece *list, size_t count) {
 static uint64_t write_ranges(leg *it) {
     const piece *list = it->wanted->list;
     size_t some = 0, used = 0;
+    it->count = it->wanted->count;
+    if (it->streams) return pieces_lacking(list, it->count);
     while (piece_is_whole(&list[it->first])) it->first++;
-    list += it->first, it->count = it->wanted->count - it->first;
+    list += it->first, it->count -= it->first;
     for (size_t i = 0; i < it->count; i++) some += !piece_is_whole(&list[i]);
     it->several = some > 1 && some <= SEVERAL_MOST && !it->of->one_range && !it->of->no_ranges;
     if (!it->several) {
@@ -132,8 +141,9 @@ static void request(leg *it) {
     if (to == of->moved) it->is_guarded = of->is_guarded;
     uint64_t asked = write_ranges(it);
     answer_begin(&it->answer, it->wanted->list + it->first, it->count, asked);
+    it->answer.streams = it->streams;
     it->why[0] = 0, it->mark = 0, it->since = now_ms();
-    SET(CURLOPT_URL, to), SET(CURLOPT_RANGE, it->range), SET(CURLOPT_FRESH_CONNECT, (long)(it->is_guarded && it->url));
+    SET(CURLOPT_URL, to), SET(CURLOPT_RANGE, it->streams ? NULL : it->range), SET(CURLOPT_FRESH_CONNECT, (long)(it->is_guarded && it->url));
     SET(CURLOPT_HTTPHEADER, strange ? it->hub->set->plain : it->hub->set->headers);
     if (!r && !curl_multi_add_handle(it->hub->multi, it->easy)) return;
     snprintf(of->why, sizeof of->why, "%s", r ? curl_easy_strerror(r) : "libcurl refuses the request");
@@ -144,7 +154,7 @@ static bool may_try_one(const leg *it, CURLcode r) {
     const long c = it->answer.code;
     if (!it->several) return false;
     if (it->answer.state == WHOLE_FILE || (!r && it->answer.state == ONE_BODY)) return true;
-    return c >= 400 && c != 401 && c != 404 && c != 407 && c != 410 && c != 429 && !(c == 503 && it->answer.wait >= 0);
+    return c >= 400 && c != 401 && c != 404 && c != 407 && c != 410 && c != 429 && !(c == 503 && it->wait_ms);
 }
 
 /* Goes where an answer leads. False: it doesn't. */
@@ -174,7 +184,6 @@ static void note_why(leg *it, CURLcode r) {
 
 /* What came whole is a local file from now on. */
 static bool has_copied(leg *it, CURLcode r) {
-    it->of->is_copying = false;
     if (it->fd < 0) return false;
     bool ok = !r && it->of->fd < 0;
     if (ok) it->of->fd = it->fd, it->of->is_local = true;
@@ -183,32 +192,51 @@ static bool has_copied(leg *it, CURLcode r) {
     return ok;
 }
 
+/* Nothing of it can be asked for but all, and that once. */
+static void has_no_ranges(source *it) {
+    it->no_ranges = true;
+    if (it->kind != OUTBOARD) it->most = 1;
+}
+
+static uint64_t retry_after(CURL *of) {
+    curl_off_t seconds = 0;
+    curl_easy_getinfo(of, CURLINFO_RETRY_AFTER, &seconds);
+    return seconds < 0 ? 0 : 1000 * (uint64_t)(seconds < DAY ? seconds : DAY);
+}
+
 static void finish(leg *it, CURLcode r) {
     source *of = it->of;
     curl_multi_remove_handle(it->hub->multi, it->easy);
     if (follow(it)) return request(it);
+    it->wait_ms = retry_after(it->easy);
     it->at_end = !r && it->answer.state == ONE_BODY;
     bool copied = has_copied(it, r);
     if (!pieces_lacking(it->wanted->list + it->first, it->count)) {
+        if (it->answer.code == 200 && r == CURLE_WRITE_ERROR && !it->several) has_no_ranges(of);
         if (it->url && it->hops) free(of->moved), of->moved = it->url, of->is_guarded = it->is_guarded, it->url = NULL;
         of->code = it->answer.code, it->hops = 0;
+        if (it->streams) return (void)(it->is_through = true);
         return pieces_lacking(it->wanted->list, it->wanted->count) ? request(it) : leg_end_with(it, LEG_ALL);
     }
     if (copied) return leg_read(it);
     if (may_try_one(it, r)) return of->one_range = true, request(it);
     note_why(it, r);
     free(of->moved), of->moved = NULL;
-    if ((it->answer.code == 429 || it->answer.code == 503) && it->answer.wait >= 0) return leg_end_with(it, LEG_LATER);
-    of->no_ranges |= it->answer.state == WHOLE_FILE;
+    if ((it->answer.code == 429 || it->answer.code == 503) && it->wait_ms) return leg_end_with(it, LEG_LATER);
+    if (it->answer.state == WHOLE_FILE) has_no_ranges(of);
     leg_end_with(it, it->answer.state == WHOLE_FILE && !it->copy_to ? LEG_NO_RANGES : LEG_SHORT);
 }
 
 /* --- Legs */
 
 void leg_start(leg *it, hub *on, source *of, pieces *wanted) {
-    it->is_cut = it->is_guarded = it->is_local = it->has_news = it->is_paused = false, it->runs = true;
-    it->hub = on, it->of = of, it->wanted = wanted, it->hops = 0, it->first = 0, it->error = 0, it->fd = -1, it->since = now_ms();
-    it->next = on->legs, on->legs = it;
+    free(it->url);                          /* where the one before led */
+    *it = (leg){
+        .came = it->came, .ended = it->ended, .with = it->with, .copy_to = it->copy_to, .copy_most = it->copy_most,
+        .streams = it->streams, .easy = it->easy, .hub = on, .of = of, .wanted = wanted, .fd = -1, .since = now_ms(),
+        .runs = true, .next = on->legs,
+    };
+    on->legs = it;
     of->live++;
     if (of->is_local) return leg_read(it);
     if (!it->easy && (it->easy = curl_easy_init()) && !set_options(it)) curl_easy_cleanup(it->easy), it->easy = NULL;
@@ -217,21 +245,18 @@ void leg_start(leg *it, hub *on, source *of, pieces *wanted) {
     it->error = ENOMEM;
 }
 
+void leg_go_on(leg *it) {
+    it->answer.asked = it->wanted->list, it->answer.count = it->count = it->wanted->count;
+    it->is_full = false, it->since = now_ms();
+    if (!it->is_through) curl_easy_pause(it->easy, CURLPAUSE_CONT);
+    else it->error = EPIPE, snprintf(it->of->why, sizeof it->of->why, "it ends before");
+}
+
 /* To end a request whose name is looked up would wait for the name server: it is left to end by itself, and opens no socket. */
-static curl_socket_t no_socket(void *with, curlsocktype purpose, struct curl_sockaddr *to) {
-    (void)with, (void)purpose, (void)to;
-    return CURL_SOCKET_BAD;
-}
-
-static size_t no_bytes(char *at, size_t one, size_t len, void *with) {
-    (void)at, (void)one, (void)len, (void)with;
-    return 0;
-}
-
 static void leave_alone(leg *it) {
     CURLcode r = CURLE_OK;
-    SET(CURLOPT_OPENSOCKETFUNCTION, no_socket), SET(CURLOPT_ERRORBUFFER, NULL), SET(CURLOPT_PRIVATE, NULL);
-    SET(CURLOPT_WRITEFUNCTION, no_bytes), SET(CURLOPT_HEADERFUNCTION, no_bytes);
+    SET(CURLOPT_OPENSOCKETDATA, NULL), SET(CURLOPT_ERRORBUFFER, NULL), SET(CURLOPT_PRIVATE, NULL);
+    SET(CURLOPT_WRITEDATA, NULL), SET(CURLOPT_HEADERDATA, NULL);
     it->hub->ghosts++;
     it->easy = NULL;
 }
@@ -248,7 +273,7 @@ void leg_cut(leg *it) {
     if (!it->runs || it->is_cut) return;
     it->is_cut = true, it->of->live--;
     if (it->is_local) return;               /* a read that hangs uses its pieces until it ends */
-    if (it->easy && !it->error) stop(it);
+    if (it->easy && !it->error && !it->is_through) stop(it);
     leg_unlink(it);
 }
 
@@ -258,15 +283,11 @@ void leg_free(leg *it) {
     it->easy = NULL, it->url = NULL;
 }
 
-uint64_t leg_wait(const leg *it) {
-    return it->answer.wait > 86400 ? 86400000 : it->answer.wait > 0 ? (uint64_t)(it->answer.wait * 1000) : 0;
-}
-
 /* --- All of them */
 
 bool hub_new(hub *it, const settings *set) {
     *it = (hub){.set = set, .began = now_ms()};
-    return !curl_global_init(CURL_GLOBAL_DEFAULT) && (it->multi = curl_multi_init()) && pool_new(&it->pool);
+    return !curl_global_init(CURL_GLOBAL_DEFAULT) && (it->multi = curl_multi_init()) && pool_new(&it->pool, it->multi);
 }
 
 bool hub_free(hub *it) {
@@ -280,7 +301,8 @@ bool hub_free(hub *it) {
 static bool stalls(leg *it, uint64_t now) {
     const settings *s = it->hub->set;
     uint64_t came = it->answer.came, took = now - it->since;
-    if (it->is_local) it->of->hangs |= (double)took > s->stall * 500;
+    if (it->streams && !pieces_lacking(it->wanted->list, it->wanted->count)) it->since = now;
+    else if (it->is_local) it->of->hangs |= (double)took > s->stall * 500;
     else if ((double)(came - it->mark) >= s->stall * RATE_LEAST || s->limit_rate) it->mark = came, it->since = now;
     return (double)(now - it->since) > s->stall * 1000;
 }
@@ -323,11 +345,10 @@ static void take_messages(hub *it) {
 }
 
 void hub_wait(hub *it, uint64_t until) {
-    struct curl_waitfd bell = {.fd = it->pool.bell[0], .events = CURL_WAIT_POLLIN};
     uint64_t now = now_ms(), most = it->set->limit_rate ? LIMITED_MS : POLL_MS;
     int runs = 0;
     if (until < now + most) most = until > now ? until - now : 0;
-    curl_multi_poll(it->multi, &bell, 1, (int)most, NULL);
+    curl_multi_poll(it->multi, NULL, 0, (int)most, NULL);
     curl_multi_perform(it->multi, &runs);
     take_messages(it);
     look_at_all(it);

@@ -34,12 +34,11 @@ typedef struct pool {
     lane lanes[LANES];
     job *done;
     bool quit;
-    int bell[2];                            /* wakes the thread that decides: something is done, or a signal came */
+    CURLM *wakes;                           /* what the thread that decides waits by */
 } pool;
 
-bool pool_new(pool *it);
+bool pool_new(pool *it, CURLM *wakes);
 void pool_post(pool *it, unsigned to, job *what);
-void pool_ring(const pool *it);
 
 /* Calls `done` of each job that is. */
 void pool_collect(pool *it);
@@ -63,8 +62,8 @@ typedef struct answer {
     size_t header_bytes;
     enum { NOTHING_YET, ONE_BODY, PART_HEADERS, PART_BODY, WHOLE_FILE, REFUSED } state;
     long code;
+    bool streams;                           /* the whole file is wanted, in its order */
     bool ranged, multipart, is_coded;
-    double wait;                            /* what Retry-After asks for, in seconds, or -1 */
     size_t line_len;
     char line[LINE_MOST], location[LOCATION_MOST];
 } answer;
@@ -75,6 +74,9 @@ void answer_begin(answer *it, piece *asked, size_t count, uint64_t lacking);
 /* A line of the headers; some bytes of the body. False: the answer isn't wanted any more. */
 bool answer_header(answer *it, const char *line, size_t len);
 bool answer_body(answer *it, const uint8_t *bytes, size_t len);
+
+/* Some bytes of a file that streams. False: some are behind all pieces, and all of them have to come again. */
+bool answer_stream(answer *it, const uint8_t *bytes, size_t len);
 
 /* Whether it leads to another address. */
 bool answer_moves(const answer *it);
@@ -123,7 +125,6 @@ typedef struct source {
     uint64_t base;                          /* where it begins there */
     bool is_local, hangs;                   /* a read takes long */
     bool one_range, no_ranges;              /* it serves one range at a time, or none */
-    bool is_copying;                        /* its whole file comes just then */
     unsigned most, live;                    /* connections: allowed, and in use */
     uint64_t bytes, wrong;                  /* that came of it, and that were refused */
     long code;                              /* the last answer's status */
@@ -151,6 +152,7 @@ typedef struct leg {
     void *with;
     const char *copy_to;                    /* where a file that has no ranges may be copied to, or NULL */
     uint64_t copy_most;
+    bool streams;                           /* the file comes whole: the pieces follow each other, by leg_go_on */
     bool runs, is_cut, at_end;              /* at_end: the file ended before the pieces did */
     source *of;
     /* the rest is its own */
@@ -160,11 +162,12 @@ typedef struct leg {
     CURL *easy;
     answer answer;
     size_t first, count;                    /* the pieces of the request under way */
-    bool several, is_guarded, is_local, is_paused, has_news;
+    bool several, is_guarded, is_local, is_paused, is_full, is_through, has_news;
     unsigned hops;
     int fd, error;
     char *url;
     uint64_t mark, since;
+    uint64_t wait_ms;                       /* for so long the server asks to be left alone; of LEG_LATER it is set */
     job job;
     char range[64 * 42], why[CURL_ERROR_SIZE];
 } leg;
@@ -180,12 +183,12 @@ void hub_wait(hub *it, uint64_t until);
 /* Begins. `ended` is called later, and exactly once. */
 void leg_start(leg *it, hub *on, source *of, pieces *wanted);
 
+/* Of a file that streams: all pieces came, and were laid out anew, where it goes on. */
+void leg_go_on(leg *it);
+
 /* Nothing more is wanted, and no end is told. */
 void leg_cut(leg *it);
 void leg_free(leg *it);
-
-/* After LEG_LATER: for how many milliseconds the server asks to be left alone. */
-uint64_t leg_wait(const leg *it);
 
 /* What http.c and file.c share. */
 void leg_read(leg *it);

@@ -9,7 +9,7 @@ static uint64_t last_chunk_at(uint64_t total) {
 
 /* Nothing more is asked of it: what it has is false, or it lacks what certifies. */
 static void decide(exchange *e, bool is_false) {
-    fetch_must(e->fetch, (is_false ? bw_plan_refused : bw_plan_lacks)(&e->fetch->length, e->opener->holder, 0, 1));
+    fetch_must(e->fetch, (is_false ? bw_plan_refused : bw_plan_lacks)(&e->fetch->length, e->opener->booked.holder, 0, 1));
     exchange_end(e, BW_ENDED_OVER, 0);
 }
 
@@ -19,8 +19,9 @@ static void add_opener(fetch *f, peer *from, peer *by) {
     opener *it = f->openers;
     while (it && (it->from != from || it->by != by)) it = it->next;
     if (it || !(it = malloc(sizeof *it))) return;
-    *it = (opener){.next = f->openers, .from = from, .by = by};
-    if (!bw_plan_add_holder(&f->length, &it->holder) && !bw_plan_rank(&f->length, it->holder, !from->at.is_local)) f->openers = it;
+    *it = (opener){.next = f->openers, .from = from, .by = by, .booked = {.plan = &f->length, .of = &from->at}};
+    size_t *holder = &it->booked.holder;
+    if (!bw_plan_add_holder(&f->length, holder) && !bw_plan_rank(&f->length, *holder, !from->at.is_local)) f->openers = it;
     else f->no_memory = true, free(it);
 }
 
@@ -54,12 +55,17 @@ static void open_beside(exchange *e) {
 }
 
 static void begin(fetch *f, opener *it) {
+    if (it->by && it->from->at.no_ranges) {
+        fetch_must(f, bw_plan_lacks(&f->length, it->booked.holder, 0, 1));
+        return fetch_close(f, &it->booked, BW_ENDED_CUT, 0);
+    }
     exchange *e = exchange_new(f, it->from);
     if (!e) {
         f->no_memory = true;
-        return fetch_ended(f, &f->length, &it->from->at, it->holder, 0, 1, BW_ENDED_OVER, 0);
+        return fetch_close(f, &it->booked, BW_ENDED_OVER, 0);
     }
-    it->is_busy = true, e->opener = it, e->by = it->by;
+    e->opener = it;
+    e->by = it->by;
     if (it->by) return open_beside(e);
     e->list[0] = (piece){.len = HEAD_LEN, .bytes = e->head}, e->parts.count = 1;
     exchange_get(e, it->from, &e->parts);
@@ -69,16 +75,12 @@ static void begin(fetch *f, opener *it) {
 static size_t ask_openers(fetch *f, uint64_t now) {
     size_t alive = 0;
     for (opener *it = f->openers; it && f->status == GOES_ON && !f->is_settled; it = it->next) {
-        bw_plan_next next = {0};
-        if (it->is_busy || it->from->busy >= it->from->at.most || it->from->later > now) {
-            if (it->from->later > now) fetch_wait(f, it->from->later);
-            alive++;
-            continue;
-        }
-        fetch_must(f, bw_plan_ask(&f->length, it->holder, now, &next));
-        if (next.kind == BW_NEXT_FETCH) begin(f, it);
-        if (next.kind == BW_NEXT_WAIT) fetch_wait(f, next.until_ms);
-        alive += next.kind != BW_NEXT_NOTHING;
+        uint64_t until = it->from->later > now ? it->from->later : 0;
+        bool may_ask = !until && !it->booked.is_open && it->from->busy < it->from->at.most;
+        if (may_ask) until = fetch_book(f, &it->booked, now);
+        if (may_ask && it->booked.is_open) begin(f, it);
+        alive += until != UINT64_MAX;
+        if (until && until != UINT64_MAX) fetch_wait(f, until);
     }
     return alive;
 }
@@ -89,6 +91,22 @@ void open_all(fetch *f, uint64_t now) {
         add_openers(f);
         more = ask_openers(f, now) < IN_MOST && !f->is_settled && fetch_admit(f);
     }
+}
+
+bool open_believe(fetch *f, uint64_t now) {
+    for (const opener *it = f->openers; it; it = it->next) {
+        peer *m = it->from;
+        uint64_t claimed = it->by ? it->by->claimed : m->claimed;
+        bool is_stream = m->at.no_ranges && m->at.kind != OUTBOARD, is_old = m->is_tried && m->tried == claimed;
+        uint64_t passed = f->out.is_pipe ? f->drained * UNIT_LEN : 0;
+        if (!is_stream || is_old || claimed > f->set->most || claimed <= passed) continue;
+        fetch_wait(f, m->later);
+        if (m->later > now) return true;
+        m->is_tried = true, m->tried = claimed, f->believed = m;
+        fetch_settle(f, claimed);
+        return true;
+    }
+    return false;
 }
 
 /* --- What certifies it */
@@ -135,10 +153,12 @@ static void was_claimed(exchange *e) {
     if (!is_wanted) strcpy(m->at.why, "it claims more bytes than are wanted"), m->at.is_far = false, fetch_say(f, m, NULL);
     if (!is_wanted || !(is_combined ? plan_opening(e) : add_parents(e))) return decide(e, true);
     pieces *wanted = is_combined ? &e->parts : &e->parents;
-    pieces_lay_out(wanted, e->bytes, e->head, e->head_len);
+    e->bytes_len = pieces_lay_out(wanted, e->bytes, e->head, e->head_len);
     e->step = is_combined ? PROOF : SPINE, e->end = LEG_ALL;
-    if (pieces_lacking(wanted->list, wanted->count)) exchange_get(e, m, wanted);
-    else open_move(e);
+    if (!pieces_lacking(wanted->list, wanted->count)) return open_move(e);
+    if (!is_combined || !m->at.no_ranges) return exchange_get(e, m, wanted);
+    e->end = LEG_NO_RANGES;
+    exchange_end_by(e);
 }
 
 static void was_spine(exchange *e) {
@@ -164,7 +184,7 @@ static void was_refuted(exchange *e) {
         fetch_say(f, liar, NULL);
     }
     for (opener *it = f->openers; it && liar && liar == e->by; it = it->next) {
-        if (it->by == liar) fetch_must(f, bw_plan_refused(&f->length, it->holder, 0, 1));
+        if (it->by == liar) fetch_must(f, bw_plan_refused(&f->length, it->booked.holder, 0, 1));
     }
     decide(e, true);
 }
@@ -188,18 +208,20 @@ static void keep_last(exchange *e) {
 /* A unit that was asked for already, under the same claim, is a request of the plan now, if that wants it just so. */
 static void adopt(exchange *e) {
     fetch *f = e->fetch;
-    peer *m = e->from;
-    bw_plan_next next = {0};
-    e->opener->is_busy = false, e->opener = NULL;
-    if (e->opens_unit && e->claimed == f->total && e->step == PROOF && m->is_in) fetch_must(f, bw_plan_ask(&f->chunks, m->holder, now_ms(), &next));
-    if (next.kind == BW_NEXT_FETCH && next.first / UNIT_CHUNKS == e->unit) {
-        e->is_asked = true, e->step = UNIT, e->opens_unit = false;
-        e->first = e->get_first = next.first, e->count = e->get_count = next.count;
+    booking of = booking_of(f, e->from);
+    e->opener->booked.is_open = false;
+    e->opener = NULL;
+    if (e->opens_unit && e->claimed == f->total && e->step == PROOF && e->from->is_in) fetch_book(f, &of, now_ms());
+    if (of.is_open && of.chunks.first / UNIT_CHUNKS == e->unit) {
+        e->of_from = of;
+        e->chunks = e->proving = of.chunks;
+        e->step = UNIT;
+        e->opens_unit = false;
         trail_to(&e->above, f->total, e->unit * UNIT_LEN, UNIT_LEN);
         fetch_recall(f, &e->above);
         return exchange_move(e);
     }
-    if (next.kind == BW_NEXT_FETCH) fetch_ended(f, &f->chunks, &m->at, m->holder, next.first, next.count, BW_ENDED_CUT, 0);
+    fetch_close(f, &of, BW_ENDED_CUT, 0);
     exchange_end(e, BW_ENDED_CUT, 0);
 }
 
@@ -219,6 +241,6 @@ void open_move(exchange *e) {
     if (e->is_busy) return;
     if (e->is_certified) return settle(e);
     if (e->is_refuted) return was_refuted(e);
-    if (e->step == PROOF && !pieces_lacking(e->list, e->certifying)) return verify_proof(e);
+    if (e->step == PROOF && !pieces_lacking(e->list, e->certifying)) return verify(e);
     if (e->has_ended) e->step == HEAD ? was_claimed(e) : e->step == SPINE ? was_spine(e) : exchange_end_by(e);
 }

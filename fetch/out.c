@@ -120,20 +120,29 @@ int out_resume(output *it) {
 }
 
 int out_open(output *it, uint64_t total) {
-    uint8_t bytes[TAIL_LEN];
     it->total = total;
     if (it->is_pipe) {
         uint64_t units = total / UNIT_LEN + 1;
+        free(it->window);
         it->window_len = (units < WINDOW_UNITS ? units : WINDOW_UNITS) * UNIT_LEN;
         it->window = malloc((size_t)it->window_len);
         return it->window ? 0 : NO_MEMORY;
     }
+    close_part(it);
+    it->is_full = false;
     int status = lock_part(it, true);
     if (status) return status;
-    if (ftruncate(it->fd, 0) || ftruncate(it->fd, (off_t)total)) return file_fault(it->part);
+    return ftruncate(it->fd, 0) || ftruncate(it->fd, (off_t)total) ? file_fault(it->part) : 0;
+}
+
+int out_certify(output *it) {
+    uint8_t bytes[TAIL_LEN];
+    if (it->is_pipe) return 0;
     write_tail(it, bytes);
-    it->is_full = write_at(it->fd, total, bytes + 8, BW_LENGTH_LEN) < BW_LENGTH_LEN || write_at(it->fd, tail_at(total), bytes, TAIL_LEN) < TAIL_LEN;
-    return ftruncate(it->fd, (off_t)(it->is_full ? total : tail_at(total) + TAIL_LEN)) ? file_fault(it->part) : 0;
+    bool has_room = write_at(it->fd, it->total, bytes + 8, BW_LENGTH_LEN) == BW_LENGTH_LEN
+        && write_at(it->fd, tail_at(it->total), bytes, TAIL_LEN) == TAIL_LEN;
+    it->is_full |= !has_room;
+    return ftruncate(it->fd, (off_t)(it->is_full ? it->total : tail_at(it->total) + TAIL_LEN)) ? file_fault(it->part) : 0;
 }
 
 uint64_t out_data(const output *it, uint64_t from) {
@@ -163,11 +172,7 @@ bool out_get(const output *it, uint64_t from, uint8_t *bytes, size_t len) {
 }
 
 void out_write_back(const output *it, uint64_t from, uint64_t len) {
-#ifdef SYNC_FILE_RANGE_WRITE
     if (!it->is_pipe) sync_file_range(it->fd, (off_t)from, (off_t)len, SYNC_FILE_RANGE_WRITE);
-#else
-    (void)it, (void)from, (void)len;
-#endif
 }
 
 /* So little at a time that a pipe takes it as soon as it takes something: nobody may read it for ever. */

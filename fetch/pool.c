@@ -11,12 +11,12 @@ uint64_t now_ms(void) {
     return (uint64_t)t.tv_sec * 1000 + (uint64_t)t.tv_nsec / 1000000;
 }
 
-bool pool_new(pool *it) {
+bool pool_new(pool *it, CURLM *wakes) {
     long cores = sysconf(_SC_NPROCESSORS_ONLN);
     const unsigned most[] = {[TO_COMPUTE] = cores < 1 ? 1 : cores > COMPUTERS_MOST ? COMPUTERS_MOST : (unsigned)cores, [TO_READ] = READERS_MOST};
     pthread_condattr_t steady;
-    *it = (pool){.quit = false};
-    if (pipe2(it->bell, O_CLOEXEC | O_NONBLOCK) || pthread_condattr_init(&steady)) return false;
+    *it = (pool){.wakes = wakes};
+    if (pthread_condattr_init(&steady)) return false;
     pthread_condattr_setclock(&steady, CLOCK_MONOTONIC);
     pthread_mutex_init(&it->lock, NULL);
     pthread_cond_init(&it->gone, &steady);
@@ -28,16 +28,11 @@ bool pool_new(pool *it) {
     return true;
 }
 
-void pool_ring(const pool *it) {
-    ssize_t n = write(it->bell[1], "", 1);
-    (void)n;                                /* a pipe that is full rings, too */
-}
-
 static void finish(pool *it, job *what) {
     pthread_mutex_lock(&it->lock);
     what->next = it->done, it->done = what;
     pthread_mutex_unlock(&it->lock);
-    pool_ring(it);
+    curl_multi_wakeup(it->wakes);           /* if it can't, the job is seen when it next looks */
 }
 
 static void *serve(void *with) {
@@ -86,8 +81,6 @@ void pool_post(pool *it, unsigned to, job *what) {
 }
 
 void pool_collect(pool *it) {
-    char rings[64];
-    while (read(it->bell[0], rings, sizeof rings) > 0) continue;
     pthread_mutex_lock(&it->lock);
     job *what = it->done;
     it->done = NULL;

@@ -65,7 +65,7 @@ bool add_ranges(pieces *out, const trail *known, bool is_combined, uint64_t tota
     return true;
 }
 
-static const uint8_t *find(const pieces *in, uint64_t at, size_t len) {
+const uint8_t *pieces_find(const pieces *in, uint64_t at, size_t len) {
     for (size_t i = 0; in && i < in->count; i++) {
         const piece *it = &in->list[i];
         if (at >= it->at && at + len <= it->at + it->have) return it->bytes + (at - it->at);
@@ -77,8 +77,8 @@ static const uint8_t *find_node(const origin *from, const bw_placed *it) {
     bool is_chunk = it->kind == BW_NODE_CHUNK;
     const ancestor *above = from->known && !is_chunk ? trail_find(from->known, it->outboard_at) : NULL;
     if (above && above->is_known) return above->text;
-    if (from->combined) return find(from->combined, it->combined_at, it->size);
-    return is_chunk ? find(from->plain, it->start, it->size) : find(from->outboard, it->outboard_at, it->size);
+    if (from->combined) return pieces_find(from->combined, it->combined_at, it->size);
+    return is_chunk ? pieces_find(from->plain, it->start, it->size) : pieces_find(from->outboard, it->outboard_at, it->size);
 }
 
 size_t slice_put(uint64_t total, uint64_t start, uint64_t len, const origin *from, uint8_t *out, size_t room) {

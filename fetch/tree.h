@@ -79,6 +79,9 @@ ancestor *trail_find(trail *it, uint64_t outboard_at);
  * there is no room, and some were added. */
 bool add_ranges(pieces *out, const trail *known, bool is_combined, uint64_t total, uint64_t start, uint64_t len);
 
+/* What came of a range, or NULL. */
+const uint8_t *pieces_find(const pieces *in, uint64_t at, size_t len);
+
 /* Puts a slice of chunks of one group together. Its length, or 0 where a node is lacking or `room` is too small. */
 size_t slice_put(uint64_t total, uint64_t start, uint64_t len, const origin *from, uint8_t *out, size_t room);
 

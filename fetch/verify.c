@@ -11,7 +11,7 @@ uint64_t mask_of(span of) {
 /* The chunks of a group of the unit that are asked for. */
 static bool span_in(const exchange *e, unsigned group, span *out) {
     uint64_t first = e->unit * UNIT_CHUNKS + (uint64_t)group * BW_GROUP_CHUNKS, end = first + BW_GROUP_CHUNKS;
-    uint64_t from = e->get_first > first ? e->get_first : first, to = e->get_first + e->get_count;
+    uint64_t from = e->proving.first > first ? e->proving.first : first, to = e->proving.first + e->proving.count;
     if (to > end) to = end;
     if (from >= to) return false;
     *out = (span){(unsigned)(from - first), (unsigned)(to - first - 1)};
@@ -108,18 +108,10 @@ static void was_verified(job *of) {
     exchange_move(e);
 }
 
-static void post(exchange *e, void (*run)(job *)) {
+void verify(exchange *e) {
     e->is_busy = true;
     memcpy(e->seen_list, e->list, sizeof e->list);
     e->seen = (pieces){e->seen_list, e->parts.count, PIECES_MOST};
-    e->job = (job){.run = run, .done = was_verified, .with = e};
+    e->job = (job){.run = e->step == UNIT ? run_unit : run_proof, .done = was_verified, .with = e};
     pool_post(&e->fetch->hub->pool, TO_COMPUTE, &e->job);
-}
-
-void verify_unit(exchange *e) {
-    post(e, run_unit);
-}
-
-void verify_proof(exchange *e) {
-    post(e, run_proof);
 }

@@ -37,8 +37,8 @@ KEY = "77686174732074686520456c7669736820776f726420666f7220667269656e64"
 
 CONTEXT = "berylwool 2026-11-27 tests of bw-fetch, wool \N{SHEEP}"
 
-# A mirror is FILE@MODE[=VALUE]; of FILE, `bao` is the combined encoding, `plain` the blob, `bare` the blob without an outboard encoding beside it, `false`
-# and `short` the blob beside one that is damaged at its end, or of a shorter blob; @dead is a port where nobody listens, and @good is left out.
+# A mirror is FILE@MODE[=VALUE]; of FILE, `bao` is the combined encoding, `plain` the blob, `bare` the blob without an outboard encoding beside it, `parents`
+# that without the blob, `false` and `short` the blob beside one that is damaged at its end, or of a shorter blob; @dead is a port where nobody listens, and @good is left out.
 # name, length, mirrors, words, status
 CASES = [
     ("one .bao", 3_000_000, "bao", "", 0),
@@ -84,6 +84,8 @@ CASES = [
     ("two never answer", 3_000_000, "bao@never plain@never plain", "--stall 60", 0),
     ("two stall", 3_000_000, "bao@stall plain@stall bao", "--stall 60", 0),
     ("the outboard encoding of the first stalls", 9_000_000, "plain@stall bare bare plain", "--stall 60", 0),
+    ("stalls, and needs the outboard encoding of the other", 3_000_000, "bare@stall plain", "--stall 600", 0),
+    ("an outboard encoding that stalls beside one that doesn't", 3_000_000, "bare parents@stall parents", "--stall 600", 0),
     ("never answers, alone", 8_000_000, "bao@never", "--stall 0.5", 6),
     ("headers without an end", 3_000_000, "bao@headers bao", "--stall 600", 0),
     ("headers without an end, alone", 3_000_000, "bao@headers", "--stall 600", 1),
@@ -109,6 +111,29 @@ CASES = [
     ("no ranges, plain and alone", 3_000_000, "plain@norange", "", 0),
     ("no ranges, to a pipe", 3_000_000, "bao@norange", "-", 0),
     ("no ranges, and lies", 3_000_000, "bao@norange bao@noise", "", 0),
+    ("no ranges, longer than a window, to a pipe", 24_000_000, "bao@norange", "-", 0),
+    ("no ranges, plain and longer than a window, to a pipe", 24_000_000, "plain@norange", "-", 0),
+    ("no ranges, one connection at a time", 3_000_000, "bao@norange bao@norange", "-c 8", 0),
+    ("no ranges, a lie half way", 9_000_000, "bao@wholeat=4500000", "", 1),
+    ("no ranges, a lie half way, plain", 9_000_000, "plain@wholeat=4500000", "", 1),
+    ("no ranges, false from half way on, beside the rest", 9_000_000, "bao@wholeto=5000000 bao@from=4400000", "", 0),
+    ("no ranges, false up to half way, beside the rest", 9_000_000, "bao@wholefrom=4400000 bao@to=5000000", "", 0),
+    ("no ranges at two that have a half each", 9_000_000, "bao@wholeto=5000000 bao@wholefrom=4400000", "", 0),
+    ("no ranges at two that have a half each, to a pipe", 9_000_000, "bao@wholeto=5000000 bao@wholefrom=4400000", "-", 0),
+    ("no ranges at three that lie, elsewhere in each", 20_000_000, "bao@wholesome=1 bao@wholesome=2 bao@wholesome=3", "", 0),
+    ("no ranges at three that lie, plain", 20_000_000, "plain@wholesome=1 plain@wholesome=2 plain@wholesome=3", "", 0),
+    ("no ranges, noise alone", 3_000_000, "bao@wholenoise", "", 1),
+    ("no ranges, ends early", 3_000_000, "bao@wholetrunc", "", 6),
+    ("no ranges, ends early, plain", 3_000_000, "plain@wholetrunc", "", 6),
+    ("no ranges, ends early, beside the rest", 9_000_000, "bao@wholetrunc bao@from=4400000", "", 0),
+    ("no ranges, ends early, beside the rest, to a pipe", 9_000_000, "bao@wholetrunc bao@wholefrom=4400000", "-", 0),
+    ("no ranges, without an end", 3_000_000, "bao@wholeendless", "", 0),
+    ("no ranges, stalls", 3_000_000, "bao@wholestall", "--stall 0.5", 6),
+    ("no ranges, another claim", 9_000_000, "bao@wholeclaim=9003000 bao@norange bao@wholeclaim=8000000", "", 0),
+    ("no ranges, another claim, to a pipe", 9_000_000, "bao@wholeclaim=9003000 bao@norange bao@wholeclaim=8000000", "-", 0),
+    ("no ranges, a claim of 16 GB", 9_000_000, "bao@wholeclaim=17000000000 bao@norange bao@wholeclaim=16000000000", "", 0),
+    ("no ranges, another claim alone", 9_000_000, "bao@wholeclaim=9003000", "", 1),
+    ("no ranges of an outboard encoding that lies", 3_000_000, "false@norange plain@norange", "", 0),
     ("a header line of 150 KB", 3_000_000, "bao@longheader bao", "", 0),
     ("a header line of 150 KB, alone", 3_000_000, "bao@longheader", "", 1),
     ("a redirect's body without an end", 3_000_000, "-@good bao@endlessredirect=#0", "", 0),
@@ -157,7 +182,7 @@ CASES = [
     ("longer than wanted, plain", 100_000, "plain", "--max 99999", 1),
 ]
 
-FILES = {"bao": "blob.bao", "plain": "blob", "bare": "bare", "false": "false", "short": "short"}
+FILES = {"bao": "blob.bao", "plain": "blob", "bare": "bare", "parents": "parents", "false": "false", "short": "short"}
 
 
 class Failure(Exception):
@@ -181,6 +206,7 @@ class Place:
         self.out, self.server, self.said = self.folder / "out", None, ""
         obao = (self.folder / "blob.obao").read_bytes()
         self.put("bare", self.blob)
+        self.put("parents.obao", obao)
         self.put("false", self.blob)
         self.put("false.obao", obao[:-1] + bytes([obao[-1] ^ 1]) if len(obao) > 8 else b"\1" * 8)
         self.put("short", self.blob)
@@ -763,9 +789,50 @@ def false_below_its_spine(place):
     (url,) = place.serve("bare")
     place.run(["-c", "1", "--outboard", place.folder / "one"], [url], 1)
     (place.folder / "out.part.fetch").unlink()
-    place.run(["-c", "1", "--outboard", place.folder / "one", "--outboard", place.folder / "blob.obao"], [url], 0)
-    came = int(re.search(re.escape(url) + r": (\d+) bytes, 0 of them false", place.said)[1])
-    want(came <= len(place.blob) + (2 << 20), f"{came} bytes came")
+    for connections in "18":
+        place.run(["-c", connections, "--outboard", place.folder / "one", "--outboard", place.folder / "blob.obao"], [url], 0)
+        came = came_from(place, url)
+        want(came <= len(place.blob) + 1024, f"{came} bytes came of {len(place.blob)}")
+
+
+def came_from(place, url):
+    """How many bytes came from a mirror that gave no false one."""
+    return int(re.search(re.escape(url) + r": (\d+) bytes, 0 of them false", place.said)[1])
+
+
+def streamed_once(place):
+    """A file whose server knows no ranges comes once, beside its first bytes."""
+    encoded = (place.folder / "blob.bao").stat().st_size
+    for mirror, length in (("bao@norange", encoded), ("plain@norange", len(place.blob))):
+        for out in (None, "-"):
+            url, = place.serve(mirror)
+            place.run([], [url], 0, out)
+            path = "/" + url.rpartition("/")[2]
+            lines = [it.split() for it in (place.folder / "requests").read_text().splitlines()]
+            asked = [it[1] for it in lines if it[2] == path]
+            want(len(asked) == 2 and asked[-1] == "-", f"{mirror}: {asked}")
+            came = came_from(place, url)
+            want(came < length + (1 << 18), f"{mirror}: {came} bytes came of {length}")
+
+
+def streamed_for_a_chunk(place):
+    """What others haven't is taken out of one stream, whatever of it is found to be lacking first."""
+    for modes in ("at=1500000", "some=1"):
+        urls = place.serve(f"bao@{modes} bao@norange")
+        place.run([], urls, 0)
+        asked = place.requests(urls[1])
+        want(sum(it is None for it in asked) == 1, f"{asked}")
+        want("0 faults; asked last" in place.said, "a fault is told")
+
+
+def streamed_and_kept(place):
+    """What a stream has brought is there for the next run, but for the chunk that it has falsely."""
+    place.run([], place.serve("bao@wholeat=4500000"), 1)
+    want("unfinished: 1 KiB of " in place.said, "more is lacking than a chunk")
+    urls = place.serve("bao")
+    place.run([], urls, 0)
+    came = came_from(place, urls[0])
+    want(came < 100_000, f"{came} bytes came")
 
 
 def a_hole_near_the_start(place):
@@ -810,7 +877,8 @@ def disk_for_the_blob_alone(place):
 def little_memory(place):
     """300 MiB in 40 MiB of memory, from mirrors of each kind, of which one lies, and to a pipe."""
     launcher = peak.Launcher(place.folder)
-    for mirrors, out in (("bao plain", place.out), ("bao@some=1 bao", place.out), ("plain plain@some=1", place.out), ("bao plain", "-")):
+    for mirrors, out in (("bao plain", place.out), ("bao@some=1 bao", place.out), ("plain plain@some=1", place.out), ("bao plain", "-"),
+                         ("bao@norange", place.out), ("plain@norange", "-")):
         ran = launcher.run([place.fetch, place.root, out, *place.serve(mirrors)])
         want(ran.status == 0, f"{mirrors}: status {ran.status}: {ran.complaint.decode(errors='replace')[-2000:]}")
         want((ran.printed if out == "-" else place.out.read_bytes()) == place.blob, "OUT isn't the blob")
@@ -898,7 +966,8 @@ LONGER = [
     (silent_name_server, 300_000, ""), (closed_output, 20_000, ""), (part_of_others, 300_000, ""), (pipe_that_nobody_reads, 3_000_000, ""),
     (few_descriptors, 3_000_000, ""), (no_secrets, 300_000, ""), (private_redirects, 300_000, ""), (bounds, 400_000, ""), (local_first, 3_000_000, ""),
     (many_at_once, 20_000, ""), (headers, 300_000, ""), (progress_in_json, 300_000, ""),
-    (left_alone, 3_000_000, ""), (progress, 20_000_000, ""), (lines_are_blamed, 3_000_000, ""), (false_below_its_spine, 3_000_000, ""),
+    (left_alone, 3_000_000, ""), (progress, 20_000_000, ""), (lines_are_blamed, 3_000_000, ""), (false_below_its_spine, 20_000_000, ""),
+    (streamed_once, 9_000_000, ""), (streamed_for_a_chunk, 9_000_000, ""), (streamed_and_kept, 9_000_000, ""),
     (a_hole_near_the_start, 9_000_000, ""), (keeps_all_but_a_chunk, 3_000_000, ""),
     (room_for_the_blob_alone, 3_000_000, ""), (disk_for_the_blob_alone, 9_000_000, ""), (little_memory, 300 << 20, ""),
 ]

@@ -97,23 +97,23 @@ def free_ports(count):
 class Nginx:
     """Four mirrors, in the foreground, ended by its own process."""
 
-    def __init__(self, folder):
-        self.ports = free_ports(4)
-        servers = "".join(f"server {{ listen 127.0.0.1:{port}; root {folder}/m{i}; }}\n" for i, port in enumerate(self.ports, 1))
+    def __init__(self, folder, address="127.0.0.1", enter=()):
+        self.ports, self.address = free_ports(4), address
+        servers = "".join(f"server {{ listen {address}:{port}; root {folder}/m{i}; }}\n" for i, port in enumerate(self.ports, 1))
         temps = " ".join(f"{it}_temp_path {folder}/tmp;" for it in ("client_body", "proxy", "fastcgi", "uwsgi", "scgi"))
         user = "user root;" if os.geteuid() == 0 else ""
         (folder / "nginx.conf").write_text(
             f"daemon off; {user} worker_processes 2; pid {folder}/nginx.pid; error_log {folder}/error.log;\nevents {{ worker_connections 256; }}\n"
             f"http {{ access_log off; {temps} sendfile on; keepalive_requests 100000;\n{servers}}}\n")
-        self.process = subprocess.Popen(["nginx", "-p", folder, "-c", folder / "nginx.conf"], stderr=subprocess.DEVNULL)
+        self.process = subprocess.Popen([*enter, "nginx", "-p", folder, "-c", folder / "nginx.conf"], stderr=subprocess.DEVNULL)
         for _ in range(100):
-            if subprocess.run(["curl", "-s", "-o", os.devnull, f"http://127.0.0.1:{self.ports[3]}/blob.obao"]).returncode == 0:
+            if subprocess.run(["curl", "-s", "-o", os.devnull, f"http://{address}:{self.ports[3]}/blob.obao"]).returncode == 0:
                 return
             time.sleep(0.05)
         sys.exit("measure.py: nginx doesn't answer")
 
     def urls(self, name):
-        return [f"http://127.0.0.1:{port}/{name}" for port in self.ports]
+        return [f"http://{self.address}:{port}/{name}" for port in self.ports]
 
     def end(self):
         self.process.terminate()
@@ -151,19 +151,24 @@ def rows_of(fetch, root, nginx):
     return rows
 
 
+def processor():
+    """Seconds of processor time that the children took which have ended."""
+    it = resource.getrusage(resource.RUSAGE_CHILDREN)
+    return it.ru_utime + it.ru_stime
+
+
 def run_once(launcher, words, out, folder, work, status=1):
     """(wall, processor, MiB, bytes that came, whether it was right)"""
     for it in work.glob("*"):
         if it.name != "it.meta4":
             it.unlink()
-    before = resource.getrusage(resource.RUSAGE_CHILDREN)
+    before = processor()
     ran = launcher.run([shutil.which(words[0]), *(str(it) for it in words[1:])], cwd=work)
-    after = resource.getrusage(resource.RUSAGE_CHILDREN)
+    used = processor() - before
     if out:
         right = ran.status == 0 and subprocess.run(["cmp", "-s", folder / "m1/blob", work / out]).returncode == 0
     else:
         right = ran.status == status and not (work / "out").exists()
-    used = after.ru_utime + after.ru_stime - before.ru_utime - before.ru_stime
     came = sum(int(it) for it in re.findall(r": (\d+) bytes, ", ran.complaint.decode(errors="replace")))
     return ran.seconds, used, ran.peak / MIB, came, right
 
@@ -307,4 +312,5 @@ def main(fetch, runs="5", *sizes):
             print(f"not measured, since it isn't here: {name}")
 
 
-main(*sys.argv[1:])
+if __name__ == "__main__":
+    main(*sys.argv[1:])

@@ -4,7 +4,7 @@
 
 prints a port for each mode, then a line 'blocked' each time that a mirror of mode `half` begins to say nothing more. FOLDER/requests gets a line for each
 request: port, range, path. With tls: it is https, by FOLDER/key.pem and FOLDER/cert.pem; with mutual: also for a client with FOLDER/client.pem alone; with six: it listens on ::1. It ends with its standard input, or after SECONDS.
-`Mirrors` is the same for a test that is written in Python.
+`Mirrors` is the same for a test that is written in Python. A mode with `whole` before it knows no ranges, as `norange`.
 """
 import base64
 import email.utils
@@ -21,6 +21,7 @@ import time
 
 SECONDS = 600
 FOREVER = 3600
+FLIPPED = bytes(it ^ 1 for it in range(256))
 
 
 def ranges_of(header, size):
@@ -47,6 +48,8 @@ class Mirror(http.server.BaseHTTPRequestHandler):
     def setup(self):
         super().setup()
         self.mode, self.value = self.server.mode, self.server.value
+        self.is_whole = self.mode == "norange" or self.mode.startswith("whole")
+        self.mode = self.mode.removeprefix("whole")
 
     def do_GET(self):
         self.has_turn = False
@@ -222,16 +225,16 @@ class Mirror(http.server.BaseHTTPRequestHandler):
         if mode == "at":                                        # one byte of the file
             if start <= int(value) < start + len(body):
                 body[int(value) - start] ^= 1
-        if mode in ("longer", "huge") and not path.endswith(value or "-"):
-            claim = ((size << 20) + 77 if mode == "longer" else (1 << 64) - 1).to_bytes(8, "little")
+        if mode == "claim" or mode in ("longer", "huge") and not path.endswith(value or "-"):
+            claim = (int(value) if mode == "claim" else (size << 20) + 77 if mode == "longer" else (1 << 64) - 1).to_bytes(8, "little")
             for at in range(start, min(8, start + len(body))):
                 body[at - start] = claim[at]
         if mode == "to":                                        # true up to here
-            for at in range(max(start, int(value)), start + len(body)):
-                body[at - start] ^= 1
+            first = max(start, int(value)) - start
+            body[first:] = body[first:].translate(FLIPPED)
         if mode == "from":                                      # true from here on, and in the topmost parents
-            for at in range(max(start, 8 + 64 * 40), min(start + len(body), int(value))):
-                body[at - start] ^= 1
+            first, last = max(start, 8 + 64 * 40) - start, max(start, int(value)) - start
+            body[first:last] = body[first:last].translate(FLIPPED)
         return body
 
     def multipart(self, parts, size):
@@ -259,7 +262,7 @@ class Mirror(http.server.BaseHTTPRequestHandler):
             size = os.path.getsize(self.file)
         except OSError:
             return self.send_error(404)
-        asked = None if self.mode == "norange" else ranges_of(self.headers.get("Range"), size)
+        asked = None if self.is_whole else ranges_of(self.headers.get("Range"), size)
         if asked is not None and len(asked) > 1 and self.mode == "severalwhole":
             asked = None
         if asked == [] or (asked and len(asked) > 1 and self.mode.startswith("several4") or asked and len(asked) > 1 and self.mode == "several500"):
