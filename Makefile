@@ -21,7 +21,7 @@ CPU := $(if $(filter-out $(sort $(shell cat /proc/cpuinfo 2>/dev/null)),$(V3_NEE
 endif
 
 # Crates of which nothing goes into the program.
-ASIDE := bao_bind bao_feed bao_plan bench berylwool text_scenarios store_scenarios crew_scenarios examples $(notdir $(wildcard crates/tests_* crates/determined_*))
+ASIDE := bao_bind bao_feed bao_plan berylwool text_scenarios store_scenarios crew_scenarios examples $(notdir $(wildcard crates/tests_* crates/determined_*))
 
 # The files and folders whose change asks for a new proof. With the folders, a file that was taken
 # away is seen too.
@@ -158,10 +158,10 @@ test:
 	@python3 scripts/laws.py
 	@python3 scripts/wrong_bodies.py --read --strict
 	@python3 scripts/uncited.py
-	@python3 scripts/docs.py
+	@python3 scripts/tests -k Links documents
 	@python3 scripts/doc
 	@$(MAKE) --no-print-directory -j 3 proofs scenarios refusals
-	@python3 scripts/program_scenarios.py crates/bao_gather/out/bao_gather{,.by-rattle}
+	@for it in crates/bao_gather/out/bao_gather{,.by-rattle}; do BAO_GATHER=$$it python3 scripts/tests scenarios; done
 
 # The parts of make test that take long, some at a time, so that no processor waits for one of them. What needs no proof takes what
 # rt ci leaves, and so do the trials of the program and of the C library, each from when the libraries are proved that it stands on.
@@ -169,16 +169,12 @@ proofs:
 	@python3 scripts/ci.py
 
 refusals:
-	@nice -n 10 python3 scripts/refuse_libraries.py
+	@nice -n 10 python3 scripts/tests libraries
 
 trials:
 	@python3 scripts/proved_by_ci.py bao_gather
 	@$(MAKE) --no-print-directory out/bao_gather
-	@python3 scripts/docs.py out/bao_gather
-	@python3 scripts/program_scenarios.py out/bao_gather
-	@nice -n 5 python3 scripts/refuse.py out/bao_gather
-	@nice -n 5 python3 scripts/replaced.py out/bao_gather
-	@nice -n 5 python3 scripts/memory.py out/bao_gather
+	@nice -n 5 python3 scripts/tests memory scenarios documents refused terminal replaced
 
 c-trials:
 	@python3 scripts/proved_by_ci.py berylwool
@@ -194,30 +190,31 @@ scenarios:
 	@nice -n 10 python3 scripts/scenarios.py
 
 program-scenarios: out/bao_gather
-	@python3 scripts/program_scenarios.py out/bao_gather
+	@python3 scripts/tests scenarios
 
 docs: out/bao_gather
-	@python3 scripts/docs.py out/bao_gather
+	@python3 scripts/tests documents
 
 # BLAKE3's own C sources, as Debian's librust-blake3-dev has them.
 BLAKE3_C := $(lastword $(sort $(wildcard /usr/share/cargo/registry/blake3-*/c)))
 
 # With the C library where there is a C compiler, and with BLAKE3's own where that is there, too.
-bench: out/bao_gather out/bench $(if $(shell command -v cc),out/c/compare $(if $(BLAKE3_C),out/pieces))
+bench: out/bao_gather $(if $(shell command -v cc),out/c/compare $(if $(BLAKE3_C),out/pieces))
 	@python3 scripts/bench.py $(if $(RECORD),--record)
 
 refuse: out/bao_gather
-	@python3 scripts/refuse_libraries.py
-	@python3 scripts/refuse.py
+	@python3 scripts/tests libraries refused terminal
 
 replaced: out/bao_gather
-	@python3 scripts/replaced.py
+	@python3 scripts/tests replaced
 
 memory: out/bao_gather
-	@python3 scripts/memory.py
+	@python3 scripts/tests memory
 
+stress: export CRATES ?= tests_libraries tests_program
 stress:
-	@python3 scripts/stress.py $(CRATES)
+	@for it in $(CRATES); do (cd "crates/$$it" && rt test); done
+	@STRESS=1 python3 scripts/tests --lanes $$((3 * $$(nproc))) stress
 
 # CALL and NAME by the environment, so that a quote in them stays a word.
 statement: export SAID := $(CALL)
@@ -249,12 +246,8 @@ define built
 @install -m 755 crates/$1/out/$1 out/$1
 endef
 
-# Nothing of the program comes from crates/bench.
 out/bao_gather: out/cpu $(SOURCES)
 	$(call built,bao_gather,--version)
-
-out/bench: out/cpu $(SOURCES) $(wildcard crates/bench/src/* crates/bao_bind/src/* crates/bao_join/src/*)
-	$(call built,bench,src/main.rt)
 
 # The C library stands on these, of which bao_bind, bao_feed and bao_plan aren't in SOURCES.
 C_SOURCES := $(SOURCES) $(shell shopt -s globstar nullglob; echo crates/{bao_bind,bao_feed,bao_plan,berylwool}/{src,specs,proofs}/**)
@@ -299,7 +292,7 @@ c-install: doc
 	@python3 scripts/dist.py install $(INSTALLED) $(MADE) library
 
 c-test: c-library doc
-	@python3 scripts/c_test.py
+	@python3 scripts/tests c_library c_texts c_plans c_windows
 
 HAS_CTYPES := python3 -c 'import ctypes' 2>/dev/null
 
@@ -313,7 +306,7 @@ wheel: c-library
 	@python3 python/make_wheel.py out/libberylwool.so out $(CPU)
 
 python-test: c-library
-	@BERYLWOOL_LIBRARY='$(CURDIR)/out/libberylwool.so' PYTHONDONTWRITEBYTECODE=1 python3 -m unittest discover -s python/tests
+	@BERYLWOOL_LIBRARY='$(CURDIR)/out/libberylwool.so' python3 scripts/tests python/tests
 
 # BLAKE3's own library, held to AVX2.
 out/pieces: c/pieces.c

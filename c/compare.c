@@ -1,4 +1,4 @@
-/* Times of the C library on the bytes of a file, in one process: scripts/bench.py reads its lines and compares them with those of crates/bench.
+/* Times of the C library on the bytes of a file, in one process: scripts/bench.py reads its lines.
  *
  *     compare FILE
  *
@@ -7,12 +7,13 @@
 #include "berylwool.h"
 
 #include <pthread.h>
+#include <stdatomic.h>
 #include <stdio.h>
 #include <stdlib.h>
 #include <string.h>
 #include <time.h>
 
-enum { ROUNDS = 5, READS = 4, CALLS = 100000, GROUP_LEN = BW_GROUP_CHUNKS * BW_CHUNK_LEN, MOST_THREADS = 4, MIB = 1 << 20 };
+enum { ROUNDS = 5, READS = 4, CALLS = 100000, GROUP_LEN = BW_GROUP_CHUNKS * BW_CHUNK_LEN, MOST_THREADS = 4, KIB = 1 << 10, MIB = 1 << 20 };
 
 /* The most bytes that a store has room for. */
 static const size_t most = (size_t)64 << 20;
@@ -250,12 +251,12 @@ static bw_status beside(bw_outline *outline, bw_seat *seat, const uint8_t *bytes
     return status;
 }
 
-/* A hasher that takes in 64 KiB at a time. */
-static bw_status update(const uint8_t *bytes, size_t len) {
+/* A hasher that takes in so many bytes at a time. */
+static bw_status update(const uint8_t *bytes, size_t len, size_t piece) {
     uint8_t out[BW_HASH_LEN];
     bw_hasher hasher = BW_EMPTY;
     bw_status status = bw_hasher_new(&plain, &hasher);
-    for (size_t from = 0; status == BW_OK && from < len; from += GROUP_LEN) status = bw_hasher_update(&hasher, bytes + from, len - from < GROUP_LEN ? len - from : GROUP_LEN);
+    for (size_t from = 0; status == BW_OK && from < len; from += piece) status = bw_hasher_update(&hasher, bytes + from, len - from < piece ? len - from : piece);
     if (status == BW_OK) status = bw_hasher_finish(&hasher, out);
     bw_hasher_free(&hasher);
     return status;
@@ -271,7 +272,8 @@ static void first_bytes(const uint8_t *bytes, size_t len) {
     bw_outline outline = BW_EMPTY;
     MUST(len >= 2 * MIB);
     TIME("bw_hash of the first 64 MiB", (bw_hash(&plain, bytes, len, again), BW_OK));
-    TIME("bw_hasher_update in pieces of 64 KiB", update(bytes, len));
+    TIME("bw_hasher_update in pieces of 64 KiB", update(bytes, len, GROUP_LEN));
+    TIME("bw_hasher_update in pieces of 1 MiB", update(bytes, len, MIB));
     TIME("bw_xof of 1 MiB", bw_xof(&plain, bytes, 0, 0, out, MIB));
     TIME("bw_encode", bw_encode(&plain, bytes, len, text, text_len, &used, root));
     TIME("bw_outboard", bw_outboard(&plain, bytes, len, bare, bare_len, &used, root));
@@ -348,12 +350,182 @@ static void stores(const uint8_t *bytes, size_t len) {
     free(text), free(bare), free(slice), free(out);
 }
 
+/* What a store with room for 64 MiB keeps, and the most that it takes while it is made, in a process that had less memory until now. */
+static size_t kib_of(const char *name) {
+    char line[128];
+    size_t kib = 0;
+    FILE *file = fopen("/proc/self/status", "r");
+    MUST(file != NULL);
+    while (fgets(line, sizeof line, file))
+        if (strncmp(line, name, strlen(name)) == 0) kib = strtoul(line + strlen(name), NULL, 10);
+    fclose(file);
+    MUST(kib);
+    return kib;
+}
+
+static void store_memory(void) {
+    static const uint8_t root[BW_HASH_LEN];
+    bw_seat seat = BW_EMPTY;
+    size_t before = kib_of("VmRSS:");
+    MUST(bw_store_new(&plain, root, 65536, &seat) == BW_OK);
+    printf("a shared store keeps: %zu KiB\na shared store takes at most: %zu KiB\n", kib_of("VmRSS:") - before, kib_of("VmHWM:") - before);
+    bw_seat_free(&seat);
+}
+
+/* The first MiB in pieces, each hashed by itself as a small file is. The lengths take turns. */
+static void small(const uint8_t *bytes) {
+    enum { LENS = 6, TURNS = 100 };
+    static const size_t kib[LENS] = {1, 2, 4, 8, 16, 64};
+    double least[LENS] = {1, 1, 1, 1, 1, 1};
+    uint8_t out[BW_HASH_LEN];
+    for (int turn = 0; turn < TURNS; turn++)
+        for (int i = 0; i < LENS; i++) {
+            double from = now();
+            for (size_t at = 0; at < MIB; at += kib[i] * KIB) bw_hash(&plain, bytes + at, kib[i] * KIB, out);
+            note(&least[i], from);
+        }
+    for (int i = 0; i < LENS; i++) {
+        char name[32];
+        snprintf(name, sizeof name, "hashes of %zu KiB each", kib[i]);
+        print(name, least[i]);
+    }
+}
+
+/* Threads that share a count of the pieces of 16 KiB that are left, and nothing else: what they are worth on this machine. */
+typedef struct pieces {
+    const uint8_t *bytes;
+    atomic_long left;
+} pieces;
+
+static void *hash_pieces(void *arg) {
+    pieces *it = arg;
+    uint8_t out[BW_HASH_LEN];
+    while (atomic_fetch_sub(&it->left, 16) > 0)
+        for (int k = 0; k < 16; k++) bw_hash(&plain, it->bytes, 16 * KIB, out);
+    return NULL;
+}
+
+static void threads(const uint8_t *bytes, size_t len) {
+    double least[2] = {1e9, 1e9};
+    for (int k = 0; k < 2 * ROUNDS; k++) {
+        pthread_t all[MOST_THREADS];
+        pieces it = {bytes, (long)(len / (16 * KIB))};
+        double from = now();
+        for (int i = 0; i < (k % 2 ? MOST_THREADS : 1); i++) MUST(pthread_create(&all[i], NULL, hash_pieces, &it) == 0);
+        for (int i = 0; i < (k % 2 ? MOST_THREADS : 1); i++) MUST(pthread_join(all[i], NULL) == 0);
+        note(&least[k % 2], from);
+    }
+    print("hashes of 16 KiB by one thread", least[0]), print("hashes of 16 KiB by four threads", least[1]);
+}
+
+/* Slices, cut out of the encoding of all bytes and of one a sixteenth as long. */
+static void slices(const uint8_t *bytes, size_t len) {
+    uint8_t root[BW_HASH_LEN];
+    size_t text_len = (size_t)bw_encoded_len(len), short_len = (size_t)bw_encoded_len(len / 16), used = 0, out_len = 10 * MIB;
+    uint8_t *text = room(text_len), *less = room(short_len), *out = room(out_len);
+    MUST(bw_encode(&plain, bytes, len, text, text_len, &used, root) == BW_OK && bw_encode(&plain, bytes, len / 16, less, short_len, &used, root) == BW_OK);
+    TIME("bw_cut_slice of 1 MiB out of all", bw_cut_slice(text, text_len, 0, MIB, out, out_len, &used));
+    TIME("bw_cut_slice of 1 MiB out of a sixteenth", bw_cut_slice(less, short_len, 0, MIB, out, out_len, &used));
+    TIME("bw_cut_slice of 8 MiB out of all", bw_cut_slice(text, text_len, 0, 8 * MIB, out, out_len, &used));
+    free(text), free(less), free(out);
+}
+
+/* A group that is taken, committed and read, in a store that has no other group and in one that has all others. */
+static void groups(const uint8_t *bytes, size_t len) {
+    enum { TAKES = 1000 };
+    uint8_t root[BW_HASH_LEN], out[GROUP_LEN];
+    size_t text_len = (size_t)bw_encoded_len(len), used = 0, slice_len = 0, rest_len = 0;
+    uint8_t *text = room(text_len), *slice = room(slice_room), *rest = room(text_len);
+    uint64_t mask = 0, at = 0;
+    double into[2] = {1e9, 1e9}, out_of[2] = {1e9, 1e9}, taken[2] = {1e9, 1e9};
+    MUST(bw_encode(&plain, bytes, len, text, text_len, &used, root) == BW_OK && bw_cut_slice(text, text_len, 0, GROUP_LEN, slice, slice_room, &slice_len) == BW_OK);
+    MUST(bw_cut_slice(text, text_len, GROUP_LEN, UINT64_MAX, rest, text_len, &rest_len) == BW_OK);
+    for (int k = 0; k < 2 * ROUNDS; k++) {
+        int is_full = k % 2;
+        bw_seat seat = BW_EMPTY;
+        MUST(bw_store_new(&plain, root, is_full ? 65536 : 64, &seat) == BW_OK);
+        double from = now();
+        for (int i = 0; i < TAKES; i++) kept = bw_seat_take(&seat, 0, UINT64_MAX, &mask) | bw_seat_give(&seat, 0, UINT64_MAX, &mask);
+        note(&taken[is_full], from);
+        MUST(bw_store_new(&plain, root, 65536, &seat) == BW_OK);
+        if (is_full) MUST(bw_seat_commit_chunks(&seat, GROUP_LEN, UINT64_MAX, rest, rest_len, &mask, &at) == BW_OK);
+        from = now();
+        MUST(bw_seat_take(&seat, 0, UINT64_MAX, &mask) == BW_OK && bw_seat_commit(&seat, 0, 0, GROUP_LEN, slice, slice_len, &mask, &at) == BW_OK && mask);
+        note(&into[is_full], from);
+        MUST(bw_seat_read(&seat, 0, out, GROUP_LEN, &at) == BW_OK);
+        from = now();
+        MUST(bw_seat_read(&seat, 0, out, GROUP_LEN, &at) == BW_OK);
+        note(&out_of[is_full], from);
+        MUST(memcmp(out, bytes, GROUP_LEN) == 0);
+        bw_seat_free(&seat);
+    }
+    print("a group into an empty store", into[0]), print("a group into a full store", into[1]);
+    print("a group out of a store of one", out_of[0]), print("a group out of a full store", out_of[1]);
+    print("a group taken 1,000 times, of one", taken[0]), print("a group taken 1,000 times, of 1,024", taken[1]);
+    free(text), free(slice), free(rest);
+}
+
+/* One of several threads that gather. */
+typedef struct worker {
+    bw_seat seat;
+    uint32_t number;
+    const uint8_t *text;
+    size_t text_len;
+} worker;
+
+static void *gather(void *arg) {
+    worker *it = arg;
+    bw_report report = {0, 0, 0, 0, 0, 0, 0};
+    MUST(bw_gather(&it->seat, it->number, MOST_THREADS, it->text, it->text_len, &report) == BW_OK && report.refused == 0);
+    return NULL;
+}
+
+/* A blob gathered from its encoding: by four threads, and by one that then reads all of it out and hashes it; beside it a plain copy and a short read. */
+static void gatherings(const uint8_t *bytes, size_t len) {
+    uint8_t root[BW_HASH_LEN];
+    size_t text_len = (size_t)bw_encoded_len(len), used = 0;
+    uint8_t *text = room(text_len), *out = room(len);
+    uint64_t at = 0;
+    double by_four = 1e9, whole = 1e9, copied = 1e9, read = 1e9;
+    MUST(bw_encode(&plain, bytes, len, text, text_len, &used, root) == BW_OK);
+    for (int k = 0; k < ROUNDS; k++) {
+        bw_report report = {0, 0, 0, 0, 0, 0, 0};
+        bw_seat seat = BW_EMPTY;
+        worker all[MOST_THREADS];
+        pthread_t ids[MOST_THREADS];
+        double from = now();
+        MUST(bw_store_new(&plain, root, 65536, &seat) == BW_OK && bw_gather(&seat, 0, 1, text, text_len, &report) == BW_OK);
+        MUST(bw_seat_finish(&seat, out, len, &used) == BW_OK);
+        note(&whole, from);
+        MUST(used == len && memcmp(out, bytes, len) == 0);
+        from = now();
+        MUST(bw_seat_read(&seat, MIB, out, MIB, &at) == BW_OK);
+        note(&read, from), from = now();
+        memcpy(out, bytes, len);
+        note(&copied, from);
+        MUST(bw_store_new(&plain, root, 65536, &seat) == BW_OK);
+        for (uint32_t i = 0; i < MOST_THREADS; i++) {
+            all[i] = (worker){BW_EMPTY, i, text, text_len};
+            MUST(bw_seat_split(&seat, &all[i].seat) == BW_OK);
+        }
+        from = now();
+        for (int i = 0; i < MOST_THREADS; i++) MUST(pthread_create(&ids[i], NULL, gather, &all[i]) == 0);
+        for (int i = 0; i < MOST_THREADS; i++) MUST(pthread_join(ids[i], NULL) == 0);
+        note(&by_four, from);
+        for (int i = 0; i < MOST_THREADS; i++) MUST(bw_seat_join(&seat, &all[i].seat) == BW_OK);
+        MUST(bw_seat_finish(&seat, out, len, &used) == BW_OK && memcmp(out, bytes, len) == 0);
+        bw_seat_free(&seat);
+    }
+    print("bw_gather by four threads", by_four), print("bw_gather and bw_seat_finish", whole), print("a plain copy", copied), print("bw_seat_read of 1 MiB", read);
+    free(text), free(out);
+}
+
 static void texts(const uint8_t *bytes, size_t len) {
     uint8_t root[BW_HASH_LEN], again[BW_HASH_LEN];
     size_t text_len = (size_t)bw_encoded_len(len), used = 0;
     uint8_t *text = room(text_len);
     uint64_t at = 0;
-    double hashed = 1e9, checked = 1e9;
+    double hashed = 1e9, checked = 1e9, refused = 1e9;
     MUST(bw_encode(&plain, bytes, len, text, text_len, &used, root) == BW_OK);
     for (int k = 0; k < ROUNDS; k++) {
         double from = now();
@@ -364,9 +536,14 @@ static void texts(const uint8_t *bytes, size_t len) {
         bw_status status = bw_check_combined(&plain, root, text, used, &at);
         note(&checked, from);
         MUST(status == BW_OK);
+        text[used - 1] ^= 1, from = now();
+        status = bw_check_combined(&plain, root, text, used, &at);
+        note(&refused, from), text[used - 1] ^= 1;
+        MUST(status == BW_MISMATCH);
     }
     print("bw_hash", hashed);
     print("bw_check_combined", checked);
+    print("bw_check_combined, damaged in its last byte", refused);
     free(text);
 }
 
@@ -378,15 +555,22 @@ int main(int count, char **words) {
     FILE *file = fopen(words[1], "rb");
     long end;
     MUST(file && fseek(file, 0, SEEK_END) == 0 && (end = ftell(file)) >= 0 && fseek(file, 0, SEEK_SET) == 0);
+    store_memory();
     size_t len = (size_t)end;
+    MUST(len >= 16 * MIB);
     uint8_t *bytes = room(len);
     MUST(fread(bytes, 1, len, file) == len);
     fclose(file);
     calls(bytes);
+    small(bytes);
+    threads(bytes, len);
     texts(bytes, len);
+    slices(bytes, len);
     first_bytes(bytes, len < most ? len : most);
     stores(bytes, len < most ? len : most);
     shared(bytes, len < most ? len : most);
+    groups(bytes, len < most ? len : most);
+    gatherings(bytes, len < most ? len : most);
     free(bytes);
     return 0;
 }

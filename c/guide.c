@@ -1,4 +1,4 @@
-/* Runs the code of docs/C-API.md, which scripts/c_test.py copies to guide.h. It prints nothing and
+/* Runs the code of docs/C-API.md, which scripts/tests/test_c_library.py copies to guide.h. It prints nothing and
  * exits with 0, or says which line failed. */
 #include "guide.h"
 #include "vectors.h"

@@ -1,4 +1,4 @@
-/* Times of BLAKE3's own C library on the first bytes of a file, in pieces, each hashed by itself: scripts/bench.py compares them with those of crates/bench.
+/* Times of BLAKE3's own C library on the first bytes of a file, in pieces, each hashed by itself: scripts/bench.py compares them with those of c/compare.c.
  *
  *     pieces FILE
  *

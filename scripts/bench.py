@@ -8,7 +8,6 @@ there is room for it, since a sync would measure the device; one row has it on a
 
 bench/history.tsv has a row for each run, with its figures; a figure may be a range, as 1.2 to 1.5. --record adds the row of this run. `make doc` makes
 the table and the plot of it."""
-import argparse
 import contextlib
 import datetime
 import filecmp
@@ -22,13 +21,13 @@ from dataclasses import dataclass
 
 sys.dont_write_bytecode = True
 import definitions as bao
+import script
 from peak import Launcher
 from wanted import *
 
 ROOT = os.path.dirname(os.path.dirname(os.path.abspath(__file__)))
 PROGRAM = f"{ROOT}/out/bao_gather"
 MEMORY_FOLDER = "/dev/shm"
-IN_PROCESS = f"{ROOT}/out/bench"
 # It is there where there is a C compiler.
 OF_C = f"{ROOT}/out/c/compare"
 # It is there where there are BLAKE3's own C sources, too.
@@ -109,7 +108,7 @@ def put_history(rows):
         it.write("\n".join(["\t".join(columns), *lines]) + "\n")
 
 
-def record(figures, load, mib, runs):
+def add_to_history(figures, load, mib, runs):
     """Adds a row of this run."""
     commit = output(["git", "-C", ROOT, "rev-parse", "--short", "HEAD"]).strip()
     if output(["git", "-C", ROOT, "status", "--porcelain", "--untracked-files=no"]).strip():
@@ -208,6 +207,16 @@ def folder_in_memory(room, size):
         yield folder
 
 
+def damaged_at_its_end(room, encoding):
+    shutil.copy(encoding, f"{room}/refused")
+    with open(f"{room}/refused", "r+b") as it:
+        it.seek(-1, os.SEEK_END)
+        last = it.read(1)[0]
+        it.seek(-1, os.SEEK_END)
+        it.write(bytes([last ^ 1]))
+    return f"{room}/refused"
+
+
 def measure(room, memory, mib, runs):
     path, made, on_disk = f"{room}/input", f"{memory}/made", f"{room}/made"
     with open(path, "wb") as it:
@@ -233,6 +242,7 @@ def measure(room, memory, mib, runs):
     commands += [Command(COPY_ENCODED, ["cp", encoding, made], encoding), Command(COPY_FILE, ["cp", path, made], path)]
     commands.append(Command(SLICED, [PROGRAM, "slice", str(mib * MIB // 2), "100", path, made]))
     commands.append(Command(DECODE, [PROGRAM, "decode", root, encoding, made], path))
+    commands.append(Command(DECODE_REFUSED, [PROGRAM, "decode", root, damaged_at_its_end(room, encoding), made], status=1))
     commands.append(Command(DECODE_TO_DISK, [PROGRAM, "decode", root, encoding, on_disk], path))
     commands.append(Command(DECODE_BESIDE, [PROGRAM, "decode", "--outboard", parents, root, path, made], path))
     commands.append(Command(GATHER_LONGER, [PROGRAM, "gather", "--long", root, made, encoding], path))
@@ -248,7 +258,6 @@ def measure(room, memory, mib, runs):
             if it.like and not filecmp.cmp(out, it.like, shallow=False):
                 fail(f"what {it.name} wrote isn't {os.path.basename(it.like)}")
         times.run(HASH_GATHERED, [PROGRAM, "hash", held.blob])
-        times.run_in_process(IN_PROCESS, path)
         for program in (OF_BLAKE3, OF_C):
             if os.path.exists(program):
                 times.run_in_process(program, path)
@@ -270,21 +279,17 @@ def peaks_of(room, commands, made):
     return found
 
 
-def main():
-    parser = argparse.ArgumentParser(description=__doc__)
-    parser.add_argument("--mib", type=int, default=256, help="the size of the file, in MiB")
-    parser.add_argument("--runs", type=int, default=7, help="how often each command is run")
-    parser.add_argument("--record", action="store_true", help="add the figures of this run to bench/history.tsv")
-    words = parser.parse_args()
+def main(*, mib=256, runs=7, record=False):
+    """mib is the size of the file, and runs how often each command is run."""
     load = os.getloadavg()[0]
     print(f"processor: {processor()}; processors: {os.cpu_count()}")
     print(f"rt version: {output(['rt', 'version']).strip()}")
     with open(f"{ROOT}/out/cpu", encoding="utf-8") as it:
         print(f"built for: {it.read().strip()}")
-    print(f"file: {words.mib} MiB of random bytes; runs: {words.runs}, in turns, of which the least counts", flush=True)
+    print(f"file: {mib} MiB of random bytes; runs: {runs}, in turns, of which the least counts", flush=True)
     with tempfile.TemporaryDirectory(prefix="bench-") as room:
-        with folder_in_memory(room, 3 * words.mib * MIB) as memory:
-            least, peaks = measure(room, memory, words.mib, words.runs)
+        with folder_in_memory(room, 3 * mib * MIB) as memory:
+            least, peaks = measure(room, memory, mib, runs)
     print(f"\n{'seconds':>8}  what")
     for name, how in ROWS:
         if name in least:
@@ -319,9 +324,9 @@ def main():
         if first in least and second in least:
             tell(least[first] / least[second], 2, ratio_name(how, first, second), wanted)
     print(f"\nmissed: {len(missed)} of {len(wanted_figures())} wanted figures")
-    if words.record:
-        record(figures, load, words.mib, words.runs)
+    if record:
+        add_to_history(figures, load, mib, runs)
 
 
 if __name__ == "__main__":
-    main()
+    script.run(main)

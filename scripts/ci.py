@@ -1,8 +1,6 @@
 #!/usr/bin/env python3
 """Runs rt ci, and beside it the trials of what it proved, each as soon as rt says that the libraries are proved which it stands on.
 
-usage: python3 scripts/ci.py
-
 At the top of the repository. rt says so in a line a crate, once it is proved, in this run or in an earlier one. What the trials try is built in a copy of the
 repository, since rt ci holds the crates until it ends. The copy has the libraries as rt ci proved them: out of what rt keeps of its proofs, or, where it keeps
 nothing, as they lie in the crates' folders. What rt ci prints is printed as it comes, and what the trials print once all have ended. The exit status is that of
@@ -17,6 +15,7 @@ import tempfile
 
 sys.dont_write_bytecode = True
 import rt_module
+import script
 
 # The trials, targets of the Makefile, by the crate that they build. Those of the C library are begun first, since their build takes longest.
 TRIALS = {"berylwool": "c-trials", "bao_gather": "trials"}
@@ -94,4 +93,4 @@ def main():
 
 
 if __name__ == "__main__":
-    sys.exit(main() if len(sys.argv) == 1 else __doc__)
+    script.run(main)

@@ -1,10 +1,9 @@
 #!/usr/bin/env python3
 """Puts what was built where it belongs, by the table packaging/files.txt.
 
-usage: python3 scripts/dist.py install|uninstall|dist|deb [NAME=VALUE ..] [LEVEL=MADE ..] PART ..
-
-At the top of the repository. A PART is one of the table's, and MADE the folder with the builds for a processor level: bao_gather and libberylwool.so, and
-for the first level, which every processor has that this is for, libberylwool.a. NAMEs are those of the Makefile, DESTDIR among them.
+At the top of the repository. WHAT is install, uninstall, dist or deb, and each word is NAME=VALUE, LEVEL=MADE or a PART. A PART is one of the table's, and MADE
+the folder with the builds for a processor level: bao_gather and libberylwool.so, and for the first level, which every processor has that this is for,
+libberylwool.a. NAMEs are those of the Makefile, DESTDIR among them.
 
 install copies files, and uninstall removes the files that install would copy. dist makes out/dist, the folder of a release, which works wherever it is moved
 to, and an archive of it, and refuses files that aren't as the commit has them; BUILD names the versions, the commit, the kit and the levels, and SHA256SUMS has
@@ -21,6 +20,8 @@ import subprocess
 import sys
 import tarfile
 import time
+
+import script
 
 ROOT = os.path.dirname(os.path.dirname(os.path.abspath(__file__)))
 DIST, DEB = f"{ROOT}/out/dist", f"{ROOT}/out/deb"
@@ -217,7 +218,9 @@ def packed(file):
     return file
 
 
-def main(what, words):
+def main(what, *words):
+    if what not in ("install", "uninstall", "dist", "deb"):
+        sys.exit(f"dist: there is no {what}")
     named = dict(it.split("=", 1) for it in words if "=" in it)
     parts, levels = [it for it in words if "=" not in it], [(name, it) for name, it in named.items() if name.startswith("x86-64")]
     if what in ("dist", "deb"):
@@ -233,6 +236,4 @@ def main(what, words):
 
 
 if __name__ == "__main__":
-    if len(sys.argv) < 3 or sys.argv[1] not in ("install", "uninstall", "dist", "deb"):
-        sys.exit(__doc__)
-    main(sys.argv[1], sys.argv[2:])
+    script.run(main)

@@ -1,14 +1,12 @@
 #!/usr/bin/env python3
 """Says which public functions have no law that their contract determines their answer, and no line that says why not.
 
-usage: python3 scripts/laws.py [--list]
-
 At the top of the repository. A law is a public function of a crate determined_*: it asks a call twice of the same, and ensures that both answers are
 equal. A function counts as asked where a law calls it; a method, where a law calls one of its name and names its type. One that changes nothing and has
 a clause `result ≡ ..` needs no law: that clause says it. Any other without a law is named, with the reason, in the file no-law.txt beside the laws, in a line
 `CRATE: FUNCTION, TYPE::METHOD: reason`.
 Fails where a public function of a library has neither, or both, or where no-law.txt names one that isn't there.
---list prints the functions of each crate that have a law. It proves nothing and takes seconds.
+--show prints the functions of each crate that have a law. It proves nothing and takes seconds.
 """
 import glob
 import os
@@ -16,6 +14,7 @@ import re
 import sys
 
 sys.dont_write_bytecode = True
+import script
 from project import Project, expanded, text_of
 
 # The crates of laws, and of whose calls each has them. No crate can stand on a static library, so that it has its own; bao_plan's are of any list of its calls.
@@ -34,7 +33,7 @@ OF = {
     "berylwool": ["berylwool"],
 }
 # Crates that nobody calls: laws, tests, programs.
-ASIDE = re.compile(r"determined_|tests_|.*_scenarios$|examples$|bench$|bao_gather$")
+ASIDE = re.compile(r"determined_|tests_|.*_scenarios$|examples$|bao_gather$")
 # A call, with the type or module before it, or the dot.
 CALL = re.compile(r"(?:\b(\w+)(?:::<[^>]*>)?::|(\.))?\b(\w+)(?:::<[^>]*>)?\(")
 CLAUSE = re.compile(r"^    (?:requires|ensures)\b")
@@ -135,7 +134,7 @@ def look(crate, public, has, told):
     return [f"{crate}: {it}" for it in sorted(wrong)]
 
 
-def main():
+def main(*, show=False):
     project, crates, why = Project(), crates_of(), excused()
     laws, bad = laws_of(project), []
     for crate in sorted({it for it in crates if it.startswith("determined_")} ^ {it for it in OF if it.startswith("determined_")}):
@@ -147,7 +146,7 @@ def main():
         public = set(functions)
         has = {it for it in public if any(law.asks(it) for law in laws.get(crate, [])) or is_said(functions[it]) and it not in why.get(crate, {})}
         bad += look(crate, public, has, set(why.pop(crate, {})))
-        if "--list" in sys.argv[1:]:
+        if show:
             print(f"{crate}: {len(has)} of {len(public)}: {' '.join(sorted(has))}")
     bad += [f"a no-law.txt names {crate}, which is no library" for crate in why]
     print("\n".join([*bad, f"laws: {len(bad)} public functions to look at"]))
@@ -155,4 +154,4 @@ def main():
 
 
 if __name__ == "__main__":
-    sys.exit(main())
+    script.run(main)

@@ -1,8 +1,6 @@
 #!/usr/bin/env python3
 """Proves and builds the libraries below a crate, those that don't stand on each other side by side.
 
-usage: python3 scripts/prove_lanes.py CRATE
-
 At the top of the repository. Each library is kept in its out/ as `rt check` and `rt run` keep it, so that these prove nothing
 anew afterwards. Prints a line for each that had to be proved, with how many are ready. With RT_JOBS=N in the environment N are
 proved at a time, by one job each; without it rt chooses.
@@ -16,6 +14,7 @@ import threading
 
 sys.dont_write_bytecode = True
 import rt_module
+import script
 
 
 def main(name):
@@ -57,4 +56,4 @@ def main(name):
 
 
 if __name__ == "__main__":
-    sys.exit(main(sys.argv[1]) if len(sys.argv) == 2 else __doc__)
+    script.run(main)

@@ -1,8 +1,6 @@
 #!/usr/bin/env python3
 """Has rt take the libraries below a crate as `rt ci` has just proved them.
 
-usage: python3 scripts/proved_by_ci.py CRATE
-
 At the top of the repository, after `rt ci`. That leaves in out/rlib what it proved, or what stood there before, without the stamp by which `rt lib`, `rt run`
 and `rt check` know a library that is proved, so that these would prove all of them anew. This writes the stamps. Where rt keeps what it proved from run to run,
 a library passes if it is what rt keeps of a proof of these sources over these libraries, or is put there from that. An rt that keeps nothing proves each
@@ -15,6 +13,7 @@ import sys
 
 sys.dont_write_bytecode = True
 import rt_module
+import script
 
 
 def is_kept(rt, kept, it):
@@ -75,4 +74,4 @@ def main(name):
 
 
 if __name__ == "__main__":
-    sys.exit(main(sys.argv[1]) if len(sys.argv) == 2 else __doc__)
+    script.run(main)

@@ -1,10 +1,8 @@
 #!/usr/bin/env python3
 """Makes the replies that the scenarios of crates/*_scenarios and of the program have to get, and what crates/examples has to print, by the definitions alone.
 
-usage: python3 scripts/scenarios.py [--write]
-
 At the top of the repository. A scenario is a file of commands, one a line, with empty lines and lines that begin with '#' between
-them: a program's file stdin, or the lines that scripts/program_scenarios.py has the program run on. Another file, stdout or replies.txt,
+them: a program's file stdin, or the lines that scripts/tests/test_scenarios.py has the program run on. Another file, stdout or replies.txt,
 is the same lines with a reply, indented, below each command. Compares these files with the replies made here, and says where they
 differ; with --write writes them.
 """
@@ -14,6 +12,7 @@ import os
 import sys
 
 import definitions as bao
+import script
 
 # How many words of a reply's digest are printed.
 SHORT = 16
@@ -1514,9 +1513,7 @@ def made_of(scenario):
         return replies(kind, it.read())
 
 
-def main(words):
-    if words not in ([], ["--write"]):
-        sys.exit(__doc__)
+def main(*, write=False):
     with concurrent.futures.ProcessPoolExecutor() as pool:
         rows = pool.submit(disagreements, f"{os.path.dirname(os.path.abspath(__file__))}/b3sum.tsv")
         texts = {file: pool.submit(made_of, (kind, lines, file)) for kind, lines, file in SCENARIOS}
@@ -1526,7 +1523,7 @@ def main(words):
     if wrong:
         print(f"{wrong} rows of b3sum.tsv aren't what the definitions give")
     for file, made in texts.items():
-        if words:
+        if write:
             with open(file, "w", encoding="utf-8") as it:
                 it.write(made)
             continue
@@ -1543,4 +1540,4 @@ def main(words):
 
 
 if __name__ == "__main__":
-    sys.exit(main(sys.argv[1:]))
+    script.run(main)

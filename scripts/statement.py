@@ -1,22 +1,19 @@
 #!/usr/bin/env python3
 """Prints what a contract says, with every definition behind it, and what cites a definition.
 
-usage: python3 scripts/statement.py CALL ..
-       python3 scripts/statement.py --count CALL ..
-       python3 scripts/statement.py --cites NAME
-
 At the top of the repository. It proves nothing and takes seconds.
 
 CALL is CRATE::FUNCTION, CRATE::TYPE::METHOD, CRATE::TYPE for all public methods of a type, CRATE for all public functions of a crate, or
 CRATE::DEFINITION. Every definition that the contracts cite is printed, and those that these cite, and so on: what is cited before what cites it, each
 with its file and lines, and the contracts last. A definition is one of specs/, or a type or trait of the code: a struct or enum with its fields, its
 ghost fields and what its Model shows. Definitions of the kit's libraries are named at the end, and not printed. A definition's lines are counted
-without comments and blanks. --count prints the count alone. --cites prints each contract, type and definition that cites NAME itself, with file and
-line. NAME may be CRATE::NAME where several crates have one. Proofs aren't read: nobody has to believe one.
+without comments and blanks. --count prints the count alone. --cites prints each contract, type and definition that cites CALL itself, a definition,
+with file and line. It may be CRATE::NAME where several crates have one. Proofs aren't read: nobody has to believe one.
 """
 import sys
 
 sys.dont_write_bytecode = True
+import script
 from project import Project, behind, citing, comment_above
 
 
@@ -47,7 +44,7 @@ def show(project, calls):
     print(f"\n{' '.join(calls)}: {told(counts(order))}")
 
 
-def cites(project, name):
+def show_citing(project, name):
     named, found = citing(project, name)
     print(f"{named.place()}: {named.name}\n")
     for it in sorted(found, key=lambda it: (it.is_contract, it.file, it.first)):
@@ -55,20 +52,16 @@ def cites(project, name):
     print(f"\n{named.name}: cited by {sum(not it.is_contract for it in found)} definitions and {sum(it.is_contract for it in found)} contracts")
 
 
-def main():
-    words = sys.argv[1:]
-    if not words or words[0] in ("-h", "--help"):
-        sys.exit(__doc__)
-    project = Project()
-    if words[0] == "--cites":
-        cites(project, words[1])
-    elif words[0] == "--count":
-        for it in words[1:]:
+def main(call, *calls, count=False, cites=False):
+    project, calls = Project(), (call, *calls)
+    if cites:
+        show_citing(project, call)
+    elif count:
+        for it in calls:
             print(f"{it}: {told(counts(behind(project.calls(it))))}")
     else:
-        show(project, words)
-    return 0
+        show(project, calls)
 
 
 if __name__ == "__main__":
-    sys.exit(main())
+    script.run(main)

@@ -1,8 +1,6 @@
 #!/usr/bin/env python3
 """Says which lemmas and definitions nothing cites.
 
-usage: python3 scripts/uncited.py
-
 At the top of the repository. It reads the files of crates/*/specs and crates/*/proofs, but for the answers of single functions, which
 the prover asks for by name. A name counts as cited where it stands anywhere in a source, a specs or a proofs file beside its own
 statement and equations. So does a lemma of a `module`, and a field of a record of proofs/. Of LAWS each
@@ -12,7 +10,8 @@ Fails where a name isn't cited. It proves nothing and takes seconds.
 import collections
 import glob
 import re
-import sys
+
+import script
 
 LAWS = {"crates/b3tree/proofs/Examples.antt", "crates/bao_text/proofs/Laws.antt"}
 # What goes with the next change of its crate: taking it out alone would have everything above proved anew.
@@ -42,4 +41,4 @@ def main():
 
 
 if __name__ == "__main__":
-    sys.exit(main() if len(sys.argv) == 1 else __doc__)
+    script.run(main)

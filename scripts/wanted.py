@@ -32,55 +32,37 @@ GATHER_SALVAGE = "bao_gather gather --salvage, three files damaged in the same g
 GATHER_LONG = "bao_gather gather --long, one true file"
 GATHER_LONGER = "bao_gather gather --long, one true file of all"
 HASH_GATHERED = "bao_gather hash of the gathered blob"
-SLICE = "cut_slice of 1 MiB"
-SLICE_OF_SIXTEENTH = "cut_slice of 1 MiB, a sixteenth of the file"
-LARGER_SLICE = "cut_slice of 8 MiB"
-POOL_ONE = "hash_pool, 1 worker"
-POOL_FOUR = "hash_pool, 4 workers"
+DECODE_REFUSED = "bao_gather decode, damaged in its last byte"
+SLICE = "bw_cut_slice of 1 MiB out of all"
+SLICE_OF_SIXTEENTH = "bw_cut_slice of 1 MiB out of a sixteenth"
+LARGER_SLICE = "bw_cut_slice of 8 MiB out of all"
 PIECES_ONE = "hashes of 16 KiB by one thread"
 PIECES_FOUR = "hashes of 16 KiB by four threads"
 # The lengths of small files, in KiB, and what hashing such ones takes us and BLAKE3's own library.
 SMALL = [1, 2, 4, 8, 16, 64]
 EACH = {kib: f"hashes of {kib} KiB each" for kib in SMALL}
 OF_BLAKE3_EACH = {kib: f"libblake3's {EACH[kib]}" for kib in SMALL}
-SMALL_PIECES = "Hasher, pieces of 64 KiB"
-LARGE_PIECES = "Hasher, pieces of 1 MiB"
-FILE_ONE = "hash_source, 1 worker"
-FILE_FOUR = "hash_source, 4 workers"
-CHECK = "check_combined"
-CHECK_JOINED = "check_combined_join"
-CHECK_OUTBOARD = "check_outboard"
-CHECK_BARE = "check_bare"
-CHECK_SLICE = "check_slice of 1 MiB"
-AUDIT = "audit of the whole encoding"
-GATHER_TEXTS = "gather_texts"
-HASH_OF_GATHERED = "hash of the gathered"
 INTO_EMPTY = "a group into an empty store"
 INTO_FULL = "a group into a full store"
 OUT_OF_ONE = "a group out of a store of one"
 OUT_OF_FULL = "a group out of a full store"
-STORES = "stores of as many words"
-COMMITS_ONE = "commits by one seat"
-COMMITS_FOUR = "commits by four seats"
 COPY = "a plain copy"
-READS_ONE = "reads by one seat"
-READS_FOUR = "reads by four seats"
 TAKES_OF_ONE = "a group taken 1,000 times, of one"
 TAKES_OF_ALL = "a group taken 1,000 times, of 1,024"
-SERVED_SHARED = "1 MiB served by a shared store"
-READ_SHARED = "1 MiB read from a shared store"
-SERVED_ALONE = "1 MiB served by a one-thread store"
-READ_ALONE = "1 MiB read from a one-thread store"
-RUN_ONE = "run by one worker"
-RUN_FOUR = "run by four workers"
-PARENTS_ALONE = "parents alone"
+READ = "bw_seat_read of 1 MiB"
+SERVED = "bw_seat_serve_slice of 1 MiB"
 C_HASH = "bw_hash"
 C_CHECK = "bw_check_combined"
+C_CHECK_REFUSED = "bw_check_combined, damaged in its last byte"
 C_COMMITS_ONE = "bw_seat_commit by one thread"
 C_COMMITS_FOUR = "bw_seat_commit by four threads"
 C_READS_ONE = "bw_seat_read by one thread"
 C_READS_FOUR = "bw_seat_read by four threads"
 C_HASH_FIRST = "bw_hash of the first 64 MiB"
+C_UPDATE_SMALL = "bw_hasher_update in pieces of 64 KiB"
+C_UPDATE_LARGE = "bw_hasher_update in pieces of 1 MiB"
+C_AUDIT = "bw_audit"
+C_OUTLINE_NEW = "bw_outline_new"
 C_FEED_SMALL = "bw_feed_take_many in pieces of 64 KiB"
 C_FEED_LARGE = "bw_feed_take_many in pieces of 256 KiB"
 C_FEED_NODES = "bw_feed_take"
@@ -90,9 +72,10 @@ C_COMMIT_ALL = "bw_seat_commit_all"
 C_COMMIT_CHUNKS = "bw_seat_commit_chunks"
 C_OUTLINE_COMMIT = "bw_outline_commit"
 C_GATHER = "bw_gather"
+C_GATHER_FOUR = "bw_gather by four threads"
+C_WHOLE = "bw_gather and bw_seat_finish"
 
-# The table: a name of what was timed, and how it worked. Lines of the program bench have their names from there;
-# a further way that it prints needs a line here, and one below where it has a ratio.
+# The table: a name of what was timed, and how it worked. Those of calls have their names from c/compare.c and c/pieces.c.
 ROWS = [
     (HASH, "whole program, as a user runs it"),
     (B3SUM_FOUR, "whole program, several threads"),
@@ -106,7 +89,8 @@ ROWS = [
     (COPY_FILE, "the system's copy of as many bytes as decode writes"),
     (SLICED, "whole program, of the middle of the file, writes a file"),
     (DECODE, "whole program, one thread, checks the file's combined encoding, writes the file"),
-    (DECODE_TO_DISK, "as before, with OUT in the folder of temporary files, whose device its sync waits for"),
+    (DECODE_REFUSED, "as before, of an encoding whose last byte is changed, which it refuses"),
+    (DECODE_TO_DISK, "as decode, with OUT in the folder of temporary files, whose device its sync waits for"),
     (DECODE_BESIDE, "whole program, verifies the file beside its outboard encoding, writes it"),
     (HASH_GATHERED, "whole program, as a user runs it, of the first 64 MiB"),
     (GATHER, "whole program, four workers, window by window, of the combined encoding of the first 64 MiB"),
@@ -117,56 +101,30 @@ ROWS = [
     (GATHER_LONG, "as before, of a blob that may have any length"),
     (GATHER_LONGER, "whole program, four workers, window by window, of the combined encoding of all"),
     (GATHER_SALVAGE, "whole program, four workers, of three such encodings, each with another byte damaged in one of 16 groups"),
-    ("hash", "b3tree::hash in one process, one thread"),
-    ("hash_join", "bao_read::hash_join in one process, several threads"),
-    (POOL_ONE, "bao_read::hash_pool in one process, one worker"),
-    (POOL_FOUR, "bao_read::hash_pool in one process, four workers"),
-    (PIECES_ONE, "b3tree::hash of one piece in one process, one thread, as often as the file has such pieces"),
-    (PIECES_FOUR, "as before, by four threads, which share a count of how often, and nothing else"),
-    *((EACH[kib], f"b3tree::hash in one process, one thread, of each {kib} KiB of the first MiB by itself") for kib in SMALL),
+    (PIECES_ONE, "C library in one process, one POSIX thread, of one piece, as often as the file has such pieces"),
+    (PIECES_FOUR, "as before, by four POSIX threads, which share a count of how often, and nothing else"),
+    *((EACH[kib], f"C library in one process, one thread, of each {kib} KiB of the first MiB by itself") for kib in SMALL),
     *((OF_BLAKE3_EACH[kib], f"BLAKE3's own C library, held to AVX2, in one process, one thread, of each {kib} KiB of the first MiB by itself") for kib in SMALL),
-    (SMALL_PIECES, "b3tree::Hasher in one process, one thread"),
-    (LARGE_PIECES, "b3tree::Hasher in one process, one thread"),
-    (FILE_ONE, "bao_read::hash_source in one process, one thread, reads the file in pieces"),
-    (FILE_FOUR, "bao_read::hash_source in one process, several threads, reads the file in pieces"),
-    (SLICE, "bao_text::cut_slice in one process, one thread, from the file's combined encoding"),
+    (SLICE, "C library in one process, one thread, from the file's combined encoding"),
     (SLICE_OF_SIXTEENTH, "as before, from a combined encoding a sixteenth as long"),
     (LARGER_SLICE, "as before, from the file's combined encoding"),
-    (CHECK, "bao_check::check_combined in one process, one thread, of the file's combined encoding"),
-    (CHECK_JOINED, "bao_join::check_combined_join in one process, several threads, of the same"),
-    (CHECK_OUTBOARD, "bao_check::check_outboard in one process, one thread, of the file's outboard encoding"),
-    (CHECK_BARE, "bao_check::check_bare in one process, one thread, of the file beside its outboard encoding, which is checked before"),
-    (CHECK_SLICE, "bao_check::check_slice in one process, one thread, of a slice of it"),
-    (AUDIT, "bao_bind::audit in one process, one thread, of the file and its combined encoding, which agree"),
-    (HASH_OF_GATHERED, "b3tree::hash in one process, one thread, of the first 64 MiB"),
-    (GATHER_TEXTS, "gather::gather_texts in one process, one worker, of their combined encoding"),
-    (INTO_EMPTY, "store_core's take and commit of 64 chunks in one process, where the store holds nothing"),
+    (INTO_EMPTY, "C library's take, check and commit of 64 chunks in one process, where the store holds nothing"),
     (INTO_FULL, "as before, where it holds 64 MiB"),
-    (OUT_OF_ONE, "store_core's read of 64 chunks in one process, where the store holds no others"),
+    (OUT_OF_ONE, "C library's read of 64 chunks in one process, where the store holds no others"),
     (OUT_OF_FULL, "as before, where it holds 64 MiB"),
-    (STORES, "129 words for each chunk of the first 64 MiB, in one process, one thread, each store in one order for all threads"),
-    (COMMITS_ONE, "store_shared's commits of these chunks in one process, one seat on one thread, which claims them"),
-    (COMMITS_FOUR, "as before, four seats on a thread each"),
-    (COPY, "of the first 64 MiB, in one process, one thread"),
-    (READS_ONE, "store_shared's read of these bytes in one process, one seat on one thread, the mean of four reads"),
-    (READS_FOUR, "as before, four seats on a thread each, a quarter by each"),
-    (TAKES_OF_ONE, "store_shared's take and give in one process, one thread, in a store of one group"),
+    (TAKES_OF_ONE, "C library's take and give in one process, one thread, in a store of one group"),
     (TAKES_OF_ALL, "as before, in a store of 1,024 groups"),
-    (SERVED_SHARED, "store_shared's serve_slice in one process, one seat on one thread, out of a store of the first 64 MiB with all parents, the mean of 16"),
-    (READ_SHARED, "store_shared's read of the same bytes, the mean of 16"),
-    (SERVED_ALONE, "store_core's serve_slice in one process, out of such a one-thread store, the mean of 16"),
-    (READ_ALONE, "store_core's read of the same bytes, the mean of 16"),
-    (RUN_ONE, "crews::run in one process, one worker, of the combined encoding of the first 64 MiB"),
-    (RUN_FOUR, "as before, four workers"),
-    (PARENTS_ALONE, "store_shared's commit_parents of the same groups' slices in one process, one seat on one thread, where the length is recorded, with finding these groups"),
+    (COPY, "of the first 64 MiB, in one process, one thread"),
     (C_HASH, "C library in one process, one thread"),
     (C_CHECK, "C library in one process, one thread, of the file's combined encoding"),
+    (C_CHECK_REFUSED, "as before, where that isn't accepted"),
     (C_COMMITS_ONE, "C library in one process, one POSIX thread with a seat, of the slices of the groups of the first 64 MiB, which it checks and had claimed"),
     (C_COMMITS_FOUR, "as before, four POSIX threads with a seat each"),
     (C_READS_ONE, "C library in one process, one POSIX thread with a seat, of these bytes, the mean of four reads"),
     (C_READS_FOUR, "as before, four POSIX threads with a seat each, a quarter by each"),
     (C_HASH_FIRST, "C library in one process, one thread, as all that follow"),
-    ("bw_hasher_update in pieces of 64 KiB", "of the same, with the hash"),
+    (C_UPDATE_SMALL, "of the same, with the hash"),
+    (C_UPDATE_LARGE, "as before"),
     ("bw_xof of 1 MiB", "of output, of no bytes"),
     ("bw_encode", "of the same 64 MiB, in the caller's memory"),
     ("bw_outboard", "as before"),
@@ -175,13 +133,13 @@ ROWS = [
     ("bw_check_slice of 1 MiB", "of that slice"),
     ("bw_check_outboard", "of their outboard encoding"),
     ("bw_check_bare", "of the same beside their outboard encoding, which is checked before"),
-    ("bw_audit", "of the same and their combined encoding, which agree"),
+    (C_AUDIT, "of the same and their combined encoding, which agree"),
     (C_DECODE, "of their combined encoding"),
     (C_FEED_SMALL, "as before"),
     (C_FEED_LARGE, "as before"),
     (C_FEED_NODES, "as before, node by node, each asked for by bw_feed_wants"),
     ("bw_feed_push", "of their outboard encoding, in pieces of 64 KiB, with the outline of it"),
-    ("bw_outline_new", "of their outboard encoding"),
+    (C_OUTLINE_NEW, "of their outboard encoding"),
     (C_OUTLINE, "of the same beside it, 64 KiB at a time"),
     ("bw_outline_slice", "as before"),
     ("bw_store_new", "with room for them"),
@@ -192,8 +150,11 @@ ROWS = [
     ("bw_seat_commit_parents", "of the slice of each group, which is cut out of their combined encoding"),
     ("bw_seat_settle", "of the slice of the last byte"),
     (C_GATHER, "of their combined encoding, into an empty store"),
+    (C_GATHER_FOUR, "as before, by four POSIX threads with a seat each"),
+    (C_WHOLE, "as by one thread, with a new store and all that is read out of it and hashed"),
     ("bw_seat_salvage of a full store", "where nothing is left to be asked for"),
-    ("bw_seat_serve_slice of 1 MiB", "out of a full store"),
+    (SERVED, "out of a full store"),
+    (READ, "as before"),
     ("bw_seat_finish", "as before, of all"),
 ]
 
@@ -220,7 +181,7 @@ CALLS = [
 
 # The table of memory: a name, how it was measured, and what is wanted of it.
 MEMORY = [
-    ("a shared store keeps", "store_shared's Assembly::new with room for 65,536 chunks, in a process with little else", "below 70"),
+    ("a shared store keeps", "C library's bw_store_new with room for 65,536 chunks, in a process with little else", "below 70"),
     ("a shared store takes at most", "as before, while it is made", "below 140"),
 ]
 
@@ -247,18 +208,13 @@ RATIOS = [
     ("several threads", B3SUM_READ_FOUR, HASH, "at least 1.0 on four processors"),
     ("one thread", B3SUM_ONE, HASH_ONE, "at least 0.42"),
     ("one thread", B3SUM_READ_ONE, HASH_ONE, ""),
-    ("several threads", B3SUM_FOUR, FILE_FOUR, ""),
-    ("one thread", B3SUM_ONE, FILE_ONE, ""),
-    ("one thread", B3SUM_ONE, "hash", "at least 0.55"),
-    ("several threads", "hash", "hash_join", "at least 2.5 on four processors"),
-    ("one thread", "hash", POOL_ONE, ""),
-    ("several threads", "hash", POOL_FOUR, "at least 3.0 on four processors"),
+    ("one thread", B3SUM_ONE, C_HASH, "at least 0.55"),
+    ("several threads", HASH_ONE, HASH, "at least 2.5 on four processors"),
     ("several threads", PIECES_ONE, PIECES_FOUR, "4 on four processors of their own: what threads are worth on this machine"),
-    ("several threads", FILE_ONE, FILE_FOUR, ""),
     ("one thread", EACH[64], EACH[8], "at least 0.7: small files"),
     *(("one thread", EACH[kib], OF_BLAKE3_EACH[kib], "at most 1.4") for kib in SMALL),
-    ("one thread", SMALL_PIECES, "hash", "at most 1.3"),
-    ("one thread", LARGE_PIECES, "hash", "at most 1.1"),
+    ("one thread", C_UPDATE_SMALL, C_HASH_FIRST, "at most 1.3"),
+    ("one thread", C_UPDATE_LARGE, C_HASH_FIRST, "at most 1.1"),
     ("one thread", OUTBOARD, HASH_ONE, "at most 1.5"),
     ("several threads", ENCODE, HASH_ONE, "at most 2.2"),
     ("several threads", DECODE, HASH_ONE, "at most 3.5"),
@@ -266,12 +222,13 @@ RATIOS = [
     ("as a user runs it", DECODE, COPY_FILE, "1 is what the system takes to read and write as many bytes"),
     ("one thread", SLICE, SLICE_OF_SIXTEENTH, "about 1: not with the encoding"),
     ("one thread", LARGER_SLICE, SLICE, "about 8: with the slice"),
-    ("one thread", CHECK, "hash", "at most 1.1"),
-    ("several threads", CHECK, CHECK_JOINED, "at least 2.5 on four processors"),
-    ("one thread", CHECK_OUTBOARD, "hash", "at most 0.1"),
-    ("one thread", CHECK_BARE, "hash", "at most 1.1"),
-    ("one thread", AUDIT, "hash", "at most 1.3: one hash and one comparison"),
-    ("one thread", GATHER_TEXTS, HASH_OF_GATHERED, "at most 3.5: a check, a store, a read and a hash"),
+    ("as a user runs it", DECODE_REFUSED, DECODE, "at most 1.1: a refusal"),
+    ("one thread", C_CHECK, C_HASH, "at most 1.1"),
+    ("one thread", C_CHECK_REFUSED, C_CHECK, "at most 1.1: a refusal"),
+    ("one thread", C_OUTLINE_NEW, C_HASH_FIRST, "at most 0.1"),
+    ("one thread", C_OUTLINE, C_HASH_FIRST, "at most 1.1"),
+    ("one thread", C_AUDIT, C_HASH_FIRST, "at most 2.4: a check, one hash and one comparison"),
+    ("one thread", C_WHOLE, C_HASH_FIRST, "at most 3.5: a check, a store, a read and a hash"),
     ("as a user runs it", GATHER, HASH_GATHERED, "at most 6"),
     ("as a user runs it", GATHER_TEN, GATHER, "at most 3"),
     ("as a user runs it", GATHER_LONG, HASH_GATHERED, "at most 8"),
@@ -280,25 +237,16 @@ RATIOS = [
     ("as a user runs it", GATHER_COMMON, GATHER, "at most 4"),
     ("one thread", INTO_FULL, INTO_EMPTY, "about 1: not with what the store holds"),
     ("one thread", OUT_OF_FULL, OUT_OF_ONE, "about 1: not with what the store holds"),
-    ("one thread", COMMITS_ONE, STORES, "at most 1.5"),
-    ("several threads", COMMITS_ONE, COMMITS_FOUR, "at least 2.5 on four processors"),
-    ("one thread", COPY, READS_ONE, "at least 0.3"),
-    ("several threads", READS_ONE, READS_FOUR, "at least 2.5 on four processors"),
+    ("one thread", COPY, C_READS_ONE, "at least 0.3"),
     ("one thread", TAKES_OF_ALL, TAKES_OF_ONE, "about 1: not with the store"),
-    ("one thread", SERVED_SHARED, READ_SHARED, "at most 3"),
-    ("one thread", SERVED_ALONE, READ_ALONE, "at most 3"),
-    ("several threads", RUN_ONE, RUN_FOUR, "at least 2.5 on four processors"),
-    ("one thread", PARENTS_ALONE, RUN_ONE, "at most 0.09: so run takes at most 1.1 of its time without parents"),
-    ("one thread", C_HASH, "hash", "at most 1.05"),
-    ("one thread", C_CHECK, CHECK, "at most 1.05"),
-    ("one thread", C_READS_ONE, READS_ONE, ""),
+    ("one thread", SERVED, READ, "at most 3"),
+    ("several threads", C_GATHER, C_GATHER_FOUR, "at least 2.5 on four processors"),
     ("several threads", C_COMMITS_ONE, C_COMMITS_FOUR, "at least 2.5 on four processors"),
     ("several threads", C_READS_ONE, C_READS_FOUR, "at least 2.5 on four processors"),
     ("one thread", C_DECODE, C_HASH_FIRST, ""),
     ("one thread", C_FEED_SMALL, C_HASH_FIRST, "at most 1.3"),
     ("one thread", C_FEED_LARGE, C_HASH_FIRST, ""),
     ("one thread", C_FEED_NODES, C_HASH_FIRST, ""),
-    ("one thread", C_OUTLINE, C_HASH_FIRST, ""),
     ("one thread", C_COMMIT_CHUNKS, C_HASH_FIRST, ""),
     ("one thread", C_COMMIT_ALL, C_COMMIT_CHUNKS, ""),
     ("one thread", C_OUTLINE_COMMIT, C_COMMIT_ALL, ""),
@@ -345,20 +293,19 @@ RUN = ["date", "commit", "machine", "build", "load", "mib", "runs", "what"]
 
 # Why a figure is missed that is, as far as it is known.
 WHY = {
-    ratio_name("several threads", "hash", POOL_FOUR): "virtual processors share cores: see the row of 16 KiB",
+    ratio_name("several threads", HASH_ONE, HASH): "virtual processors share cores: see the row of 16 KiB",
     ratio_name("one thread", EACH[2], OF_BLAKE3_EACH[2]): "that library has two chunks side by side in one vector, row by row",
     ratio_name("one thread", EACH[4], OF_BLAKE3_EACH[4]): "that library has two chunks side by side in one vector, row by row",
     ratio_name("one thread", SLICE, SLICE_OF_SIXTEENTH): "the cache was in another state for each; since each comes after a slice of 8 MiB, 1.02 was measured",
-    ratio_name("one thread", CHECK_BARE, "hash"): "eight neighbouring chunks at a time leave the processor less to read ahead: 1.02 of 1 MiB, which stays in its cache",
+    ratio_name("one thread", C_OUTLINE, C_HASH_FIRST): "eight neighbouring chunks at a time leave the processor less to read ahead: 1.02 of 1 MiB, which stays in its cache",
     ratio_name("one thread", OUT_OF_FULL, OUT_OF_ONE): "the cache was in another state for each; since each is read twice, 1.05 was measured",
-    ratio_name("one thread", AUDIT, "hash"): "the piece's chunks are read once more, out of memory and not out of a cache",
-    ratio_name("one thread", GATHER_TEXTS, HASH_OF_GATHERED): "two fresh 64 MiB, beside the check and the hash",
+    ratio_name("one thread", C_WHOLE, C_HASH_FIRST): "two fresh 64 MiB, beside the check and the hash",
     ratio_name("as a user runs it", GATHER, HASH_GATHERED): "each window is hashed and written on one thread, while the next one is filled",
     ratio_name("as a user runs it", GATHER_LONG, HASH_GATHERED): "each window is hashed and written on one thread, while the next one is filled",
     ratio_name("as a user runs it", GATHER_LONGER, HASH): "each window is hashed and written on one thread, while the next one is filled",
-    ratio_name("several threads", COMMITS_ONE, COMMITS_FOUR): "starting four threads takes up to 4 ms, beside 13 of work",
+    ratio_name("several threads", C_COMMITS_ONE, C_COMMITS_FOUR): "starting four threads takes up to 4 ms, beside 13 of work",
     ratio_name("several threads", ENCODE, HASH_ONE): "more than half of its time is the kernel's, for fresh pages of what is written",
-    ratio_name("several threads", READS_ONE, READS_FOUR): "other work beside it; of 64 MiB with nothing else at work 2.63 was measured, and 2.58 of commits",
+    ratio_name("several threads", C_READS_ONE, C_READS_FOUR): "other work beside it; of 64 MiB with nothing else at work 2.63 was measured, and 2.58 of commits",
     ratio_name("one thread", C_FEED_SMALL, C_HASH_FIRST): "of 1 MiB, which stays in the processor's cache, 1.29 was measured; a piece has a copy of its chunks, 8 turns of the lanes where 7.5 would be full, and 11 parents one by one, and its lanes wait for memory more than those of the hash",
     "a shared store keeps, MB": "4.2 of it are for parents",
     "a shared store takes at most, MB": "the list of zeros and the table's copy of it",
@@ -366,18 +313,47 @@ WHY = {
 
 # What the plot shows, from top to bottom.
 PLOTTED = [
-    ("hash: b3sum's time / ours, one thread", ratio_name("one thread", B3SUM_ONE, "hash")),
-    ("check: of a combined encoding / hash, one thread", ratio_name("one thread", CHECK, "hash")),
+    ("hash: b3sum's time / ours, one thread", ratio_name("one thread", B3SUM_ONE, C_HASH)),
+    ("check: of a combined encoding / hash, one thread", ratio_name("one thread", C_CHECK, C_HASH)),
     ("decode: the program's / hash on one thread", ratio_name("several threads", DECODE, HASH_ONE)),
     ("gather: the program's, one true file / hash on four threads", ratio_name("as a user runs it", GATHER, HASH_GATHERED)),
 ]
 
 
+# The figures that were measured through the Rust crates until 2026-11-30, in one process: each with the one that goes through the C library now, or None.
+FORMER = {
+    "one thread: b3sum --num-threads 1 / hash": ratio_name("one thread", B3SUM_ONE, C_HASH),
+    "one thread: Hasher, pieces of 64 KiB / hash": ratio_name("one thread", C_UPDATE_SMALL, C_HASH_FIRST),
+    "one thread: Hasher, pieces of 1 MiB / hash": ratio_name("one thread", C_UPDATE_LARGE, C_HASH_FIRST),
+    "one thread: cut_slice of 1 MiB / cut_slice of 1 MiB, a sixteenth of the file": ratio_name("one thread", SLICE, SLICE_OF_SIXTEENTH),
+    "one thread: cut_slice of 8 MiB / cut_slice of 1 MiB": ratio_name("one thread", LARGER_SLICE, SLICE),
+    "one thread: check_combined / hash": ratio_name("one thread", C_CHECK, C_HASH),
+    "one thread: check_outboard / hash": ratio_name("one thread", C_OUTLINE_NEW, C_HASH_FIRST),
+    "one thread: check_bare / hash": ratio_name("one thread", C_OUTLINE, C_HASH_FIRST),
+    "one thread: gather_texts / hash of the gathered": ratio_name("one thread", C_WHOLE, C_HASH_FIRST),
+    "one thread: a plain copy / reads by one seat": ratio_name("one thread", COPY, C_READS_ONE),
+    "one thread: 1 MiB served by a shared store / 1 MiB read from a shared store": ratio_name("one thread", SERVED, READ),
+    "several threads: run by one worker / run by four workers": ratio_name("several threads", C_GATHER, C_GATHER_FOUR),
+    "several threads: hash / hash_join": None,
+    "several threads: hash / hash_pool, 4 workers": None,
+    "several threads: check_combined / check_combined_join": None,
+    "several threads: commits by one seat / commits by four seats": None,
+    "several threads: reads by one seat / reads by four seats": None,
+    "one thread: audit of the whole encoding / hash": None,
+    "one thread: commits by one seat / stores of as many words": None,
+    "one thread: 1 MiB served by a one-thread store / 1 MiB read from a one-thread store": None,
+    "one thread: parents alone / run by one worker": None,
+    "one thread: bw_hash / hash": None,
+    "one thread: bw_check_combined / check_combined": None,
+}
+
+
 def history():
-    """Returns the runs: of each its cells by their columns."""
+    """Returns the runs: of each its cells by their columns, those of a figure's former name under that of today."""
     with open(HISTORY, encoding="utf-8") as it:
         head, *lines = it.read().rstrip("\n").split("\n")
-    return [dict(zip(head.split("\t"), line.split("\t"))) for line in lines]
+    head = [FORMER.get(it) or it for it in head.split("\t")]
+    return [dict(zip(head, line.split("\t"))) for line in lines]
 
 
 def ends_of(cell):

@@ -1,10 +1,6 @@
 #!/usr/bin/env python3
 """Tries the wrong bodies of crates that the gate leaves out: the prover has to refuse each.
 
-usage: python3 scripts/wrong_bodies.py [--jobs N] [--anew] [CRATE ..]
-       python3 scripts/wrong_bodies.py --read [--strict]
-       python3 scripts/wrong_bodies.py --renamed OLD=NEW .. [--since COMMIT] -- CRATE ..
-
 At the top of the repository. A wrong body is a file crates/NAME/wrong-bodies/FUNCTION.WHAT.edit, in the form of those of
 crates/NAME/must-fail/, which the gate tries; both are tried. With no CRATE it is all that crates.txt names.
 The crates below are proved first, where they aren't. Work is done on copies: first each crate is proved
@@ -24,10 +20,10 @@ body it is the crate's text. What was refused of the same is not tried again, bu
 --read proves nothing and takes seconds: it fails on an edit of either folder that can't be applied any more, or that
 stands in both, and names each crate with edits that were never tried so, or of other grounds. With --strict it fails on those too,
 but for the crates that scripts/untried.txt names, and where that names one that owes no trial.
---renamed proves nothing either: an edit that was refused in COMMIT, HEAD if left out, is noted as refused now where both the edit and
-what it was refused of are the same but for these names, as words of texts and of paths. NEW may not have been a word of the crate.
+--renamed OLD=NEW, which may be repeated, proves nothing either: an edit that was refused in the commit --since, HEAD if left out, is noted
+as refused now where both the edit and what it was refused of are the same but for these names, as words of texts and of paths. NEW may
+not have been a word of the crate.
 """
-import argparse
 import copy
 import hashlib
 import os
@@ -43,6 +39,7 @@ import time
 sys.dont_write_bytecode = True
 import grounds
 import rt_module
+import script
 
 OURS, GATES = "wrong-bodies", "must-fail"
 # How many edits are tried together at the most: a check that refuses many is long, and lanes are to end together.
@@ -146,7 +143,7 @@ class Names:
     def pair(text):
         found = re.fullmatch(r"([\w']+)=([\w']+)", text)
         if not found:
-            raise argparse.ArgumentTypeError(f"{text}: a pair is OLD=NEW, a word each")
+            sys.exit(f"wrong-bodies: {text}: a pair is OLD=NEW, a word each")
         return found.groups()
 
     @staticmethod
@@ -522,35 +519,27 @@ def try_all(rt, crates, jobs, is_anew):
     return len(refused), len(failed)
 
 
-def main():
-    asked = argparse.ArgumentParser(description=__doc__, formatter_class=argparse.RawDescriptionHelpFormatter)
-    asked.add_argument("--jobs", type=int, default=0, help="how many edits at a time (one a processor, and 2 GB of memory each)")
-    asked.add_argument("--anew", action="store_true", help="also those that were refused of the same before")
-    asked.add_argument("--read", action="store_true", help="prove nothing: say which edits can't be applied, and which crates are to be tried")
-    asked.add_argument("--strict", action="store_true", help="with --read: fail where a crate is to be tried")
-    asked.add_argument("--renamed", nargs="+", type=Names.pair, metavar="OLD=NEW", help="prove nothing: note what was refused of the same but for these names")
-    asked.add_argument("--since", metavar="COMMIT", default="HEAD", help="with --renamed: the commit with the old names (HEAD)")
-    asked.add_argument("crates", nargs="*", metavar="CRATE")
-    asked = asked.parse_args()
+def main(*crates, jobs=0, anew=False, read=False, strict=False, renamed=(), since="HEAD"):
+    """jobs is how many edits are tried at a time: if left out, one a processor, and 2 GB of memory each."""
     rt = rt_module.load()
-    crates = {it.name: it for it in rt.rtlib.crates_below(os.getcwd())}
-    unknown = [it for it in asked.crates if it not in crates]
+    known = {it.name: it for it in rt.rtlib.crates_below(os.getcwd())}
+    unknown = [it for it in crates if it not in known]
     if unknown:
         sys.exit(f"wrong-bodies: crates.txt names no crate {unknown[0]}")
-    if asked.read:
-        return read_alone(rt, crates.values(), asked.strict)
-    chosen = [it for it in crates.values() if not asked.crates or it.name in asked.crates]
-    if asked.renamed:
+    if read:
+        return read_alone(rt, known.values(), strict)
+    chosen = [it for it in known.values() if not crates or it.name in crates]
+    if renamed:
         for it in chosen:
-            carry(rt, it, Names(asked.renamed), asked.since)
+            carry(rt, it, Names(map(Names.pair, renamed)), since)
         return 0
     # (its first call sets a signal's handler, which only the main thread may)
     rt.rtlib.guarded()
-    jobs = asked.jobs or max(1, min(rt.processors(), rt.free() // 2_000_000_000))
-    refused, failed = try_all(rt, chosen, jobs, asked.anew)
+    jobs = jobs or max(1, min(rt.processors(), rt.free() // 2_000_000_000))
+    refused, failed = try_all(rt, chosen, jobs, anew)
     print(f"{refused} refused, {failed} not refused")
     return 1 if failed else 0
 
 
 if __name__ == "__main__":
-    sys.exit(main())
+    script.run(main)

@@ -1,7 +1,5 @@
 """Makes the documents that can be made from the sources.
 
-usage: python3 scripts/doc
-
 At the top of the repository. The folder out/doc is made anew. Each page is there twice, as HTML and as text; index leads to all. Below
 share/ are the manual pages and the completions, as `make install` lays them. It needs neither rt nor anything that was built, and takes seconds.
 Fails where a source can't be read as it should, where a public call has no `///` line, where a page has no content, and where a link leads nowhere.
@@ -17,6 +15,7 @@ import crates
 import figures
 import graph
 import manual
+import script
 import statements
 import statuses
 import terms
@@ -80,6 +79,4 @@ def main():
 
 
 if __name__ == "__main__":
-    if len(sys.argv) > 1:
-        sys.exit(__doc__)
-    main()
+    script.run(main)

@@ -58,13 +58,13 @@ def plot(rows):
 
 def page():
     rows = wanted.history()
-    unknown = sorted({name for row in rows for name in row} - set(wanted.RUN) - set(wanted.wanted_figures()))
+    unknown = sorted({name for row in rows for name in row} - {*wanted.RUN, *wanted.wanted_figures(), *wanted.FORMER})
     if unknown or not rows:
         stop(f"bench/history.tsv has {'figures of which nothing is wanted: ' + ', '.join(unknown) if unknown else 'no rows'}")
     last = rows[-1]
     told = Table(["date", "commit", "machine", "build", "load", "MiB", "runs", "what"], [[row[it] for it in wanted.RUN] for row in reversed(rows)])
     blocks = [
-        Para("`make bench` runs the programs in turns on a file of random bytes, and takes the least time of each. A figure is a ratio of two such times, a time or an amount of memory. Nothing here is proved, and a missed figure fails nothing."),
+        Para("`make bench` runs the programs in turns on a file of random bytes, and takes the least time of each. A figure is a ratio of two such times, a time or an amount of memory. Calls are measured through the C library; until 2026-11-30 most went through the Rust crates. Nothing here is proved, and a missed figure fails nothing."),
         Para(f"The last run was on {last['date']} on {last['machine']}, built for {last['build']}."),
         Head(2, "Figures"),
         table(rows),

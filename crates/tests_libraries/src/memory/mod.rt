@@ -1,5 +1,5 @@
 //! Calls to which memory is refused: each tells so, and where something is left of it, a store or a vector, a second one does what
-//! was asked for. `rt try --test --fail-alloc N` refuses one allocation, `scripts/refuse_libraries.py` each.
+//! was asked for. `rt try --test --fail-alloc N` refuses one allocation, `make refuse` each.
 
 mod hashes;
 mod holders;
