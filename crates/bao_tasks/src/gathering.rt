@@ -401,6 +401,10 @@ fn encode_draft<
     let Ok(mut draft) = disk.draft(path) else {
         return Err(GatheredFault::File(FileFault::Memory));
     };
+    // OUT itself would be written, if it can't be looked at once more.
+    if !disk.is_replaced(&draft) {
+        return Err(GatheredFault::File(FileFault::Write(path)));
+    }
     let count = gather_into(rt, wanted, taken, path, &mut draft)?;
     let mut blob = disk.read_back(draft, path)?;
     let combined = Encoding::Combined;
