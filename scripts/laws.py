@@ -19,16 +19,9 @@ from project import Project, expanded, text_of
 
 # The crates of laws, and of whose calls each has them. No crate can stand on a static library, so that it has its own; bao_plan's are of any list of its calls.
 OF = {
-    "determined_b3": ["b3word", "b3tree", "bao_text"],
-    "determined_check": ["bao_check", "bao_feed", "bao_bind"],
-    "determined_store": ["store_core"],
-    "determined_shared": ["store_steps", "store_calls", "store_shared"],
-    "determined_gather": ["gather", "crews"],
-    "determined_windows": ["bao_windows"],
-    "determined_files": ["bao_read", "bao_files"],
-    "determined_tasks": ["bao_decode", "bao_tasks"],
-    "determined_program": ["bao_script", "bao_request"],
-    "determined_command": ["bao_command"],
+    "determined_texts": ["b3word", "b3tree", "bao_text", "bao_check", "bao_bind"],
+    "determined_stores": ["holders", "store_core", "store_steps", "store_shared", "gather"],
+    "determined_program": ["b3par", "bao_windows", "bao_files", "bao_decode", "bao_tasks", "bao_script", "bao_request", "bao_command"],
     "bao_plan": ["bao_plan"],
     "berylwool": ["berylwool"],
 }

@@ -14,8 +14,6 @@ import re
 import script
 
 LAWS = {"crates/b3tree/proofs/Examples.antt", "crates/bao_text/proofs/Laws.antt"}
-# What goes with the next change of its crate: taking it out alone would have everything above proved anew.
-OWED = {("crates/bao_check/specs/Subtree.antt", "subtree_len")}
 OF_FUNCTIONS = re.compile(r"/(?:Answers|Invariants|Proof)\.antt$")
 COMMENT = re.compile(r"(?m)--.*$")
 NAME = re.compile(r"[^\s(){}\[\],;.λ↦:=|`]+")
@@ -35,7 +33,7 @@ def main():
     texts = {it: COMMENT.sub("", open(it, encoding="utf-8").read()) for it in files}
     counts = collections.Counter(name for it in texts.values() for name in NAME.findall(it))
     looked = [it for it in texts if it.endswith(".antt") and not OF_FUNCTIONS.search(it) and it not in LAWS]
-    found = [f"{it}: nothing cites {name}" for it in looked for name, own in stated(texts[it], "/proofs/" in it).items() if counts[name] <= own and (it, name) not in OWED]
+    found = [f"{it}: nothing cites {name}" for it in looked for name, own in stated(texts[it], "/proofs/" in it).items() if counts[name] <= own]
     print("\n".join([*found, f"{len(looked)} files of definitions and lemmas, {len(found)} that nothing cites"]))
     return bool(found)
 

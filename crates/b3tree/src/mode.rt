@@ -12,7 +12,8 @@ pub struct Mode {
     key: [u32; 8],
     domain: u32,
 
-    // None of the four flags of the tree.
+    // None of the four flags of the tree: a parent's input has PARENT and a chunk's hasn't, so that the two are
+    // never equal, and a collision of a parent and a chunk is of two different inputs.
     ghost apart: { domain % 16 ≡ 0 },
 }
 

@@ -25,9 +25,8 @@ use Rattle.bao_check.specs.declared.part.WaitingPart.{WaitingPart}
 use Rattle.bao_check.specs.Accepted.{part_value, slice_nodes}
 use Rattle.bao_check.specs.Checking.{IsNodeFault}
 use Rattle.bao_check.specs.Streams.{IsOfBytes}
-use Rattle.bao_check.specs.Subtree.{PassesIn, StopsIn}
 use Rattle.bao_check.specs.Waiting.{AllCome, AreParts, FirstComes, HasRefused, HasRefusedIn, HasTaken, IsBefore, IsAcceptedAs, IsFaultAs, IsStopAs, CheckTask, PartComes, WaitsIn, last_part, next_size, part_size, shape}
-use Rattle.bao_check.specs.Walk.{Meets, asked_root, chunk_at, parent_at}
+use Rattle.bao_check.specs.Walk.{Meets, PassesIn, StopsIn, asked_root, chunk_at, parent_at}
 use Rattle.bao_check.specs.Whole.{StandsAt}
 use Rattle.bao_check.proofs.Parts.{below}
 use Rattle.bao_check.proofs.Laws.{first_fault-not_accepted}

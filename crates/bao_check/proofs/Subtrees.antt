@@ -16,8 +16,7 @@ use Rattle.bao_check.specs.declared.form.EncodingForm.{EncodingForm}
 use Rattle.bao_check.specs.Accepted.{IsAccepted, IsGoodNode, places_of}
 use Rattle.bao_check.specs.Faults.{IsFaultAt, IsFirstFault, IsFirstStop, IsTrailingAt}
 use Rattle.bao_check.specs.Forms.{choice_of, form_nodes}
-use Rattle.bao_check.specs.Subtree.{PassesIn, StopsIn}
-use Rattle.bao_check.specs.Walk.{IsStop, IsTopStop, Meets, Passes, Stops, asked_root, chunk_at, parent_at}
+use Rattle.bao_check.specs.Walk.{IsStop, IsTopStop, Meets, Passes, PassesIn, Stops, StopsIn, asked_root, chunk_at, parent_at}
 use Rattle.bao_check.proofs.Parts.{below}
 use Rattle.bao_check.proofs.EachNode.{leaf_without}
 use Rattle.bao_check.proofs.Walking.{both_passes, chunk_passes, chunk_stops, far_stops, near_stops, none_passes, parent_stops}

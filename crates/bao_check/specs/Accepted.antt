@@ -20,7 +20,8 @@ end_of place = place.0 + size place.1
 abbrev pub bytes_at : List ℕ → ℕ × TreeNode → List ℕ
 bytes_at text place = take (size place.1) (drop place.0 text)
 
--- the half of a parent's 64 bytes that is the chaining value of the child on a side
+-- The half of a parent's 64 bytes that is the chaining value of the child on a side. It is `unfoldable`, since opened
+-- everywhere it makes the statements about a walk too large for the prover.
 unfoldable pub part_value : Side → List ℕ → List ℕ
 part_value left bytes = words_of 8 (take 32 bytes)
 part_value right bytes = words_of 8 (drop 32 bytes)

@@ -12,7 +12,8 @@ use Rattle.b3tree.specs.Valid.{AreBytes}
 use Rattle.bao_text.specs.Nodes.{Side, left, right}
 use Rattle.bao_check.specs.Accepted.{part_value}
 
--- a parent on the path, by its bytes, and the side on which the path continues
+-- A parent on the path, by its bytes, and the side on which the path continues. They are one list: of two lists of
+-- values the first could have all 16 words, which leaves the second free, and any bytes would have a certificate.
 pub record Step : Type 0 where
   pub parent : List ℕ
   pub side : Side

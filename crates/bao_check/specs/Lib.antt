@@ -18,12 +18,13 @@ pub mod Checked
 pub mod Tail
 pub mod Leaves
 pub mod Outline
+pub mod Verified
+pub mod Feeds
 pub mod Bare
 pub mod BareWalk
 pub mod Whole
 pub mod Laws
 pub mod Streams
-pub mod Subtree
 pub mod Waiting
 pub mod Decoded
 pub mod Checking

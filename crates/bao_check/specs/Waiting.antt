@@ -12,7 +12,7 @@ use Rattle.bao_check.specs.declared.fault.CheckFault.TheVariants.{Mismatch, Trai
 use Rattle.bao_check.specs.declared.part.WaitingPart.{WaitingPart}
 use Rattle.bao_check.specs.Accepted.{IsAccepted, slice_nodes}
 use Rattle.bao_check.specs.Faults.{IsFirstFault, IsFirstStop}
-use Rattle.bao_check.specs.Subtree.{PassesIn, StopsIn}
+use Rattle.bao_check.specs.Walk.{PassesIn, StopsIn}
 
 -- the subtree of a part
 abbrev pub shape : WaitingPart → WaitingSubtree

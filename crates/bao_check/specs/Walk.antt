@@ -7,7 +7,8 @@ use Rattle.b3tree.specs.declared.mode.Mode.{Mode}
 use Rattle.b3tree.specs.Bytes.{words_of}
 use Rattle.b3tree.specs.Chunk.{last_chunk_input}
 use Rattle.b3tree.specs.Tree.{parent_input}
-use Rattle.bao_text.specs.Nodes.{TreeNode, Side, left, placed_nodes, right, size}
+use Rattle.bao_text.specs.declared.choice.Choice.{Choice}
+use Rattle.bao_text.specs.Nodes.{TreeNode, Side, left, placed_nodes, right, size, subtree_nodes}
 use Rattle.bao_check.specs.declared.asked.Asked.{Asked}
 use Rattle.bao_check.specs.declared.fault.CheckFault.{CheckFault}
 use Rattle.bao_check.specs.declared.fault.CheckFault.TheVariants.{Short, Mismatch, Trailing, Memory, Reader}
@@ -62,6 +63,17 @@ pub record Stops (asked : Asked) (sides : List Side) (mode : Mode) (text : List 
   pub good : AreGoodUpTo asked sides mode text places place
   pub ends : end ≡ end_of place
   pub is : IsStop asked sides mode text places place fault
+
+-- The walk through the wanted nodes of the subtree over n bytes from chunk `number` on, which begin at offset
+-- `at` of the encoding, succeeds, and ends at offset `end`.
+pub record PassesIn (asked : Asked) (mode : Mode) (choice : Choice) (number n : ℕ) (text : List ℕ) (at end : ℕ) : Type 0 where
+  pub within : end ≤ length text
+  pub passes : (sides : List Side) (source : ℕ) → Passes asked sides mode text at end (subtree_nodes choice number n sides source)
+
+-- The walk stops with this fault at a node that is incomplete or isn't good and ends at `end`.
+abbrev pub StopsIn : Asked → Mode → Choice → ℕ → ℕ → List ℕ → ℕ → CheckFault → ℕ → Type 0
+StopsIn asked mode choice number n text at fault end =
+    (sides : List Side) (source : ℕ) → Stops asked sides mode text (placed_nodes at (subtree_nodes choice number n sides source)) fault end
 
 -- the fault of a node from `at` to `end` that makes this input, if it is incomplete or doesn't have the value
 -- required

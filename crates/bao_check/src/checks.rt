@@ -13,9 +13,9 @@ use crate::checked::Checked;
 use crate::fault::CheckFault;
 use crate::form::EncodingForm;
 use crate::outline::Outline;
-use crate::subtree::Subtree;
+use crate::walk::check_subtree;
 use b3tree::{CHUNK_LEN, Cv, Hash, Mode};
-use bao_text::{LENGTH_LEN, chunk_count};
+use bao_text::{LENGTH_LEN, chunk_count, claimed};
 use std::alloc::Global;
 
 // Checks an encoding of the form that is there as a whole.
@@ -23,7 +23,13 @@ fn check_bytes(mode: &Mode, root: &Hash, form: &EncodingForm, text: &[u8]) -> Re
     ensures { MatchResult result (λ _. IsAccepted mode.now root.now.0 text.now (form_nodes form.now text.now))
         (λ fault. IsFirstFault mode.now root.now.0 text.now (form_nodes form.now text.now) fault) }
 {
-    let at = Subtree::of_form(mode, root, form, text)?.check(text)?;
+    if text.len() < LENGTH_LEN {
+        return Err(CheckFault::Short { at: 0 });
+    }
+    let total = claimed(text);
+    let choice = form.choice(total);
+    let asked = Asked::of_root(root);
+    let at = check_subtree(text, LENGTH_LEN, &choice, mode, &asked, 0, total)?;
     if at < text.len() {
         return Err(CheckFault::Trailing { at: at as u64 });
     }
@@ -41,6 +47,7 @@ fn check_bytes(mode: &Mode, root: &Hash, form: &EncodingForm, text: &[u8]) -> Re
 /// whole and verified before the next.
 #[tactic(auto, using(crate::proofs::Laws::apart))]
 pub fn check_slice<'a>(
+    // Not used: it is there so that a later body may take memory.
     _alloc: Global,
     mode: &Mode,
     root: &Hash,

@@ -9,6 +9,7 @@ pub use checked::Checked;
 pub use checking::{Checking, Decoded};
 pub use checks::{bare_fits, check_bare, check_combined, check_outboard, check_slice};
 pub use fault::CheckFault;
+pub use feed::OutboardFeed;
 pub use law::{
     accepted_binds, bare_accepted, certificate_binds, nodes_make_slice, parent_binds,
     written_accepted,
@@ -16,7 +17,6 @@ pub use law::{
 pub use outline::Outline;
 pub use parent::{GROUP_BYTES, GROUP_LEN};
 pub use read::{check_stream, read_checked, read_piece};
-pub use subtree::Subtree;
 pub use tail::Tail;
 
 mod asked;
@@ -26,6 +26,8 @@ mod checking;
 mod checks;
 mod decoding;
 mod fault;
+mod feed;
+mod feed_parents;
 mod form;
 mod known;
 mod law;
@@ -36,7 +38,6 @@ mod parent;
 mod part;
 mod read;
 mod stream;
-mod subtree;
 mod tail;
 mod text_lanes;
 mod waiting;

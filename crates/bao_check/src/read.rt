@@ -70,9 +70,8 @@ pub fn read_checked<R: Read>(
     read_nodes(mode, root, start, len, reader, text)
 }
 
-/// Reads and checks as `read_checked` does, and returns the accepted slice, which borrows `text`.
-///
-/// `text` then has that encoding, or after a refusal what was read. Memory comes from its own allocator.
+/// Reads and checks as `check_stream` does. Its first parameter is `text`: of no other does the proof of a caller
+/// learn what it holds once nothing borrows it.
 pub fn read_piece<'a, R: Read>(
     text: &'a mut Vec<u8>,
     mode: &Mode,
@@ -98,8 +97,9 @@ pub fn read_piece<'a, R: Read>(
     Ok(Checked::new(mode, root, start, len, text.as_slice()))
 }
 
-/// Reads and checks as `read_piece` does, but leaves the content of `text` after a refusal unspecified. Memory
-/// comes from its own allocator.
+/// Reads and checks as `read_checked` does, and returns the accepted slice, which borrows `text`.
+///
+/// `text` then has that encoding, or after a refusal what was read. Memory comes from its own allocator.
 pub fn check_stream<'a, R: Read>(
     _alloc: Global,
     mode: &Mode,
@@ -110,6 +110,9 @@ pub fn check_stream<'a, R: Read>(
     text: &'a mut Vec<u8>,
 ) -> Result<Checked<'a>, CheckFault>
     requires { text.old.items ≡ [] }
+    ensures* rests { sem 𝓛 (Rests bytes_row text.entry (λ last.
+        MatchResult result (λ piece. last.items ≡ piece_text piece)
+        (λ fault. Consumes (R.remaining reader.old) (R.remaining reader.new) last.items × IsReadFault mode.now root.now.0 start len last.items (R.remaining reader.new) fault))) }
     ensures piece { IfOk result (λ piece. IsPiece piece mode.now root.now.0 start len (piece_text piece)) }
     ensures size { IfOk result (λ piece. length (piece_text piece) < 2 ^ 64) }
     ensures reader { IfOk result (λ piece. Consumes (R.remaining reader.old) (R.remaining reader.new) (piece_text piece)) }

@@ -2,10 +2,9 @@ ghost use Rattle.std.specs.Prelude.{◌≡◌, ℕ, ◌+◌, ◌-◌, ◌*◌, �
 ghost use Rattle.bao_text.specs.Nodes.{left, right};
 ghost use Rattle.bao_check.specs.declared.fault.CheckFault.{CheckFault};
 ghost use Rattle.bao_check.specs.Accepted.{part_value};
-ghost use Rattle.bao_check.specs.Subtree.{PassesIn, StopsIn};
 ghost use Rattle.bao_check.specs.Waiting.{below_parent};
 ghost use Rattle.bao_check.specs.Whole.{HasWholeAhead};
-ghost use Rattle.bao_check.specs.Walk.{IsTopStop, Meets, chunk_at, parent_at};
+ghost use Rattle.bao_check.specs.Walk.{IsTopStop, Meets, PassesIn, StopsIn, chunk_at, parent_at};
 
 use crate::asked::{Asked, meets};
 use crate::fault::CheckFault;

@@ -2,8 +2,8 @@
 use Rattle.std.proofs.Common.{◌≡◌, ◌≢◌, ◌⊎◌, ℕ, List, Bor, Option, Result, Ok, Err, IfErr, inl, inr, refl, ◌∙◌}
 use Rattle.b3tree.specs.declared.mode.Mode.{Mode}
 use Rattle.bao_files.specs.Disks.{FileState, KeepsFiles}
-use Rattle.gather.specs.declared.fault.GatherFault.TheVariants.{Unfinished}
-use Rattle.gather.specs.declared.grain.Grain.{Grain}
+use Rattle.bao_windows.specs.declared.fault.GatherFault.TheVariants.{Unfinished}
+use Rattle.holders.specs.declared.grain.Grain.{Grain}
 use Rattle.bao_tasks.specs.GatheredFaults.{LooksUnfinished}
 use Rattle.bao_tasks.specs.declared.gathered_fault.GatheredFault.{GatheredFault}
 use Rattle.bao_tasks.specs.declared.gathered_fault.GatheredFault.TheVariants.{Gather}

@@ -5,10 +5,10 @@ use Rattle.b3tree.specs.declared.mode.Mode.{Mode}
 use Rattle.b3tree.specs.declared.values.Hash.{Hash as Root32}
 use Rattle.bao_files.specs.Disks.{FileState, KeepsFiles}
 use Rattle.bao_files.specs.declared.fault.FileFault.{FileFault}
-use Rattle.gather.specs.declared.fault.GatherFault.TheVariants.{Unfinished}
-use Rattle.gather.specs.declared.form.Form.TheVariants.{Slices}
-use Rattle.gather.specs.declared.grain.Grain.{Grain}
-use Rattle.gather.specs.declared.grain.Grain.TheVariants.{Group as ByGroup, Chunk as ByChunk}
+use Rattle.bao_windows.specs.declared.fault.GatherFault.TheVariants.{Unfinished}
+use Rattle.holders.specs.declared.form.Form.TheVariants.{Slices}
+use Rattle.holders.specs.declared.grain.Grain.{Grain}
+use Rattle.holders.specs.declared.grain.Grain.TheVariants.{Group as ByGroup, Chunk as ByChunk}
 use Rattle.bao_tasks.specs.Listed.{lines_of_parts}
 use Rattle.bao_tasks.specs.MissingInFiles.{IsLackBeside, IsLackIn, wanted_for}
 use Rattle.bao_tasks.specs.declared.gathered_fault.GatheredFault.{GatheredFault}

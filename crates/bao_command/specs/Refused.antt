@@ -1,5 +1,5 @@
 -- what is refused with status 1: a text, or a blob, as far as the files are known
-use Rattle.std.specs.Prelude.{◌≡◌, ◌≢◌, ◌⊎◌, ℕ, ◌^◌, ◌<◌, ◌≤◌, Bool, true, false, if◌then◌else◌, List, length, Option, None, Some, Ok}
+use Rattle.std.specs.Prelude.{◌≡◌, ◌≢◌, ◌⊎◌, ℕ, ◌^◌, ◌<◌, ◌≤◌, Bool, true, if◌then◌else◌, List, length, Option, None, Some, Ok}
 use Rattle.std.specs.Borrow.{Bor}
 use Rattle.b3tree.specs.declared.mode.Mode.{Mode}
 use Rattle.b3tree.specs.declared.values.Hash.{Hash as Root32}
@@ -15,12 +15,12 @@ use Rattle.bao_text.specs.declared.kinds.Part.{Part}
 use Rattle.bao_text.specs.declared.kinds.Part.TheVariants.{Slice}
 use Rattle.bao_decode.specs.TextPass.{IsTextFault, task_of_part}
 use Rattle.bao_decode.specs.Weaving.{cut_beside}
-use Rattle.gather.specs.Large.{HasCollision, fixed_as}
-use Rattle.gather.specs.declared.form.Form.TheVariants.{Slices}
-use Rattle.gather.specs.declared.grain.Grain.{Grain}
-use Rattle.gather.specs.declared.grain.Grain.TheVariants.{Group as ByGroup, Chunk as ByChunk}
-use Rattle.store_core.specs.Laws.{IsBlob}
-use Rattle.store_core.specs.declared.fixed.Fixed.{Fixed}
+use Rattle.holders.specs.Blobs.{HasCollision, fixed_as}
+use Rattle.holders.specs.declared.form.Form.TheVariants.{Slices}
+use Rattle.holders.specs.declared.grain.Grain.{Grain}
+use Rattle.holders.specs.declared.grain.Grain.TheVariants.{Group as ByGroup, Chunk as ByChunk}
+use Rattle.holders.specs.Blobs.{IsBlob}
+use Rattle.holders.specs.declared.fixed.Fixed.{Fixed}
 use Rattle.std.specs.Io.KnownBytes.{Appends}
 use Rattle.bao_files.specs.Printed.{ok_line}
 use Rattle.bao_tasks.specs.FromFiles.{CollidesBeside, CollidesBesideOutline, HaveBytes, HaveCuts, IsFromFile, IsInFile}

@@ -12,8 +12,8 @@ use Rattle.bao_tasks.specs.declared.gathered_fault.GatheredFault.{GatheredFault}
 use Rattle.bao_tasks.specs.declared.gathered_fault.GatheredFault.TheVariants as gathered
 use Rattle.bao_tasks.specs.declared.rerun_fault.RerunFault.{RerunFault}
 use Rattle.bao_tasks.specs.declared.rerun_fault.RerunFault.TheVariants as rerun
-use Rattle.gather.specs.declared.fault.GatherFault.{GatherFault}
-use Rattle.gather.specs.declared.fault.GatherFault.TheVariants as gather
+use Rattle.bao_windows.specs.declared.fault.GatherFault.{GatherFault}
+use Rattle.bao_windows.specs.declared.fault.GatherFault.TheVariants as gather
 use Rattle.bao_script.specs.declared.fault.ReplayScriptFault.{ReplayScriptFault}
 use Rattle.bao_script.specs.declared.fault.ReplayScriptFault.TheVariants as replay
 

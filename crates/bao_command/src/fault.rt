@@ -7,7 +7,7 @@ use bao_decode::DecodeFault;
 use bao_files::{FileFault, Once};
 use bao_script::ReplayScriptFault;
 use bao_tasks::{GatheredFault, RerunFault};
-use gather::GatherFault;
+use bao_windows::GatherFault;
 use std::io::Write;
 use thiserror::Error;
 

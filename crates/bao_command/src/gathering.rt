@@ -2,7 +2,7 @@
 
 ghost use Rattle.std.specs.Prelude.{◌≡◌, ◌≢◌, ◌⊎◌, ⊤, if◌then◌else◌, ◌-◌, ◌^◌, ◌<◌, ◌≤◌, ℕ, List, Option, [], None, length, take, IfErr, IsErrAnd, IsSome, OnErr, OnOk};
 ghost use Rattle.bao_command.specs.declared.fault.Fault.TheVariants as Fault;
-ghost use Rattle.gather.specs.declared.grain.Grain.TheVariants as Grain;
+ghost use Rattle.holders.specs.declared.grain.Grain.TheVariants as Grain;
 ghost use Rattle.std.specs.Io.KnownBytes.{Appends};
 ghost use Rattle.bao_files.specs.Disks.{KeepsFiles};
 ghost use Rattle.bao_files.specs.Printed.{IsDigits, IsQuiet, ok_line};
@@ -28,7 +28,7 @@ use bao_tasks::{
     Fate, Form, GatheredFault, Gathering, Grain, Lack, MissingParts, Notes, Span, Worth,
     gather_beside_on, gather_on, list_parts,
 };
-use gather::GatherFault;
+use bao_windows::GatherFault;
 use std::io;
 use std::io::Write;
 use std::thread::Threads;

@@ -16,8 +16,8 @@ use Rattle.bao_check.specs.declared.fault.CheckFault.TheVariants.{Short, Mismatc
 use Rattle.bao_check.specs.declared.outline.Outline.{Outline}
 use Rattle.bao_check.specs.Outline.{outline_claimed, outline_mode, outline_root, outline_text}
 use Rattle.bao_files.specs.Printed.{AppendsBeginning}
-use Rattle.bao_read.specs.Given.{GivenAt}
-use Rattle.bao_read.proofs.Parts.{GivenAt-append}
+use Rattle.b3par.specs.Given.{GivenAt}
+use Rattle.b3par.proofs.Parts.{GivenAt-append}
 use Rattle.b3tree.specs.Valid.{AreBytes}
 use Rattle.b3tree.proofs.BlockWords.{AreBytes-append, AreBytes-nil}
 use Rattle.bao_text.specs.Choice.{chunk_count}

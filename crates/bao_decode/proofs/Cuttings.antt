@@ -6,7 +6,7 @@ use Rattle.std.proofs.lemmas.List.{append-nil, append_assoc, drop-append-le, dro
 use Rattle.std.proofs.lemmas.List.Sums.{sum_by-append, sum_by-cons}
 use Rattle.std.specs.Result.{result_ok}
 use Rattle.b3tree.specs.Tree.{left_len}
-use Rattle.bao_read.specs.Given.{ReadsAt}
+use Rattle.b3par.specs.Given.{ReadsAt}
 use Rattle.bao_text.specs.declared.choice.Choice.{Choice}
 use Rattle.bao_text.specs.Choice.{of_slice, wants}
 use Rattle.bao_text.specs.Cut.{claimed, cut_nodes, cut_text, has, has_all}

@@ -15,7 +15,7 @@ use Rattle.bao_check.specs.Checking.{HasDecodedAs}
 use Rattle.bao_check.specs.Waiting.{CheckTask, IsAcceptedAs}
 use Rattle.bao_text.specs.declared.kinds.Part.{Part}
 use Rattle.bao_files.specs.Printed.{AppendsBeginning}
-use Rattle.bao_read.specs.Given.{GivenAt}
+use Rattle.b3par.specs.Given.{GivenAt}
 use Rattle.bao_decode.specs.declared.copy_pass.PassFault.{PassFault}
 use Rattle.bao_decode.specs.declared.copy_pass.PassFault.TheVariants.{Check, Input, Output}
 use Rattle.bao_decode.specs.Ranges.{first_written, last_written, written_count}

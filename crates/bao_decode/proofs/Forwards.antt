@@ -2,7 +2,7 @@
 use Rattle.std.proofs.Common.{◌≡◌, ℕ, ◌+◌, ◌<◌, ◌≤◌, List, length, drop, Option, None, Some, IfSome, inl, inr, refl, ap, subst, ◌∙◌, arith, length-drop}
 use Rattle.std.proofs.lemmas.Bool.{cases_lt}
 use Rattle.std.proofs.lemmas.List.{length-take}
-use Rattle.bao_read.specs.Given.{GivenAt, ReadsAt}
+use Rattle.b3par.specs.Given.{GivenAt, ReadsAt}
 use Rattle.bao_decode.specs.Forward.{Reaches}
 
 -- from the first byte on,

@@ -20,8 +20,8 @@ use Rattle.bao_check.specs.Checking.{HasDecodedAs, IsNodeFault}
 use Rattle.bao_check.specs.declared.fault.CheckFault.{CheckFault}
 use Rattle.bao_check.specs.declared.fault.CheckFault.TheVariants.{Short, Mismatch, Trailing, Memory, Reader}
 use Rattle.bao_check.specs.Waiting.{CheckTask, IsAcceptedAs, IsFaultAs}
-use Rattle.bao_read.specs.Given.{GivenAt}
-use Rattle.bao_read.proofs.Parts.{GivenAt-append}
+use Rattle.b3par.specs.Given.{GivenAt}
+use Rattle.b3par.proofs.Parts.{GivenAt-append}
 use Rattle.bao_decode.specs.declared.copy_pass.PassFault.{PassFault}
 use Rattle.bao_decode.specs.declared.copy_pass.PassFault.TheVariants.{Check, Input, Output}
 use Rattle.bao_decode.specs.Ranges.{first_decoded, first_written, last_written, part_bytes, part_len, part_start, positions, written_count}

@@ -4,7 +4,7 @@ use Rattle.std.proofs.Math.Seq.{drop-append-add}
 use Rattle.std.proofs.lemmas.Bool.{cases_Bool, cases_lt, le-ltb, lt-ltb}
 use Rattle.std.proofs.lemmas.List.{append-nil, drop-append-le, drop-drop, drop-take, length-take, length-take-le, take-append-le, take-take, take_all}
 use Rattle.std.proofs.lemmas.List.Sums.{sum_by-cons}
-use Rattle.bao_read.specs.Given.{ReadsAt}
+use Rattle.b3par.specs.Given.{ReadsAt}
 use Rattle.b3tree.specs.Tree.{left_len}
 use Rattle.bao_text.specs.declared.choice.Choice.{Choice}
 use Rattle.bao_text.specs.Choice.{of_slice, wants}

@@ -9,7 +9,7 @@ use Rattle.bao_check.specs.declared.outline.Outline.{Outline}
 use Rattle.bao_check.specs.Outline.{outline_claimed, outline_mode, outline_root, outline_text}
 use Rattle.bao_files.specs.Printed.{AppendsBeginning}
 use Rattle.bao_files.specs.declared.fault.FileFault.TheVariants.{Memory, Read, Write}
-use Rattle.bao_read.specs.Given.{GivenAt}
+use Rattle.b3par.specs.Given.{GivenAt}
 use Rattle.bao_text.specs.Choice.{chunk_count}
 use Rattle.bao_decode.specs.declared.decode_fault.DecodeFault.{DecodeFault}
 use Rattle.bao_decode.specs.declared.decode_fault.DecodeFault.TheVariants as decode

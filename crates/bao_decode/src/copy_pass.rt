@@ -4,15 +4,15 @@ ghost use Rattle.std.specs.Prelude.{◌≡◌, ℕ, ◌+◌, ◌*◌, ◌^◌, �
 ghost use Rattle.std.specs.Io.KnownBytes.{Appends};
 ghost use Rattle.bao_check.specs.Bare.{AreChunksOf};
 ghost use Rattle.bao_check.specs.Beside.{bare_len};
-ghost use Rattle.bao_read.specs.Given.{GivenAt};
+ghost use Rattle.b3par.specs.Given.{GivenAt};
 ghost use Rattle.bao_text.specs.Choice.{chunk_count};
 ghost use Rattle.bao_decode.specs.CopyPass.{IsPieceOf, IsWholeCopy, PassStops, PieceStops, fault_from};
 ghost use Rattle.bao_decode.specs.Forward.{Reaches};
 
 use crate::forward::Forward;
+use b3par::Source;
 use b3tree::{CHUNK_LEN, bytes_are};
 use bao_check::{CheckFault, Outline, check_bare};
-use bao_read::Source;
 use bao_text::{chunk_count, write_text};
 use std::io::Write;
 

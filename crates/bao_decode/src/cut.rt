@@ -7,9 +7,9 @@ ghost use Rattle.bao_decode.specs.Cutting.{ClaimsLength, GoesOn, cut_as};
 ghost use Rattle.bao_decode.specs.CopyPass.{StopsShort};
 
 use crate::copy_pass::{PassFault, fill_most};
+use b3par::Source;
 use b3tree::{CHUNK_LEN, left_len};
 use bao_check::CheckFault;
-use bao_read::Source;
 use bao_text::{Choice, LENGTH_LEN, PARENT_LEN, claimed, subtree_size};
 use std::io;
 

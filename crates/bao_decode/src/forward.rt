@@ -2,10 +2,10 @@
 
 ghost use Rattle.std.specs.Prelude.{ℕ, List, Option, None, IfOk, IsOk};
 ghost use Rattle.std.specs.Io.{ReadsAtMost};
-ghost use Rattle.bao_read.specs.Given.{ReadsAt};
+ghost use Rattle.b3par.specs.Given.{ReadsAt};
 ghost use Rattle.bao_decode.specs.Forward.{Reaches};
 
-use bao_read::Source;
+use b3par::Source;
 use std::io;
 
 /// Bytes that are read in order, each read beginning where the one before it ended. Every [`Source`] can be read so.

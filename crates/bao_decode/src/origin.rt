@@ -6,8 +6,8 @@ ghost use Rattle.bao_files.specs.declared.fault.FileFault.TheVariants as FileFau
 ghost use Rattle.bao_decode.specs.Opened.{OpensWith, is_origin_faultless, origin_contents};
 
 use crate::plain_copy::regular_len;
+use b3par::Source;
 use bao_files::{Disk, FileFault, read_input};
-use bao_read::Source;
 use std::alloc::Global;
 use std::io;
 

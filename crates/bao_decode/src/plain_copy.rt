@@ -19,10 +19,10 @@ ghost use Rattle.bao_decode.specs.DecodeFaults.{IsQuietDecode, NamesDecodePaths,
 
 use crate::copy_pass::{PassFault, ROOM_LEN, copy_pass, fill_most};
 use crate::decode_fault::DecodeFault;
+use b3par::Source;
 use b3tree::{Hash, Mode, bytes_are};
 use bao_check::{CheckFault, Outline, check_outboard};
 use bao_files::{Disk, Extent, FileFault, InputFault, Progress, Shown, read_whole};
-use bao_read::Source;
 use bao_text::{LENGTH_LEN, claimed, outboard_len};
 use std::alloc::Global;
 use std::io;

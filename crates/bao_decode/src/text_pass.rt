@@ -5,7 +5,7 @@ ghost use Rattle.std.specs.Io.KnownBytes.{Appends};
 ghost use Rattle.bao_check.specs.Checking.{HasDecodedAs, HasTakenAs};
 ghost use Rattle.bao_check.specs.Decoded.{decoded};
 ghost use Rattle.bao_check.specs.Waiting.{CheckTask, IsAcceptedAs};
-ghost use Rattle.bao_read.specs.Given.{GivenAt};
+ghost use Rattle.b3par.specs.Given.{GivenAt};
 ghost use Rattle.bao_text.specs.Cut.{claimed};
 ghost use Rattle.bao_decode.specs.Ranges.{first_decoded, first_written, last_written, part_bytes, part_len, part_start, positions, written_count};
 ghost use Rattle.bao_decode.specs.TextPass.{IsWholeText, TextStops, StopsAs, task_of_part};

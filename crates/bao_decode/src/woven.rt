@@ -10,8 +10,8 @@ ghost use Rattle.bao_decode.specs.Weaving.{GoesOnWithin, woven_nodes, woven_text
 use crate::copy_pass::PassFault;
 use crate::cut::{HEADER_LEN, NODE_LEN, claimed_length};
 use crate::forward::Forward;
+use b3par::Source;
 use b3tree::{CHUNK_LEN, left_len};
-use bao_read::Source;
 use bao_text::{Choice, subtree_size};
 use std::io;
 

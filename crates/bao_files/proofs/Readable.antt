@@ -3,7 +3,7 @@ use Rattle.std.specs.Borrow.{Bor}
 use Rattle.std.proofs.Common.{◌≡◌, ℕ, List, length, Option, Some, Result, Ok, Err, IfErr, IsErrAnd, inl, inr, sym, subst}
 use Rattle.b3tree.specs.declared.mode.Mode.{Mode}
 use Rattle.b3tree.specs.Valid.{AreBytes}
-use Rattle.bao_read.specs.Given.{HasOther}
+use Rattle.b3par.specs.Given.{HasOther}
 use Rattle.bao_files.specs.Encoded.{Encodes, IsAfterReading, IsReadOnce}
 use Rattle.bao_files.specs.declared.fault.FileFault.{FileFault}
 use Rattle.bao_files.specs.declared.fault.FileFault.TheVariants.{Read}

@@ -17,8 +17,8 @@ use Rattle.b3tree.proofs.BlockWords.{AreBytes-append, AreBytes-drop, AreBytes-ta
 use Rattle.b3tree.proofs.HashOutput.{length-bytes_of, length-out}
 use Rattle.b3tree.proofs.Pieces.{piece-piece}
 use Rattle.b3tree.proofs.Ranges.{top_input-IsInput, words_of-cv}
-use Rattle.bao_read.specs.Given.{GivenAt}
-use Rattle.bao_read.proofs.Parts.{GivenAt-append}
+use Rattle.b3par.specs.Given.{GivenAt}
+use Rattle.b3par.proofs.Parts.{GivenAt-append}
 use Rattle.bao_text.specs.declared.choice.Choice.{Choice}
 use Rattle.bao_text.specs.Choice.{chunk_count, of_combined, of_outboard}
 use Rattle.bao_text.specs.Nodes.{subtree_size}

@@ -6,7 +6,7 @@ use Rattle.b3tree.specs.declared.mode.Mode.{Mode}
 use Rattle.b3tree.specs.Hashing.{hash}
 use Rattle.b3tree.specs.Tree.{subtree_cv}
 use Rattle.b3tree.specs.Valid.{AreBytes}
-use Rattle.bao_read.specs.Given.{GivenAt}
+use Rattle.b3par.specs.Given.{GivenAt}
 use Rattle.bao_text.specs.Pieces.{whole_text}
 use Rattle.bao_text.specs.Texts.{combined_text}
 use Rattle.bao_files.specs.declared.again.AgainFault.{AgainFault}

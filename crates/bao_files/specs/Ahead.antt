@@ -3,7 +3,7 @@ use Rattle.std.specs.Prelude.{◌≡◌, ℕ, ◌*◌, List, length, Option, Non
 use Rattle.b3tree.specs.declared.mode.Mode.{Mode}
 use Rattle.b3tree.specs.Tree.{subtree_cv}
 use Rattle.b3tree.specs.Valid.{AreBytes}
-use Rattle.bao_read.specs.Given.{GivenAt}
+use Rattle.b3par.specs.Given.{GivenAt}
 use Rattle.bao_text.specs.declared.choice.Choice.{Choice}
 use Rattle.bao_text.specs.Texts.{subtree_text}
 use Rattle.bao_files.specs.declared.ahead.ReadAhead.{ReadAhead}

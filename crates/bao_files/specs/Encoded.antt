@@ -8,7 +8,7 @@ use Rattle.b3tree.specs.Hashing.{hash}
 use Rattle.b3tree.specs.Valid.{AreBytes}
 use Rattle.bao_text.specs.declared.fault.WriteFault.{WriteFault}
 use Rattle.bao_text.specs.declared.fault.WriteFault.TheVariants as text
-use Rattle.bao_read.specs.Given.{GivenAt, IsHashOf}
+use Rattle.b3par.specs.Given.{GivenAt, IsHashOf}
 use Rattle.bao_text.specs.declared.kinds.Encoding.{Encoding as Kind}
 use Rattle.bao_text.specs.declared.kinds.Encoding.TheVariants.{Combined, Outboard, Slice}
 use Rattle.bao_files.specs.declared.fault.FileFault.{FileFault}

@@ -6,7 +6,7 @@ ghost use Rattle.std.specs.Io.KnownBytes.{Appends};
 ghost use Rattle.b3tree.specs.Bytes.{words_of};
 ghost use Rattle.b3tree.specs.Tree.{subtree_cv, top_input};
 ghost use Rattle.b3tree.specs.Valid.{AreBytes};
-ghost use Rattle.bao_read.specs.Given.{GivenAt};
+ghost use Rattle.b3par.specs.Given.{GivenAt};
 ghost use Rattle.bao_text.specs.Choice.{chunk_count, of_combined};
 ghost use Rattle.bao_text.specs.Pieces.{HasParents, whole_text};
 ghost use Rattle.bao_text.specs.Texts.{outboard_text};
@@ -15,8 +15,8 @@ ghost use Rattle.bao_files.specs.Ahead.{AreRead, AreUnread};
 ghost use Rattle.bao_files.specs.Encoded.{AppendsPart};
 
 use crate::ahead::Pieces;
+use b3par::{Source, fill};
 use b3tree::{CHUNK_LEN, Cv, Mode, bytes_are, cv, left_len, top_input};
-use bao_read::{Source, fill};
 use bao_text::{CV_LEN, Choice, LENGTH_LEN, PARENT_LEN, write_text};
 use std::io::Write;
 use std::thread::Threads;

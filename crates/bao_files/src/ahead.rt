@@ -8,8 +8,8 @@ ghost use Rattle.bao_files.specs.Again.{Sends};
 ghost use Rattle.bao_files.specs.Ahead.{AreRead, AreUnread, IsPieceOf, IsRead, IsUnread};
 
 use crate::again::{AgainFault, send};
+use b3par::{Source, fill};
 use b3tree::{CHUNK_LEN, Cv, Mode, bytes_are, cv};
-use bao_read::{Source, fill};
 use bao_text::{Choice, append_subtree, subtree_size};
 use std::alloc::{AllocError, Global};
 use std::io::Write;

@@ -5,7 +5,7 @@ ghost use Rattle.bao_files.specs.Extents.{LooksAs, extent_of};
 use crate::extent::Extent;
 use crate::fault::FileFault;
 use crate::input::LEAST_SHARED_LEN;
-use bao_read::Source;
+use b3par::Source;
 use std::alloc::AllocError;
 use std::io;
 use std::io::{Read, Write};
@@ -74,7 +74,9 @@ pub trait Disk {
     /// then. Refuses with `Write` if it can't be read, and with `Memory`.
     fn read_back<'a>(&self, draft: Self::Draft, path: &'a str) -> Result<Self::Input, FileFault<'a>>
         ensures opened { IfOk result (λ input. IfSome (Self.Draft.contents draft) (λ s. (Self.Input.contents input ≡ Some s) × (Self.Input.remaining input ≡ Some s))) }
-        ensures fault { IfErr result (λ fault. (fault ≡ FileFault.Memory) ⊎ (fault ≡ FileFault.Write path.entry)) };
+        ensures fault { IfErr result (λ fault. (fault ≡ FileFault.Memory) ⊎ (fault ≡ FileFault.Write path.entry)) }
+        ensures sure { IfErr result (λ fault. faultless self.now → fault ≡ FileFault.Memory) }
+        ensures sound { IfOk result (λ input. faultless self.now → Self.Input.faultless input) };
 
     /// Puts the draft of the file at `path` in its place. Refuses with `Write` or `Memory`; all files are then
     /// unchanged, except one that can't be replaced.

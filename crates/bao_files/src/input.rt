@@ -1,10 +1,10 @@
 ghost use Rattle.std.specs.Prelude.{◌≡◌, ℕ, List, [], ◌++◌, ◌⊎◌, length, IfErr, IfOk, IfSome, None, Ok, OnErr, OnOk, Some};
 ghost use Rattle.std.specs.Io.KnownBytes.{IsAtEnd};
 ghost use Rattle.bao_files.specs.Reading.{AppendsTaken};
-ghost use Rattle.bao_read.specs.Given.{HasOther};
+ghost use Rattle.b3par.specs.Given.{HasOther};
 
 use crate::fault::FileFault;
-use bao_read::{Source, ends_at, fill};
+use b3par::{Source, ends_at, fill};
 use std::alloc::{AllocError, Global};
 use std::fs;
 use std::fs::OpenFile;

@@ -4,7 +4,7 @@ ghost use Rattle.bao_files.specs.Extents.{extent_of as said_of};
 use crate::disk::Disk;
 use crate::extent::Extent;
 use crate::fault::FileFault;
-use bao_read::Source;
+use b3par::Source;
 use std::alloc::{AllocError, Global};
 use std::collections::BTreeMap;
 use std::io;

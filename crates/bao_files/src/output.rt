@@ -1,4 +1,4 @@
-ghost use Rattle.bao_read.specs.Given.{HasOther};
+ghost use Rattle.b3par.specs.Given.{HasOther};
 ghost use Rattle.std.specs.Prelude.{◌≡◌, ◌≢◌, ◌⊎◌, ℕ, ◌+◌, ◌-◌, ◌*◌, ◌<◌, ◌≤◌, List, length, None, Ok, IfErr, IfOk, IfSome, OnErr, OnOk, Some};
 ghost use Rattle.std.specs.Io.KnownBytes.{Appends};
 ghost use Rattle.b3tree.specs.Hashing.{hash};
@@ -21,8 +21,8 @@ use crate::fault::FileFault;
 use crate::input::{LEAST_SHARED_LEN, read_input, read_placed};
 use crate::progress::Progress;
 use crate::shown::Shown;
+use b3par::{ReadFault, Source, WORKERS, outboard_source, slice_source};
 use b3tree::{Hash, Mode, bytes_are};
-use bao_read::{ReadFault, Source, WORKERS, outboard_source, slice_source};
 use bao_text::{
     Encoding, WriteFault, outboard, outboard_len, slice, write_combined, write_text, write_texts,
 };

@@ -1,7 +1,7 @@
 ghost use Rattle.std.specs.Prelude.{◌≡◌};
 
 use crate::progress::Progress;
-use bao_read::Source;
+use b3par::Source;
 use std::io;
 use std::io::Read;
 
@@ -10,38 +10,49 @@ use std::io::Read;
 pub struct Shown<'a, S, P: Progress> {
     source: S,
     progress: &'a P,
+    // Whether `progress` was told that work begins.
+    is_begun: bool,
 }
 
 impl<S: Drop, P: Progress> Drop for Shown<'_, S, P> {
     fn drop(self) {
-        self.progress.end();
         let Shown {
             source: _,
-            progress: _,
+            progress,
+            is_begun,
         } = self;
+        if is_begun {
+            progress.end();
+        }
     }
 }
 
 impl<'a, S, P: Progress> Shown<'a, S, P> {
     /// Returns the same source. If its length is known, `progress` is told that work on so many bytes begins,
-    /// and that it is over once a read reaches the end or the value is dropped; without a length it is never
-    /// told that work begins.
+    /// and that it is over once a read reaches the end or the value is dropped. Without a length it is told of
+    /// neither, as for one of several sources.
     pub fn over(source: S, len: Option<u64>, progress: &'a P) -> Shown<'a, S, P>
         ensures { result.source ≡ source }
     {
         if let Some(len) = len {
             progress.begin(len);
         }
-        Shown { source, progress }
+        Shown {
+            source,
+            progress,
+            is_begun: len.is_some(),
+        }
     }
 }
 
-// Tells how many bytes came. A read that gives none has come to the end.
-fn tell<P: Progress>(read: &io::Result<usize>, progress: &P) {
-    match read {
-        Ok(0) => progress.end(),
-        Ok(count) => progress.add(*count as u64),
-        Err(_) => {}
+impl<S, P: Progress> Shown<'_, S, P> {
+    // Tells how many bytes came. A read that gives none has come to the end.
+    fn tell(&self, read: &io::Result<usize>) {
+        match read {
+            Ok(0) if self.is_begun => self.progress.end(),
+            Ok(count) => self.progress.add(*count as u64),
+            Err(_) => {}
+        }
     }
 }
 
@@ -52,8 +63,12 @@ impl<S: Source, P: Progress> Source for Shown<'_, S, P> {
 
     fn read_at(&self, buf: &mut [u8], at: u64) -> io::Result<usize> {
         let read = self.source.read_at(buf, at);
-        tell(&read, self.progress);
+        self.tell(&read);
         read
+    }
+
+    fn at_hand(&self) -> Option<&[u8]> {
+        self.source.at_hand()
     }
 }
 
@@ -62,7 +77,7 @@ impl<S: Read, P: Progress> Read for Shown<'_, S, P> {
 
     fn read(&mut self, buf: &mut [u8]) -> io::Result<usize> {
         let read = self.source.read(buf);
-        tell(&read, self.progress);
+        self.tell(&read);
         read
     }
 }

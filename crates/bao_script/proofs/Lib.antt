@@ -5,3 +5,4 @@ pub mod Reading
 pub mod Slicing
 pub mod Exits
 pub mod Running
+pub mod Binding

@@ -1,26 +1,26 @@
 -- A script's run, step by step and line by line.
-use Rattle.std.proofs.Common.{◌≡◌, ◌∙◌, ℕ, ◌+◌, ◌<◌, ◌≤◌, zero, suc, List, [], ◌∷◌, ◌++◌, Option, Some, length, map, take, drop, get_or, slice_get, option_to_list, ap, sym, subst, refl, append-nil, append_assoc, add_assoc, add-zero, zero-add, arith, inl, inr}
+use Rattle.std.proofs.Common.{◌≡◌, ◌∙◌, ℕ, ◌+◌, ◌<◌, ◌≤◌, zero, suc, List, [], ◌∷◌, ◌++◌, Option, Some, length, map, take, drop, get_or, slice_get, option_to_list, ap, sym, subst, refl, append-nil, append_assoc, add_assoc, add-zero, zero-add, arith}
 use Rattle.std.proofs.lemmas.List.{map-append, take_more}
 use Rattle.std.proofs.lemmas.List.Concat.{flat_map-append}
 use Rattle.std.proofs.lemmas.Option.{get_or_from_slice_get}
 use Rattle.bao_check.specs.declared.checked.Checked.{Checked}
-use Rattle.store_core.specs.declared.fixed.Fixed.{Fixed}
+use Rattle.holders.specs.declared.fixed.Fixed.{Fixed}
 use Rattle.store_core.specs.declared.history.Event.{Event}
 use Rattle.store_core.specs.declared.micro.MicroStep.{MicroStep}
 use Rattle.store_core.specs.declared.micro.Reply.{Reply}
 use Rattle.store_core.specs.declared.schedule.ScheduleRun.{ScheduleRun}
 use Rattle.store_core.specs.declared.store.Store.{Store}
 use Rattle.store_core.specs.Machine.{Machine, start, store_of}
-use Rattle.store_core.specs.Replays.{IsReplayed, LeavesStore, ReplayBinds}
+use Rattle.store_core.specs.Replays.{LeavesStore}
 use Rattle.store_core.specs.Schedules.{IsLegalStep, Runs, after_step, step_events}
 use Rattle.store_core.specs.ScheduleRuns.{DoesRefuse, DoesStep, IsStepped}
-use Rattle.store_core.specs.States.{State, held_count}
+use Rattle.store_core.specs.States.{held_count}
 use Rattle.store_core.specs.Stores.{fixed_of, state_of}
 use Rattle.store_core.proofs.Running.{runs_more}
 use Rattle.bao_script.specs.declared.line.Line.{Line}
 use Rattle.bao_script.specs.declared.line.Line.TheVariants.{Claim, Hash, Write, Fill, Publish, Give, Load, Settle, Length}
 use Rattle.bao_script.specs.declared.numbered.NumberedLine.{NumberedLine}
-use Rattle.bao_script.specs.Printouts.{EndBinds, IsPrinted}
+use Rattle.bao_script.specs.Printouts.{IsPrinted}
 use Rattle.bao_script.specs.Replies.{held_line, reply_line}
 use Rattle.bao_script.specs.ScriptRuns.{RanLines, RanSteps, RunsScript, StandsAt, StopsAmong, StopsAtLine, answers_text}
 use Rattle.bao_script.specs.Slices.{ArePieces, slices_of}
@@ -173,26 +173,10 @@ own_pieces (Load seat at len) n is = omega arith
 own_pieces (Settle seat) n is = omega arith
 own_pieces (Length seat) n is = omega arith
 
--- what the store that a replay leaves holds and has recorded is what the words stand for at the end
-end_binds : (fixed : Fixed) (pieces : List Checked) (steps : List MicroStep) (replies : List Reply) (store : Store) (by : IsReplayed fixed pieces steps replies store)
-    → ReplayBinds fixed pieces steps replies store → EndBinds fixed pieces by.last
-end_binds fixed pieces steps replies store by binds blob is =
-    let both = binds blob is by in (
-      λ c bytes h. elim (both.0 c bytes (subst (λ (s : State). s.held c ≡ Some bytes) (sym by.words) h)) [
-        | inl same ↦ inl same
-        | inr named ↦ inr (record { piece = named.committed.piece; listed = named.listed; has = named.committed.has; pair = named.pair })
-      ],
-      λ l h. elim (both.1 l (subst (λ (s : State). s.recorded ≡ Some l) (sym by.words) h)) [
-        | inl same ↦ inl same
-        | inr named ↦ inr (record { piece = named.settled.piece; listed = named.listed; ends = named.settled.ends; is = named.settled.is; pair = named.pair })
-      ],
-    )
-
 pub printed : (fixed : Fixed) (files : List (List ℕ)) (script : List NumberedLine) (pieces : List Checked) (run : ScheduleRun) (store : Store) (held : ℕ) (shown text : List ℕ)
     → ArePieces fixed.mode fixed.root.0 (slices_of files script) pieces → RanLines fixed pieces start script [] shown run → LeavesStore run store
-    → ((steps : List MicroStep) (replies : List Reply) → ReplayBinds fixed pieces steps replies store)
     → held ≡ held_count (state_of store) (fixed_of store).capacity → text ≡ shown ++ held_line held → IsPrinted fixed files script text
-printed fixed files script pieces run store held shown text named ran leaves binds held_is text_is =
+printed fixed files script pieces run store held shown text named ran leaves held_is text_is =
     let stands = ran.stands in
     let left = leaves fixed pieces stands.0 stands.1 stands.2 ran.last stands.3 in
     let count : held ≡ held_count (store_of ran.last) fixed.capacity =
@@ -205,5 +189,4 @@ printed fixed files script pieces run store held shown text named ran leaves bin
       last = ran.last;
       runs = ran.runs;
       text_is = text_is ∙ ap (λ (t : List ℕ). t ++ held_line held) ran.text ∙ ap (λ n. answers_text ran.answers ++ held_line n) count;
-      binds = subst (λ (x : Machine). EndBinds fixed pieces x) left.1 (end_binds fixed pieces stands.0 stands.1 store left.0 (binds stands.0 stands.1));
     }

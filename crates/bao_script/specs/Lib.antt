@@ -7,3 +7,4 @@ pub mod ScriptRuns
 pub mod Slices
 pub mod Printouts
 pub mod Faults
+pub mod Binding

@@ -3,6 +3,7 @@
 
 mod fault;
 mod forms;
+mod law;
 mod line;
 mod numbered;
 mod printed;
@@ -14,6 +15,7 @@ mod steps;
 mod words;
 
 pub use fault::{ReplayScriptFault, ScriptFault};
+pub use law::scripts_bind;
 pub use line::Line;
 pub use numbered::NumberedLine;
 pub use replay::replay_script;

@@ -25,9 +25,7 @@ use store_core::{BadCapacity, ScheduleRun};
 /// step that isn't legal. Memory for a slice (401), for the schedule (701) and for the output each have a fault
 /// of their own.
 ///
-/// For every blob with the hash `root`, each chunk held at the end is the blob's chunk of that index, and a
-/// recorded length is the blob's; or the contract exhibits a collision, two different inputs with the same
-/// chaining value, one from the blob and one from a slice that a line names.
+/// What is held at the end is the blob's, or there is a collision (`scripts_bind`).
 pub fn replay_script(
     alloc: Global,
     root: Hash,

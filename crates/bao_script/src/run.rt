@@ -3,7 +3,7 @@ ghost use Rattle.bao_script.specs.declared.fault.ReplayScriptFault.TheVariants.{
 ghost use Rattle.bao_script.specs.Faults.{IsLate};
 ghost use Rattle.bao_script.specs.ScriptRuns.{RanLines, RanSteps, StandsAt, StopsAmong, StopsAtLine, answers_text};
 ghost use Rattle.bao_script.specs.Steps.{steps_of};
-ghost use Rattle.store_core.specs.declared.fixed.Fixed.{Fixed};
+ghost use Rattle.holders.specs.declared.fixed.Fixed.{Fixed};
 ghost use Rattle.store_core.specs.Machine.{Machine};
 
 use crate::fault::ReplayScriptFault;

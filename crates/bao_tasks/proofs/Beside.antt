@@ -16,12 +16,12 @@ use Rattle.bao_files.specs.Disks.{AreOf, FileState, Unknown, Absent, Stored}
 use Rattle.bao_text.specs.Choice.{of_outboard}
 use Rattle.bao_text.specs.Cut.{claimed}
 use Rattle.bao_text.specs.Texts.{outboard_text}
-use Rattle.gather.specs.declared.form.Form.{Form}
-use Rattle.gather.specs.declared.form.Form.TheVariants.{Bare}
-use Rattle.gather.specs.Large.{HasCollision, fixed_as}
-use Rattle.gather.specs.Parts.{IsOwn, IsOwnOutline}
-use Rattle.store_core.specs.declared.fixed.Fixed.{Fixed}
-use Rattle.store_core.specs.Laws.{IsBlob}
+use Rattle.holders.specs.declared.form.Form.{Form}
+use Rattle.holders.specs.declared.form.Form.TheVariants.{Bare}
+use Rattle.holders.specs.Blobs.{HasCollision, fixed_as}
+use Rattle.holders.specs.Parts.{IsOwn, IsOwnOutline}
+use Rattle.holders.specs.declared.fixed.Fixed.{Fixed}
+use Rattle.holders.specs.Blobs.{IsBlob}
 use Rattle.bao_tasks.specs.FromFiles.{CollidesBeside, CollidesBesideOutline, IsFromFile}
 use Rattle.bao_tasks.specs.Gathered.{HasOutlineIn}
 

@@ -1,11 +1,11 @@
 -- The lengths that sources claim.
 use Rattle.std.proofs.Common.{◌≡◌, ◌∙◌, ℕ, ◌+◌, ◌*◌, ◌<◌, Bool, true, false, List, Option, None, Some, slice_get, inl, inr, ap, arith, subst, sym}
 use Rattle.std.proofs.lemmas.Bool.{cases_lt}
-use Rattle.gather.specs.Forms.{AreSlices, IsLengthOf}
-use Rattle.gather.specs.declared.form.Form.{Form}
-use Rattle.gather.specs.declared.form.Form.TheVariants.{Slices, Bare}
-use Rattle.gather.specs.declared.grain.Grain.{Grain}
-use Rattle.gather.specs.declared.grain.Grain.TheVariants.{Group, Chunk}
+use Rattle.holders.specs.Forms.{AreSlices, IsLengthOf}
+use Rattle.holders.specs.declared.form.Form.{Form}
+use Rattle.holders.specs.declared.form.Form.TheVariants.{Slices, Bare}
+use Rattle.holders.specs.declared.grain.Grain.{Grain}
+use Rattle.holders.specs.declared.grain.Grain.TheVariants.{Group, Chunk}
 use Rattle.bao_windows.specs.declared.wanted.Wanted.{Wanted}
 use Rattle.bao_tasks.specs.declared.missing.Lack.{Lack}
 use Rattle.bao_tasks.specs.declared.missing.Lack.TheVariants.{Unasked, Starved, End, Missing}

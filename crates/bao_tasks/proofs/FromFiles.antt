@@ -9,27 +9,27 @@ use Rattle.bao_files.specs.declared.fault.FileFault.{FileFault}
 use Rattle.bao_files.specs.declared.fault.FileFault.TheVariants as file
 use Rattle.bao_files.specs.Disks.{FileState}
 use Rattle.bao_text.specs.Texts.{combined_text}
-use Rattle.gather.specs.declared.fault.GatherFault.{GatherFault}
-use Rattle.gather.specs.declared.fault.GatherFault.TheVariants.{TooLarge, Unfinished, NotTheRoot, Memory, Starved}
-use Rattle.gather.specs.declared.fault.GatherFault.TheVariants as gather
-use Rattle.gather.specs.declared.form.Form.{Form}
-use Rattle.gather.specs.declared.form.Form.TheVariants.{Slices, Bare}
-use Rattle.gather.specs.Forms.{AreSlices, IsLengthOf}
+use Rattle.bao_windows.specs.declared.fault.GatherFault.{GatherFault}
+use Rattle.bao_windows.specs.declared.fault.GatherFault.TheVariants.{TooLarge, Unfinished, NotTheRoot, Starved}
+use Rattle.bao_windows.specs.declared.fault.GatherFault.TheVariants as gather
+use Rattle.holders.specs.declared.form.Form.{Form}
+use Rattle.holders.specs.declared.form.Form.TheVariants.{Slices, Bare}
+use Rattle.holders.specs.Forms.{AreSlices, IsLengthOf}
 use Rattle.bao_windows.specs.Written.{AreTooLong}
-use Rattle.gather.specs.Large.{HasCollision, fixed_as}
-use Rattle.gather.specs.Lists.{IsFromSource}
-use Rattle.gather.specs.Parts.{IsOwn}
-use Rattle.gather.specs.Places.{IsCutAt, IsPartAt}
-use Rattle.store_core.specs.declared.fixed.Fixed.{Fixed}
-use Rattle.store_core.specs.declared.history.Piece.{Piece}
-use Rattle.store_core.specs.Laws.{IsBlob}
+use Rattle.holders.specs.Blobs.{HasCollision, fixed_as}
+use Rattle.holders.specs.Lists.{IsFromSource}
+use Rattle.holders.specs.Parts.{IsOwn}
+use Rattle.holders.specs.Places.{IsCutAt, IsPartAt}
+use Rattle.holders.specs.declared.fixed.Fixed.{Fixed}
+use Rattle.holders.specs.declared.piece.Piece.{Piece}
+use Rattle.holders.specs.Blobs.{IsBlob}
 use Rattle.bao_tasks.specs.declared.gathered_fault.GatheredFault.{GatheredFault}
 use Rattle.bao_tasks.specs.declared.gathered_fault.GatheredFault.TheVariants.{File, Gather, Outboard}
 use Rattle.bao_tasks.specs.declared.gathering.Gathering.{Gathering}
 use Rattle.bao_tasks.specs.Gathered.{IsWrittenOut}
 use Rattle.bao_tasks.specs.GatheredFaults.{IsFirstUnread}
 use Rattle.bao_tasks.specs.Givens.{most_bytes}
-use Rattle.gather.proofs.Binding.{pair_wider}
+use Rattle.holders.proofs.Same.{pair_wider}
 use Rattle.bao_tasks.specs.FromFiles.{IsExcusedFile, IsExcusedGathering, IsFromFile, IsPutAt, IsTextOf, file_bytes, never_fails}
 use Rattle.bao_tasks.specs.TakenFiles.{AreOfFiles, Follows, HasSound, IsDrafted, IsOfFile, IsOfWriting, IsRightDraft, IsTried, is_open, open_fault}
 

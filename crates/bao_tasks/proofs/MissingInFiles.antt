@@ -4,9 +4,9 @@ use Rattle.std.proofs.Common.{◌≡◌, ◌^◌, ◌<◌, ℕ, Bool, true, fals
 use Rattle.std.proofs.lemmas.Option.{slice_get_within}
 use Rattle.std.specs.Bool.{⊤}
 use Rattle.bao_files.specs.Disks.{FileState}
-use Rattle.gather.specs.declared.form.Form.{Form}
-use Rattle.gather.specs.declared.form.Form.TheVariants.{Slices, Bare}
-use Rattle.store_core.specs.declared.history.Piece.{Piece}
+use Rattle.holders.specs.declared.form.Form.{Form}
+use Rattle.holders.specs.declared.form.Form.TheVariants.{Slices, Bare}
+use Rattle.holders.specs.declared.piece.Piece.{Piece}
 use Rattle.bao_windows.specs.declared.wanted.Wanted.{Wanted}
 use Rattle.bao_windows.specs.Available.{GaveEnd, HasNoEnd, IsEndOf, IsFirstEnd, IsNoEnd, end_span, end_start, gives_in}
 use Rattle.bao_windows.specs.Windows.{IsFrom, IsLengthOfEach, fixed_for}

@@ -8,10 +8,10 @@ use Rattle.b3tree.specs.declared.values.Hash.{Hash}
 use Rattle.bao_files.specs.Encoded.{Encodes}
 use Rattle.bao_text.specs.declared.kinds.Encoding.TheVariants.{Combined}
 use Rattle.bao_text.specs.Texts.{combined_text}
-use Rattle.gather.specs.declared.fault.GatherFault.TheVariants.{TooLarge}
-use Rattle.gather.specs.declared.form.Form.{Form}
-use Rattle.store_core.specs.declared.fixed.Fixed.{Fixed}
-use Rattle.store_core.specs.declared.history.Piece.{Piece}
+use Rattle.bao_windows.specs.declared.fault.GatherFault.TheVariants.{TooLarge}
+use Rattle.holders.specs.declared.form.Form.{Form}
+use Rattle.holders.specs.declared.fixed.Fixed.{Fixed}
+use Rattle.holders.specs.declared.piece.Piece.{Piece}
 use Rattle.bao_tasks.specs.declared.gathered_fault.GatheredFault.{GatheredFault}
 use Rattle.bao_tasks.specs.declared.gathered_fault.GatheredFault.TheVariants.{Gather}
 use Rattle.bao_tasks.specs.declared.gathering.Gathering.{Gathering}

@@ -6,8 +6,8 @@ use Rattle.std.proofs.lemmas.Option.{same_Some}
 use Rattle.bao_files.specs.Disks.{FileState, Unknown, Absent, Stored, IsStored}
 use mathlib.Core.Bool.{beq}
 use Rattle.bao_tasks.specs.declared.given.Given.{Given}
-use Rattle.bao_tasks.specs.declared.watched.Watched.{Watched}
-use Rattle.bao_tasks.specs.Givens.{given_contents, is_given_faultless, watched_contents, watched_faultless}
+use Rattle.bao_files.specs.declared.shown.Shown.{Shown}
+use Rattle.bao_tasks.specs.Givens.{given_contents, is_given_faultless, shown_contents, shown_faultless}
 use Rattle.bao_tasks.specs.FromFiles.{file_bytes, is_regular, taken_bytes}
 use Rattle.bao_tasks.specs.GatheredFaults.{AreAbsent}
 use Rattle.bao_tasks.specs.TakenFiles.{AreKinds, AreOfFiles, Follows, HasSound}
@@ -40,14 +40,14 @@ same_kind false true is = cc
 same_kind true false is = cc
 same_kind true true is = refl
 
--- a file that is watched is known as it is
-pub watched_known : {I P : Type 0} (contents : I → Option (List ℕ)) (bytes : Option (List ℕ)) (given : Given I) (w : Watched (Given I) P) → w.given ≡ given
-    → IfSome bytes (λ s. given_contents contents given ≡ Some s) → IfSome bytes (λ s. watched_contents (given_contents contents) w ≡ Some s)
-watched_known {I = I} contents bytes given w same known = subst (λ (it : Given I). IfSome bytes (λ s. given_contents contents it ≡ Some s)) (sym same) known
+-- a file that is shown is known as it is
+pub shown_known : {I P : Type 0} (contents : I → Option (List ℕ)) (bytes : Option (List ℕ)) (given : Given I) (w : Shown (Given I) P) → w.source ≡ given
+    → IfSome bytes (λ s. given_contents contents given ≡ Some s) → IfSome bytes (λ s. shown_contents (given_contents contents) w ≡ Some s)
+shown_known {I = I} contents bytes given w same known = subst (λ (it : Given I). IfSome bytes (λ s. given_contents contents it ≡ Some s)) (sym same) known
 
-pub watched_sure : {I P : Type 0} (faultless : I → Type 0) (sure : Type 0) (given : Given I) (w : Watched (Given I) P) → w.given ≡ given
-    → (sure → is_given_faultless faultless given) → sure → watched_faultless (is_given_faultless faultless) w
-watched_sure {I = I} faultless sure given w same known surely = subst (λ (it : Given I). is_given_faultless faultless it) (sym same) (known surely)
+pub shown_sure : {I P : Type 0} (faultless : I → Type 0) (sure : Type 0) (given : Given I) (w : Shown (Given I) P) → w.source ≡ given
+    → (sure → is_given_faultless faultless given) → sure → shown_faultless (is_given_faultless faultless) w
+shown_sure {I = I} faultless sure given w same known surely = subst (λ (it : Given I). is_given_faultless faultless it) (sym same) (known surely)
 
 -- one file more was asked about
 pub kind_more : (at : List ℕ → FileState) (paths : List (Bor (List ℕ))) (kinds : List Bool) (kind : Bool) (path : Bor (List ℕ)) (n : ℕ) → length kinds ≡ n → slice_get paths n ≡ Some path

@@ -9,17 +9,17 @@ use Rattle.bao_text.specs.Choice.{chunk_count}
 use Rattle.bao_text.specs.Cut.{claimed}
 use Rattle.bao_text.specs.Texts.{outboard_text}
 use Rattle.bao_windows.specs.Copies.{HasPart, HaveCopies}
-use Rattle.gather.proofs.Owning.{own_makes}
-use Rattle.gather.specs.Available.{HasSlice, HaveSlices}
-use Rattle.gather.specs.Forms.{AreSlices, made_of}
-use Rattle.gather.specs.Lists.{part_gives, source_gives}
-use Rattle.gather.specs.Parts.{HaveParts, IsAskedIn, IsEndIn, IsOwn}
-use Rattle.gather.specs.Places.{IsCutAt, IsPartAt}
-use Rattle.gather.specs.declared.form.Form.{Form}
-use Rattle.gather.specs.declared.form.Form.TheVariants.{Slices, Bare}
-use Rattle.gather.specs.declared.grain.Grain.{Grain}
-use Rattle.gather.specs.declared.grain.Grain.TheVariants.{Group as ByGroup, Chunk as ByChunk}
-use Rattle.store_core.specs.declared.fixed.Fixed.{Fixed}
+use Rattle.holders.proofs.Owning.{own_makes}
+use Rattle.holders.specs.Available.{HasSlice, HaveSlices}
+use Rattle.holders.specs.Forms.{AreSlices, made_of}
+use Rattle.holders.specs.Lists.{part_gives, source_gives}
+use Rattle.holders.specs.Parts.{HaveParts, IsAskedIn, IsEndIn, IsOwn}
+use Rattle.holders.specs.Places.{IsCutAt, IsPartAt}
+use Rattle.holders.specs.declared.form.Form.{Form}
+use Rattle.holders.specs.declared.form.Form.TheVariants.{Slices, Bare}
+use Rattle.holders.specs.declared.grain.Grain.{Grain}
+use Rattle.holders.specs.declared.grain.Grain.TheVariants.{Group as ByGroup, Chunk as ByChunk}
+use Rattle.holders.specs.declared.fixed.Fixed.{Fixed}
 use Rattle.bao_tasks.specs.declared.gathering.Gathering.{Gathering}
 use Rattle.bao_tasks.specs.FromFiles.{AreEnough, HasBytes, HasCut, HaveBytes, HaveCuts, HaveTogether}
 use Rattle.bao_tasks.specs.TakenFiles.{HasSound}

@@ -6,21 +6,21 @@ use Rattle.b3tree.specs.declared.mode.Mode.{Mode}
 use Rattle.b3tree.specs.Hashing.{hash}
 use Rattle.std.specs.Bool.{⊤}
 use Rattle.bao_files.specs.declared.fault.FileFault.TheVariants.{Write}
-use Rattle.gather.specs.declared.fault.GatherFault.{GatherFault}
-use Rattle.gather.specs.declared.fault.GatherFault.TheVariants.{NotTheRoot, TooLarge}
+use Rattle.bao_windows.specs.declared.fault.GatherFault.{GatherFault}
+use Rattle.bao_windows.specs.declared.fault.GatherFault.TheVariants.{NotTheRoot, TooLarge}
 use Rattle.bao_text.proofs.Laws.{length-combined_text}
 use Rattle.bao_text.specs.Choice.{chunk_count}
 use Rattle.bao_text.specs.Texts.{combined_text}
-use Rattle.gather.specs.declared.form.Form.{Form}
-use Rattle.gather.specs.declared.form.Form.TheVariants.{Slices, Bare}
-use Rattle.gather.specs.declared.grain.Grain.{Grain}
-use Rattle.gather.specs.Forms.{AreSlices}
-use Rattle.gather.specs.Large.{HasCollision, IsOfNone, fixed_as}
-use Rattle.gather.specs.Available.{HaveSlices}
-use Rattle.gather.specs.Lists.{IsFromSource, source_gives}
-use Rattle.gather.specs.Parts.{IsOwn}
-use Rattle.store_core.specs.declared.history.Piece.{Piece}
-use Rattle.store_core.specs.Laws.{IsBlob}
+use Rattle.holders.specs.declared.form.Form.{Form}
+use Rattle.holders.specs.declared.form.Form.TheVariants.{Slices, Bare}
+use Rattle.holders.specs.declared.grain.Grain.{Grain}
+use Rattle.holders.specs.Forms.{AreSlices}
+use Rattle.holders.specs.Blobs.{HasCollision, IsOfNone, fixed_as}
+use Rattle.holders.specs.Available.{HaveSlices}
+use Rattle.holders.specs.Lists.{IsFromSource, source_gives}
+use Rattle.holders.specs.Parts.{IsOwn}
+use Rattle.holders.specs.declared.piece.Piece.{Piece}
+use Rattle.holders.specs.Blobs.{IsBlob}
 use Rattle.bao_windows.specs.declared.fault.WindowsFault.{WindowsFault}
 use Rattle.bao_windows.specs.declared.fault.WindowsFault.TheVariants as windows
 use Rattle.bao_windows.specs.declared.wanted.Wanted.{Wanted}

@@ -12,19 +12,19 @@ use Rattle.bao_text.specs.Choice.{chunk_count}
 use Rattle.bao_text.specs.Cut.{cut_text}
 use Rattle.bao_text.specs.Texts.{combined_text, slice_text}
 use Rattle.bao_windows.specs.Copies.{IsPartBy}
-use Rattle.gather.specs.Available.{IsAskedBy}
-use Rattle.gather.specs.declared.fault.GatherFault.TheVariants.{NotTheRoot}
-use Rattle.gather.specs.declared.form.Form.{Form}
-use Rattle.gather.specs.declared.grain.Grain.{Grain}
-use Rattle.gather.specs.declared.grain.Grain.TheVariants.{Chunk as ByChunk}
-use Rattle.gather.specs.declared.form.Form.TheVariants.{Slices, Bare}
-use Rattle.gather.specs.HandedOut.{IsExcused}
-use Rattle.gather.specs.Large.{HasCollision}
-use Rattle.gather.specs.Lists.{IsFromSource}
-use Rattle.gather.specs.Parts.{IsOwn, IsOwnOutline}
-use Rattle.store_core.specs.declared.fixed.Fixed.{Fixed}
-use Rattle.store_core.specs.declared.history.Piece.{Piece}
-use Rattle.store_core.specs.Laws.{IsBlob}
+use Rattle.holders.specs.Available.{IsAskedBy}
+use Rattle.bao_windows.specs.declared.fault.GatherFault.TheVariants.{NotTheRoot}
+use Rattle.holders.specs.declared.form.Form.{Form}
+use Rattle.holders.specs.declared.grain.Grain.{Grain}
+use Rattle.holders.specs.declared.grain.Grain.TheVariants.{Chunk as ByChunk}
+use Rattle.holders.specs.declared.form.Form.TheVariants.{Slices, Bare}
+use Rattle.bao_windows.specs.Faults.{IsExcused}
+use Rattle.holders.specs.Blobs.{HasCollision}
+use Rattle.holders.specs.Lists.{IsFromSource}
+use Rattle.holders.specs.Parts.{IsOwn, IsOwnOutline}
+use Rattle.holders.specs.declared.fixed.Fixed.{Fixed}
+use Rattle.holders.specs.declared.piece.Piece.{Piece}
+use Rattle.holders.specs.Blobs.{IsBlob}
 use Rattle.bao_tasks.specs.declared.gathered_fault.GatheredFault.{GatheredFault}
 use Rattle.bao_tasks.specs.declared.gathered_fault.GatheredFault.TheVariants.{File, Gather, Outboard}
 use Rattle.bao_tasks.specs.declared.gathering.Gathering.{Gathering}

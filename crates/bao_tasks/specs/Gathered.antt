@@ -7,10 +7,10 @@ use Rattle.b3tree.specs.Hashing.{hash}
 use Rattle.b3tree.specs.Valid.{AreBytes}
 use Rattle.bao_text.specs.Texts.{combined_text}
 use Rattle.bao_check.specs.Accepted.{IsAccepted, outboard_nodes}
-use Rattle.gather.specs.HandedOut.{IsExcused}
-use Rattle.gather.specs.Large.{HasCollision}
-use Rattle.store_core.specs.declared.fixed.Fixed.{Fixed}
-use Rattle.store_core.specs.declared.history.Piece.{Piece}
+use Rattle.bao_windows.specs.Faults.{IsExcused}
+use Rattle.holders.specs.Blobs.{HasCollision}
+use Rattle.holders.specs.declared.fixed.Fixed.{Fixed}
+use Rattle.holders.specs.declared.piece.Piece.{Piece}
 use Rattle.bao_files.specs.declared.fault.FileFault.{FileFault}
 use Rattle.bao_files.specs.declared.fault.FileFault.TheVariants.{Encoding, Write}
 use Rattle.bao_tasks.specs.declared.gathered_fault.GatheredFault.{GatheredFault}

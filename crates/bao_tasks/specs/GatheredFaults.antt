@@ -6,8 +6,8 @@ use Rattle.bao_files.specs.Faults.{number_of as file_number_of}
 use Rattle.bao_files.specs.Disks.{Absent, FileState}
 use Rattle.bao_files.specs.Printed as file
 use Rattle.bao_files.specs.declared.fault.FileFault.TheVariants.{Memory, Read}
-use Rattle.gather.specs.Faults.{number_of_gather}
-use Rattle.gather.specs.declared.fault.GatherFault.TheVariants.{Unfinished}
+use Rattle.bao_windows.specs.Faults.{number_of_gather}
+use Rattle.bao_windows.specs.declared.fault.GatherFault.TheVariants.{Unfinished}
 use Rattle.bao_tasks.specs.declared.missing.Lack.{Lack}
 use Rattle.bao_tasks.specs.declared.missing.Lack.TheVariants.{Unasked}
 use Rattle.bao_tasks.specs.declared.gathered_fault.GatheredFault.{GatheredFault}

@@ -2,10 +2,10 @@
 use Rattle.std.specs.Prelude.{ℕ, ◌+◌, ◌*◌, List, Option, Some}
 use Rattle.bao_tasks.specs.declared.given.Given.{Given}
 use Rattle.bao_tasks.specs.declared.given.Given.TheVariants.{Placed, Held}
-use Rattle.bao_tasks.specs.declared.watched.Watched.{Watched}
+use Rattle.bao_files.specs.declared.shown.Shown.{Shown}
 use Rattle.bao_text.specs.Nodes.{subtree_size}
-use Rattle.gather.specs.declared.form.Form.{Form}
-use Rattle.gather.specs.declared.form.Form.TheVariants.{Slices, Bare}
+use Rattle.holders.specs.declared.form.Form.{Form}
+use Rattle.holders.specs.declared.form.Form.TheVariants.{Slices, Bare}
 
 -- the bytes of a file, if they are known, or those that are held in memory
 abbrev pub given_contents : {I : Type 0} → (I → Option (List ℕ)) → Given I → Option (List ℕ)
@@ -24,8 +24,8 @@ most_bytes Slices capacity = 8 + subtree_size (1024 * capacity) + 1
 most_bytes (Bare outline) capacity = 1024 * capacity + 1
 
 -- a file whose reads are reported has the same bytes and faults
-abbrev pub watched_contents : {S P : Type 0} → (S → Option (List ℕ)) → Watched S P → Option (List ℕ)
-watched_contents contents watched = contents watched.given
+abbrev pub shown_contents : {S P : Type 0} → (S → Option (List ℕ)) → Shown S P → Option (List ℕ)
+shown_contents contents shown = contents shown.source
 
-abbrev pub watched_faultless : {S P : Type 0} → (S → Type 0) → Watched S P → Type 0
-watched_faultless faultless watched = faultless watched.given
+abbrev pub shown_faultless : {S P : Type 0} → (S → Type 0) → Shown S P → Type 0
+shown_faultless faultless shown = faultless shown.source

@@ -1,18 +1,13 @@
 -- Which ranges of a blob no source has.
 use Rattle.std.specs.Prelude.{if◌then◌else◌, ◌≡◌, ℕ, ◌+◌, ◌-◌, ◌*◌, ◌/◌, ◌<◌, ◌≤◌, ◌^◌, min, Bool, true, false, nat_lt, List, [], ◌∷◌, length, map, take, sum_by, Option, None, Some, slice_get}
-use Rattle.b3tree.specs.declared.mode.Mode.{Mode}
-use Rattle.b3tree.specs.Pieces.{piece}
 use Rattle.bao_text.specs.Choice.{chunk_count}
-use Rattle.bao_text.specs.Cut.{claimed, cut_text}
-use Rattle.bao_check.specs.Accepted.{IsAccepted, slice_nodes}
-use Rattle.bao_check.specs.Bare.{AreBare}
-use Rattle.bao_check.specs.declared.outline.Outline.{Outline}
-use Rattle.bao_check.specs.Outline.{outline_claimed, outline_mode, outline_root, outline_text}
-use Rattle.gather.specs.Forms.{IsLengthOf}
-use Rattle.gather.specs.declared.form.Form.{Form}
-use Rattle.gather.specs.declared.form.Form.TheVariants.{Slices, Bare}
-use Rattle.gather.specs.declared.grain.Grain.{Grain}
-use Rattle.gather.specs.declared.grain.Grain.TheVariants.{Group, Chunk}
+use Rattle.bao_text.specs.Cut.{claimed}
+use Rattle.bao_check.specs.Outline.{outline_claimed}
+use Rattle.holders.specs.Forms.{IsLengthOf}
+use Rattle.holders.specs.declared.form.Form.{Form}
+use Rattle.holders.specs.declared.form.Form.TheVariants.{Slices, Bare}
+use Rattle.holders.specs.declared.grain.Grain.{Grain}
+use Rattle.holders.specs.declared.grain.Grain.TheVariants.{Group, Chunk}
 use Rattle.bao_windows.specs.declared.wanted.Wanted.{Wanted}
 use Rattle.bao_windows.specs.Available.{HasNoEnd, IsFirstEnd}
 use Rattle.bao_windows.specs.Windows.{IsFrom, IsLengthOfEach, fixed_for}
@@ -20,21 +15,7 @@ use Rattle.bao_tasks.specs.declared.missing.Lack.{Lack}
 use Rattle.bao_tasks.specs.declared.missing.Lack.TheVariants.{Unasked, Starved, End, Missing}
 use Rattle.bao_tasks.specs.declared.missing.MissingParts.{MissingParts}
 use Rattle.bao_tasks.specs.declared.missing.Span.{Span}
-use Rattle.bao_tasks.specs.Worth.{IsSaidOf}
-
--- the slice (start, len) cut from an encoding is accepted
-abbrev pub IsGoodSlice : Mode → List ℕ → ℕ → ℕ → List ℕ → Type 0
-IsGoodSlice mode root start len text = IsAccepted mode root (cut_text text start len) (slice_nodes (cut_text text start len) start len)
-
--- `count` chunks of a plain copy, from chunk `first` on, are accepted beside the outline
-abbrev pub AreGoodChunks : Outline → ℕ → ℕ → List ℕ → Type 0
-AreGoodChunks outline first count copy =
-    AreBare (outline_mode outline) (outline_root outline) (outline_text outline) first count (piece copy (1024 * first) (min (outline_claimed outline - 1024 * first) (1024 * count)))
-
--- a source with these bytes has the blob's chunks from chunk `first` on, at most `count` of them
-abbrev pub HasChunks : Form → Mode → List ℕ → ℕ → ℕ → List ℕ → Type 0
-HasChunks Slices mode root first count text = IsGoodSlice mode root (1024 * first) (1024 * count) text
-HasChunks (Bare outline) mode root first count copy = AreGoodChunks outline.now first (min (chunk_count (outline_claimed outline.now) - first) count) copy
+use Rattle.bao_tasks.specs.Worth.{HasChunks, IsSaidOf}
 
 -- how many chunks a unit has: it is a group or a chunk
 abbrev pub unit_chunks : Grain → ℕ

@@ -7,11 +7,11 @@ use Rattle.b3tree.specs.declared.values.Hash.{Hash}
 use Rattle.bao_check.specs.Accepted.{IsAccepted, outboard_nodes}
 use Rattle.bao_check.specs.Outline.{outline_claimed}
 use Rattle.bao_files.specs.Disks.{AreOf, FileState}
-use Rattle.gather.specs.Forms.{IsLengthOf}
-use Rattle.gather.specs.Large.{fixed_as}
-use Rattle.gather.specs.declared.form.Form.{Form}
-use Rattle.gather.specs.declared.form.Form.TheVariants.{Slices, Bare}
-use Rattle.gather.specs.declared.grain.Grain.{Grain}
+use Rattle.holders.specs.Forms.{IsLengthOf}
+use Rattle.holders.specs.Blobs.{fixed_as}
+use Rattle.holders.specs.declared.form.Form.{Form}
+use Rattle.holders.specs.declared.form.Form.TheVariants.{Slices, Bare}
+use Rattle.holders.specs.declared.grain.Grain.{Grain}
 use Rattle.bao_windows.specs.declared.wanted.Wanted.{Wanted}
 use Rattle.bao_windows.specs.Available.{CertifiesEnd, HasRefusedEnd, IsFitting}
 use Rattle.bao_windows.specs.Windows.{IsLengthOfEach, fixed_for}

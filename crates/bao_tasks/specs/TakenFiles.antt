@@ -5,19 +5,20 @@ use Rattle.std.specs.Io.KnownBytes.{Appends}
 use Rattle.b3tree.specs.declared.mode.Mode.{Mode}
 use Rattle.b3tree.specs.declared.values.Hash.{Hash}
 use Rattle.bao_files.specs.Disks.{FileState, IsStored}
-use Rattle.gather.specs.declared.fault.GatherFault.{GatherFault}
-use Rattle.gather.specs.declared.fault.GatherFault.TheVariants.{TooLarge, Unfinished, NotTheRoot, Starved}
-use Rattle.gather.specs.declared.fault.GatherFault.TheVariants as gather
+use Rattle.bao_windows.specs.declared.fault.GatherFault.{GatherFault}
+use Rattle.bao_windows.specs.declared.fault.GatherFault.TheVariants.{TooLarge, Unfinished, NotTheRoot, Starved}
+use Rattle.bao_windows.specs.declared.fault.GatherFault.TheVariants as gather
 use Rattle.bao_windows.specs.Written.{AreTooLong}
-use Rattle.gather.specs.declared.form.Form.{Form}
-use Rattle.gather.specs.Forms.{AreSlices}
-use Rattle.gather.specs.Large.{HasCollision, fixed_as}
-use Rattle.gather.specs.Lists.{IsFromSource}
-use Rattle.store_core.specs.declared.fixed.Fixed.{Fixed}
-use Rattle.store_core.specs.declared.history.Piece.{Piece}
-use Rattle.store_core.specs.Laws.{IsBlob}
+use Rattle.holders.specs.declared.form.Form.{Form}
+use Rattle.holders.specs.Forms.{AreSlices}
+use Rattle.holders.specs.Blobs.{HasCollision, fixed_as}
+use Rattle.holders.specs.Lists.{IsFromSource}
+use Rattle.holders.specs.declared.fixed.Fixed.{Fixed}
+use Rattle.holders.specs.declared.piece.Piece.{Piece}
+use Rattle.holders.specs.Blobs.{IsBlob}
 use Rattle.bao_tasks.specs.declared.gathered_fault.GatheredFault.{GatheredFault}
 use Rattle.bao_tasks.specs.declared.gathered_fault.GatheredFault.TheVariants.{File, Gather, Outboard}
+use Rattle.bao_tasks.specs.GatheredFaults.{IsOfFiles, IsQuietGathered, NamesFirst}
 use Rattle.bao_tasks.specs.declared.gathering.Gathering.{Gathering}
 use Rattle.bao_tasks.specs.Gathered.{HasRootAndFits, IsWrittenOut, gathered_text}
 use Rattle.bao_tasks.specs.FromFiles.{AreEnough, IsExcusedFile, IsExcusedGathering, is_regular}
@@ -62,6 +63,10 @@ abbrev pub IsOfWriting : GatheredFault → Type 0
 IsOfWriting (File fault) = IsExcusedFile fault
 IsOfWriting (Outboard fault) = ⊥
 IsOfWriting (Gather fault) = Unit {0}
+
+-- so it is, and isn't one of standard output or of an outboard encoding; a fault of writing names this path, whatever the inputs are
+abbrev pub IsFaultAt : Bor (List ℕ) → GatheredFault → Type 0
+IsFaultAt output fault = IsQuietGathered fault × IsOfFiles fault × IsOfWriting fault × ((inputs : List (Bor (List ℕ))) → NamesFirst inputs output fault)
 
 -- whether another file may help after this fault of gathering
 abbrev pub is_open : GatherFault → Bool

@@ -8,42 +8,42 @@ use Rattle.bao_check.specs.Accepted.{IsAccepted, slice_nodes}
 use Rattle.bao_check.specs.Bare.{AreBare}
 use Rattle.bao_check.specs.declared.outline.Outline.{Outline}
 use Rattle.bao_check.specs.Outline.{outline_claimed, outline_mode, outline_root, outline_text}
-use Rattle.gather.specs.declared.form.Form.{Form}
-use Rattle.gather.specs.declared.form.Form.TheVariants.{Slices, Bare}
+use Rattle.holders.specs.declared.form.Form.{Form}
+use Rattle.holders.specs.declared.form.Form.TheVariants.{Slices, Bare}
 use Rattle.bao_tasks.specs.declared.worth.Worth.{Worth}
+
+-- the slice (start, len) cut from an encoding is accepted
+abbrev pub IsGoodSlice : Mode → List ℕ → ℕ → ℕ → List ℕ → Type 0
+IsGoodSlice mode root start len text = IsAccepted mode root (cut_text text start len) (slice_nodes (cut_text text start len) start len)
+
+-- `count` chunks of a plain copy, from chunk `first` on, are accepted beside the outline
+abbrev pub AreGoodChunks : Outline → ℕ → ℕ → List ℕ → Type 0
+AreGoodChunks outline first count copy =
+    AreBare (outline_mode outline) (outline_root outline) (outline_text outline) first count (piece copy (1024 * first) (min (outline_claimed outline - 1024 * first) (1024 * count)))
+
+-- a source with these bytes has the blob's chunks from chunk `first` on, at most `count` of them
+abbrev pub HasChunks : Form → Mode → List ℕ → ℕ → ℕ → List ℕ → Type 0
+HasChunks Slices mode root first count text = IsGoodSlice mode root (1024 * first) (1024 * count) text
+HasChunks (Bare outline) mode root first count copy = AreGoodChunks outline.now first (min (chunk_count (outline_claimed outline.now) - first) count) copy
 
 -- how many groups a blob of n bytes has
 abbrev pub group_count : ℕ → ℕ
 group_count n = (chunk_count n + 63) / 64
 
--- how many groups a combined encoding is asked for: those of the length that it claims, or one if it is too short to claim any
-abbrev pub groups_of : List ℕ → ℕ
-groups_of text = if nat_lt (length text) 8 then 1 else group_count (claimed text)
+-- how many groups a source with these bytes is asked for: those of the length that the outline claims, or the encoding, and one if that is too short to
+-- claim any
+abbrev pub groups_of : Form → List ℕ → ℕ
+groups_of Slices text = if nat_lt (length text) 8 then 1 else group_count (claimed text)
+groups_of (Bare outline) copy = group_count (outline_claimed outline.now)
 
--- the slice of a group, cut from an encoding
-abbrev pub group_cut : List ℕ → ℕ → List ℕ
-group_cut text g = cut_text text (65536 * g) 65536
+-- an encoding has more bytes than the blob has before group g
+abbrev pub GoesOn : Form → List ℕ → ℕ → Type 0
+GoesOn Slices text g = 65536 * g < length text
+GoesOn (Bare outline) copy g = Unit {0}
 
--- that slice is accepted
-abbrev pub IsGoodCut : Mode → List ℕ → List ℕ → ℕ → Type 0
-IsGoodCut mode root text g = IsAccepted mode root (group_cut text g) (slice_nodes (group_cut text g) (65536 * g) 65536)
-
--- it is accepted, and the encoding has more bytes than the blob has before the group
-abbrev pub HasGoodCut : Mode → List ℕ → List ℕ → ℕ → Type 0
-HasGoodCut mode root text g = (65536 * g < length text) × IsGoodCut mode root text g
-
--- how many chunks a blob of `total` bytes has in a group, and how many bytes
-abbrev pub group_chunks : ℕ → ℕ → ℕ
-group_chunks total g = min (chunk_count total - 64 * g) 64
-
-abbrev pub group_bytes : ℕ → ℕ → ℕ
-group_bytes total g = min (total - 65536 * g) 65536
-
--- a group's bytes in a plain copy are accepted beside the outline
-abbrev pub IsGoodPart : Outline → List ℕ → ℕ → Type 0
-IsGoodPart outline copy g =
-    AreBare (outline_mode outline) (outline_root outline) (outline_text outline) (64 * g) (group_chunks (outline_claimed outline) g)
-    (piece copy (65536 * g) (group_bytes (outline_claimed outline) g))
+-- a source with these bytes has the group's chunks
+abbrev pub HasGroup : Form → Mode → List ℕ → List ℕ → ℕ → Type 0
+HasGroup form mode root bytes g = GoesOn form bytes g × HasChunks form mode root (64 * g) 64 bytes
 
 -- a verdict: true says that P doesn't hold, and the group is refused
 abbrev pub JudgesGroup : Bool → Type 0 → Type 0
@@ -68,6 +68,4 @@ IsSaidOf contents faultless P = IfSome contents (λ bytes. length bytes < 2 ^ 64
 
 -- it is the worth of a source of which this is known, in this form
 abbrev pub IsWorthAs : Form → Mode → List ℕ → Option (List ℕ) → Type 0 → Worth → Type 0
-IsWorthAs Slices mode root contents faultless worth = IsSaidOf contents faultless (λ text. IsWorth (HasGoodCut mode root text) (groups_of text) worth)
-IsWorthAs (Bare outline) mode root contents faultless worth =
-    IsSaidOf contents faultless (λ copy. IsWorth (IsGoodPart outline.now copy) (group_count (outline_claimed outline.now)) worth)
+IsWorthAs form mode root contents faultless worth = IsSaidOf contents faultless (λ bytes. IsWorth (HasGroup form mode root bytes) (groups_of form bytes) worth)

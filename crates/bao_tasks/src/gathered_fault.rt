@@ -1,6 +1,6 @@
 use bao_check::CheckFault;
 use bao_files::FileFault;
-use gather::GatherFault;
+use bao_windows::GatherFault;
 use thiserror::Error;
 
 /// Why a blob was not gathered and written, with the message that the program prints.

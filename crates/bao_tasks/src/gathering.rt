@@ -6,20 +6,20 @@ ghost use Rattle.bao_text.specs.Choice.{chunk_count};
 ghost use Rattle.bao_text.specs.Texts.{outboard_text};
 ghost use Rattle.bao_tasks.specs.declared.gathered_fault.GatheredFault.TheVariants as GatheredFault;
 ghost use Rattle.bao_windows.specs.Written.{AreTooLong};
-ghost use Rattle.gather.specs.declared.fault.GatherFault.{GatherFault as Cause};
-ghost use Rattle.gather.specs.declared.fault.GatherFault.TheVariants as GatherFault;
-ghost use Rattle.gather.specs.Forms.{AreSlices};
-ghost use Rattle.gather.specs.Large.{HasCollision, fixed_as};
-ghost use Rattle.gather.specs.Lists.{IsFromSource};
-ghost use Rattle.store_core.specs.Laws.{IsBlob};
+ghost use Rattle.bao_windows.specs.declared.fault.GatherFault.{GatherFault as Cause};
+ghost use Rattle.bao_windows.specs.declared.fault.GatherFault.TheVariants as GatherFault;
+ghost use Rattle.holders.specs.Forms.{AreSlices};
+ghost use Rattle.holders.specs.Blobs.{HasCollision, fixed_as};
+ghost use Rattle.holders.specs.Lists.{IsFromSource};
+ghost use Rattle.holders.specs.Blobs.{IsBlob};
 ghost use Rattle.bao_tasks.specs.FromFiles.{AreEnough, CollidesBeside, CollidesBesideOutline, HasRoom, HaveBytes, IsExcusedGathering, IsFromFile, IsInFile, IsPutAt, IsRightAt, file_bytes, is_regular, taken_bytes};
-ghost use Rattle.bao_tasks.specs.TakenFiles.{IsGathered, AreKinds, AreOfFiles, Follows, HasSound, IsDrafted, IsOfWriting, IsRightDraft, IsTried, is_open, open_fault};
+ghost use Rattle.bao_tasks.specs.TakenFiles.{IsFaultAt, IsGathered, AreKinds, AreOfFiles, Follows, HasSound, IsDrafted, IsRightDraft, IsTried, is_open, open_fault};
 ghost use Rattle.bao_tasks.specs.GatheredFaults.{AreAbsent, IsFirstUnread, IsOfFiles, IsQuietGathered, LooksUnfinished, NamesBeside, NamesFirst, StopsBeside};
 ghost use Rattle.bao_tasks.specs.declared.missing.Lack.TheVariants as Lack;
 ghost use Rattle.bao_tasks.specs.Missing.{IsLackOf};
 ghost use Rattle.bao_tasks.specs.MissingInFiles.{IsLackBeside, IsLackIn, wanted_for};
 ghost use Rattle.bao_tasks.specs.Gathered.{Fits, HasOutlineIn, HasRootAndFits, IsFaultOfOutline, gathered_text};
-ghost use Rattle.bao_tasks.specs.Givens.{given_contents, is_given_faultless, most_bytes, watched_contents, watched_faultless};
+ghost use Rattle.bao_tasks.specs.Givens.{given_contents, is_given_faultless, most_bytes, shown_contents, shown_faultless};
 ghost use Rattle.bao_tasks.specs.Worth.{IsWorthAs};
 
 use crate::file_fate::Fate;
@@ -27,17 +27,16 @@ use crate::gathered_fault::GatheredFault;
 use crate::given::{Given, held, placed};
 use crate::missing::{Lack, lack_of};
 use crate::notes::Notes;
-use crate::watched::Watched;
-use crate::worth::{Worth, worth_of_copy, worth_of_encoding};
+use crate::worth::{Worth, worth_of};
 use crate::written::write_whole;
+use b3par::Source;
 use b3tree::{CHUNK_LEN, Hash, Mode, bytes_are};
 use bao_check::check_outboard;
 use bao_decode::read_outboard_on;
-use bao_files::{Disk, FileFault, Progress, STANDARD_INPUT, encode_input};
-use bao_read::Source;
+use bao_files::{Disk, FileFault, Progress, STANDARD_INPUT, Shown, encode_input};
 use bao_text::{Encoding, encoded_len};
-use bao_windows::{Wanted as Windows, WindowsFault, write_windows};
-use gather::{Form, GatherFault, Grain};
+use bao_windows::{GatherFault, Wanted as Windows, WindowsFault, write_windows};
+use holders::{Form, Grain};
 use std::alloc::{AllocError, Global};
 use std::io::Write;
 use std::thread::Threads;
@@ -95,7 +94,7 @@ impl<'a> Wanted<'a> {
 // The files taken so far, the length in bytes of the longest, and whether memory was refused for one.
 #[derive(Drop)]
 struct Taken<'p, S: Source + Drop, P: Progress> {
-    givens: Vec<Watched<'p, S, P>>,
+    givens: Vec<Shown<'p, S, P>>,
     longest: u64,
     starved: bool,
     progress: &'p P,
@@ -153,19 +152,10 @@ fn counted<I: Source>(alloc: Global, wanted: &Wanted<'_>, given: &Given<I>) -> O
     ensures asked { IsSome result → IsTrue wanted.now.how.count }
     ensures worth { IfSome result (IsWorthAs wanted.now.form.now wanted.now.mode.now wanted.now.root.now.0 (given_contents I.contents given.now) (is_given_faultless I.faultless given.now)) }
 {
-    let Wanted {
-        mode,
-        root,
-        how,
-        form,
-    } = *wanted;
-    if !how.count {
+    if !wanted.how.count {
         return None;
     }
-    match form {
-        Form::Slices => worth_of_encoding(alloc, mode, root, given).ok(),
-        Form::Bare(outline) => worth_of_copy(alloc, outline, given).ok(),
-    }
+    worth_of(alloc, &wanted.windows(), given).ok()
 }
 
 // Opens a file, which is regular or not, and returns it with its length.
@@ -200,15 +190,15 @@ fn take<D: Disk, P: Progress>(
     ensures starved { taken.old.starved ≡ true → taken.new.starved ≡ true }
     ensures absent { D.at disk.now path.now ≡ Absent → taken.new.givens.items ≡ taken.old.givens.items }
     ensures taken { (taken.new.givens.items ≡ taken.old.givens.items)
-        ⊎ Follows (watched_contents (given_contents D.Input.contents)) (watched_faultless (is_given_faultless D.Input.faultless)) (D.faultless disk.now) (taken_bytes regular (most_bytes wanted.now.form.now wanted.now.how.capacity) (D.at disk.now path.now)) taken.old.givens.items taken.new.givens.items }
+        ⊎ Follows (shown_contents (given_contents D.Input.contents)) (shown_faultless (is_given_faultless D.Input.faultless)) (D.faultless disk.now) (taken_bytes regular (most_bytes wanted.now.form.now wanted.now.how.capacity) (D.at disk.now path.now)) taken.old.givens.items taken.new.givens.items }
     ensures there { regular ≡ true → D.faultless disk.now → IsStored (D.at disk.now path.now) → (taken.new.starved ≡ true)
-        ⊎ Follows (watched_contents (given_contents D.Input.contents)) (watched_faultless (is_given_faultless D.Input.faultless)) (D.faultless disk.now) (taken_bytes regular (most_bytes wanted.now.form.now wanted.now.how.capacity) (D.at disk.now path.now)) taken.old.givens.items taken.new.givens.items }
+        ⊎ Follows (shown_contents (given_contents D.Input.contents)) (shown_faultless (is_given_faultless D.Input.faultless)) (D.faultless disk.now) (taken_bytes regular (most_bytes wanted.now.form.now wanted.now.how.capacity) (D.at disk.now path.now)) taken.old.givens.items taken.new.givens.items }
 {
     match opened(alloc, disk, wanted, path, regular) {
         Ok((given, len)) => {
             let worth = counted(alloc, wanted, &given);
             taken.longest = taken.longest.max(len);
-            match taken.givens.push(Watched::new(given, taken.progress)) {
+            match taken.givens.push(Shown::over(given, None, taken.progress)) {
                 Ok(()) => Fate::Taken(worth),
                 Err(_) => {
                     taken.starved = true;
@@ -249,11 +239,11 @@ fn take_files<D: Disk, P: Progress>(
     requires kinds { AreKinds (D.at disk.now) paths.now kinds.now }
     ensures starved { taken.old.starved ≡ true → taken.new.starved ≡ true }
     ensures absent { AreAbsent (D.at disk.now) paths.now → taken.new.givens.items ≡ taken.old.givens.items }
-    ensures files { AreOfFiles (watched_contents (given_contents D.Input.contents)) (watched_faultless (is_given_faultless D.Input.faultless)) (D.faultless disk.now) (file_bytes (most_bytes wanted.now.form.now wanted.now.how.capacity) (D.at disk.now)) paths.now taken.old.givens.items
-        → AreOfFiles (watched_contents (given_contents D.Input.contents)) (watched_faultless (is_given_faultless D.Input.faultless)) (D.faultless disk.now) (file_bytes (most_bytes wanted.now.form.now wanted.now.how.capacity) (D.at disk.now)) paths.now taken.new.givens.items }
-    ensures kept { (bytes : List ℕ) → HasSound (watched_contents (given_contents D.Input.contents)) (watched_faultless (is_given_faultless D.Input.faultless)) taken.old.givens.items bytes → HasSound (watched_contents (given_contents D.Input.contents)) (watched_faultless (is_given_faultless D.Input.faultless)) taken.new.givens.items bytes }
+    ensures files { AreOfFiles (shown_contents (given_contents D.Input.contents)) (shown_faultless (is_given_faultless D.Input.faultless)) (D.faultless disk.now) (file_bytes (most_bytes wanted.now.form.now wanted.now.how.capacity) (D.at disk.now)) paths.now taken.old.givens.items
+        → AreOfFiles (shown_contents (given_contents D.Input.contents)) (shown_faultless (is_given_faultless D.Input.faultless)) (D.faultless disk.now) (file_bytes (most_bytes wanted.now.form.now wanted.now.how.capacity) (D.at disk.now)) paths.now taken.new.givens.items }
+    ensures kept { (bytes : List ℕ) → HasSound (shown_contents (given_contents D.Input.contents)) (shown_faultless (is_given_faultless D.Input.faultless)) taken.old.givens.items bytes → HasSound (shown_contents (given_contents D.Input.contents)) (shown_faultless (is_given_faultless D.Input.faultless)) taken.new.givens.items bytes }
     ensures there { regular ≡ true → D.faultless disk.now → (i : ℕ) (path : Bor (List ℕ)) (bytes : List ℕ) → slice_get paths.now i ≡ Some path → is_regular path.now ≡ true
-        → D.at disk.now path.now ≡ Stored bytes → (taken.new.starved ≡ true) ⊎ HasSound (watched_contents (given_contents D.Input.contents)) (watched_faultless (is_given_faultless D.Input.faultless)) taken.new.givens.items bytes }
+        → D.at disk.now path.now ≡ Stored bytes → (taken.new.starved ≡ true) ⊎ HasSound (shown_contents (given_contents D.Input.contents)) (shown_faultless (is_given_faultless D.Input.faultless)) taken.new.givens.items bytes }
 {
     let _spare = if regular {
         spare(disk, paths, kinds)
@@ -326,7 +316,7 @@ fn lack_left<S: Source + Drop, P: Progress>(
 ) -> Lack
     ensures unasked { ((met ≡ Some GatherFault.Unfinished) × (taken.now.starved ≡ false)) ⊎ (result ≡ Lack.Unasked) }
     ensures lack { met ≡ Some GatherFault.Unfinished → taken.now.starved ≡ false → ((wanted.now.how.parts ≡ 0) × (result ≡ Lack.Unasked))
-        ⊎ IsLackOf (watched_contents S.contents) (watched_faultless S.faultless) (wanted_for wanted.now.root.now wanted.now.mode.now wanted.now.form.now wanted.now.how.grain) taken.now.givens.items wanted.now.how.parts result }
+        ⊎ IsLackOf (shown_contents S.contents) (shown_faultless S.faultless) (wanted_for wanted.now.root.now wanted.now.mode.now wanted.now.form.now wanted.now.how.grain) taken.now.givens.items wanted.now.how.parts result }
 {
     match met {
         Some(GatherFault::Unfinished) if wanted.how.parts > 0 && !taken.starved => {
@@ -361,11 +351,8 @@ fn gather_into<
     path: &'a str,
     out: &mut W,
 ) -> Result<u64, GatheredFault<'a>>
-    ensures gathered { IsGathered (watched_contents S.contents) (watched_faultless S.faultless) taken.now.givens.items wanted.now.form.now wanted.now.root.now wanted.now.mode.now wanted.now.how ⊤ false (W.contents out.old) (W.contents out.new) result }
-    ensures err { IfErr result IsQuietGathered }
-    ensures files { IfErr result IsOfFiles }
-    ensures paths { IfErr result (λ fault. (inputs : List (Bor (List ℕ))) → NamesFirst inputs path.entry fault) }
-    ensures writing { IfErr result IsOfWriting }
+    ensures gathered { IsGathered (shown_contents S.contents) (shown_faultless S.faultless) taken.now.givens.items wanted.now.form.now wanted.now.root.now wanted.now.mode.now wanted.now.how ⊤ false (W.contents out.old) (W.contents out.new) result }
+    ensures fault { IfErr result (IsFaultAt path.entry) }
 {
     let how = wanted.how;
     let givens = taken.givens.as_slice();
@@ -392,11 +379,8 @@ fn encode_draft<
     path: &'a str,
     out: &mut D::Draft,
 ) -> Result<u64, GatheredFault<'a>>
-    ensures gathered { IsGathered (watched_contents S.contents) (watched_faultless S.faultless) taken.now.givens.items wanted.now.form.now wanted.now.root.now wanted.now.mode.now wanted.now.how (IsKnown (D.at disk.now path.now)) true (D.Draft.contents out.old) (D.Draft.contents out.new) result }
-    ensures err { IfErr result IsQuietGathered }
-    ensures files { IfErr result IsOfFiles }
-    ensures paths { IfErr result (λ fault. (inputs : List (Bor (List ℕ))) → NamesFirst inputs path.entry fault) }
-    ensures writing { IfErr result IsOfWriting }
+    ensures gathered { IsGathered (shown_contents S.contents) (shown_faultless S.faultless) taken.now.givens.items wanted.now.form.now wanted.now.root.now wanted.now.mode.now wanted.now.how (IsKnown (D.at disk.now path.now)) true (D.Draft.contents out.old) (D.Draft.contents out.new) result }
+    ensures fault { IfErr result (IsFaultAt path.entry) }
 {
     let Ok(mut draft) = disk.draft(path) else {
         return Err(GatheredFault::File(FileFault::Memory));
@@ -430,11 +414,8 @@ fn write_held<
     path: &'a str,
     out: &mut W,
 ) -> Result<u64, GatheredFault<'a>>
-    ensures gathered { IsGathered (watched_contents S.contents) (watched_faultless S.faultless) taken.now.givens.items wanted.now.form.now wanted.now.root.now wanted.now.mode.now wanted.now.how ⊤ wanted.now.how.encode (W.contents out.old) (W.contents out.new) result }
-    ensures err { IfErr result IsQuietGathered }
-    ensures files { IfErr result IsOfFiles }
-    ensures paths { IfErr result (λ fault. (inputs : List (Bor (List ℕ))) → NamesFirst inputs path.entry fault) }
-    ensures writing { IfErr result IsOfWriting }
+    ensures gathered { IsGathered (shown_contents S.contents) (shown_faultless S.faultless) taken.now.givens.items wanted.now.form.now wanted.now.root.now wanted.now.mode.now wanted.now.how ⊤ wanted.now.how.encode (W.contents out.old) (W.contents out.new) result }
+    ensures fault { IfErr result (IsFaultAt path.entry) }
 {
     let alloc = rt.alloc();
     let mut blob = Vec::new(alloc);
@@ -473,11 +454,8 @@ fn write_taken<
     path: &'a str,
     out: &mut D::Draft,
 ) -> Result<u64, GatheredFault<'a>>
-    ensures gathered { IsGathered (watched_contents S.contents) (watched_faultless S.faultless) taken.now.givens.items wanted.now.form.now wanted.now.root.now wanted.now.mode.now wanted.now.how (IsKnown (D.at disk.now path.now)) wanted.now.how.encode (D.Draft.contents out.old) (D.Draft.contents out.new) result }
-    ensures err { IfErr result IsQuietGathered }
-    ensures files { IfErr result IsOfFiles }
-    ensures paths { IfErr result (λ fault. (inputs : List (Bor (List ℕ))) → NamesFirst inputs path.entry fault) }
-    ensures writing { IfErr result IsOfWriting }
+    ensures gathered { IsGathered (shown_contents S.contents) (shown_faultless S.faultless) taken.now.givens.items wanted.now.form.now wanted.now.root.now wanted.now.mode.now wanted.now.how (IsKnown (D.at disk.now path.now)) wanted.now.how.encode (D.Draft.contents out.old) (D.Draft.contents out.new) result }
+    ensures fault { IfErr result (IsFaultAt path.entry) }
 {
     let Gathering { encode, long, .. } = wanted.how;
     let is_replaced = disk.is_replaced(out);
@@ -535,22 +513,19 @@ fn attempt<
 ) -> Result<Option<(u64, D::Draft)>, GatheredFault<'a>>
     ensures ok { IfOk result (λ found. IfSome found (λ made. (blob : List ℕ) × HasRootAndFits wanted.now.how wanted.now.mode.now wanted.now.root.now.0 blob × (made.0 ≡ length blob)
         × (IsKnown (D.at disk.now path.now) → D.Draft.contents made.1 ≡ Some (gathered_text wanted.now.how.encode wanted.now.mode.now blob)))) }
-    ensures err { IfErr result IsQuietGathered }
-    ensures files { IfErr result IsOfFiles }
-    ensures paths { IfErr result (λ fault. (inputs : List (Bor (List ℕ))) → NamesFirst inputs path.entry fault) }
+    ensures fault { IfErr result (IsFaultAt path.entry) }
     ensures right { IsKnown (D.at disk.now path.now) → (blob : List ℕ) → IsBlob (fixed_as wanted.now.root.now wanted.now.mode.now wanted.now.how.capacity) blob
-        → IsTried D.Draft.contents wanted.now.how wanted.now.mode.now blob result ⊎ HasCollision (IsFromSource wanted.now.form.now (watched_contents S.contents) (watched_faultless S.faultless) taken.now.givens.items) (fixed_as wanted.now.root.now wanted.now.mode.now wanted.now.how.capacity) blob }
+        → IsTried D.Draft.contents wanted.now.how wanted.now.mode.now blob result ⊎ HasCollision (IsFromSource wanted.now.form.now (shown_contents S.contents) (shown_faultless S.faultless) taken.now.givens.items) (fixed_as wanted.now.root.now wanted.now.mode.now wanted.now.how.capacity) blob }
     ensures closed { IfErr result (λ fault. open_fault (Err fault) ≡ None) }
     ensures none { length taken.now.givens.items ≡ tried.old.count → MatchResult result (λ found. found ≡ None) (λ fault. fault ≡ GatheredFault.File FileFault.Memory) }
     ensures same { length taken.now.givens.items ≡ tried.old.count → tried.new ≡ tried.old }
     ensures unmet { result ≡ Ok None → (tried.old.count ≡ 0) ⊎ IsSome tried.old.met
         → (first ≡ false → length taken.now.givens.items ≡ tried.new.count) × ((tried.new.count ≡ 0) ⊎ IsSome tried.new.met) }
-    ensures writing { IfErr result IsOfWriting }
     ensures met { IfSome tried.old.met (λ fault. is_open fault ≡ true) → IfSome tried.new.met (λ fault. is_open fault ≡ true) }
     ensures too_large { AreSlices wanted.now.form.now → tried.new.met ≡ Some GatherFault.TooLarge → (tried.old.met ≡ Some GatherFault.TooLarge)
-        ⊎ AreTooLong (IsFromSource wanted.now.form.now (watched_contents S.contents) (watched_faultless S.faultless) taken.now.givens.items) (fixed_as wanted.now.root.now wanted.now.mode.now wanted.now.how.capacity) wanted.now.how.capacity }
-    ensures left { result ≡ Ok None → IsKnown (D.at disk.now path.now) → (blob : List ℕ) → AreEnough wanted.now.form.now (fixed_as wanted.now.root.now wanted.now.mode.now wanted.now.how.capacity) wanted.now.how blob (HasSound (watched_contents S.contents) (watched_faultless S.faultless) taken.now.givens.items)
-        → (tried.old.count ≡ 0) ⊎ (tried.old.met ≡ Some GatherFault.Starved) → (tried.new.met ≡ Some GatherFault.Starved) ⊎ HasCollision (IsFromSource wanted.now.form.now (watched_contents S.contents) (watched_faultless S.faultless) taken.now.givens.items) (fixed_as wanted.now.root.now wanted.now.mode.now wanted.now.how.capacity) blob }
+        ⊎ AreTooLong (IsFromSource wanted.now.form.now (shown_contents S.contents) (shown_faultless S.faultless) taken.now.givens.items) (fixed_as wanted.now.root.now wanted.now.mode.now wanted.now.how.capacity) wanted.now.how.capacity }
+    ensures left { result ≡ Ok None → IsKnown (D.at disk.now path.now) → (blob : List ℕ) → AreEnough wanted.now.form.now (fixed_as wanted.now.root.now wanted.now.mode.now wanted.now.how.capacity) wanted.now.how blob (HasSound (shown_contents S.contents) (shown_faultless S.faultless) taken.now.givens.items)
+        → (tried.old.count ≡ 0) ⊎ (tried.old.met ≡ Some GatherFault.Starved) → (tried.new.met ≡ Some GatherFault.Starved) ⊎ HasCollision (IsFromSource wanted.now.form.now (shown_contents S.contents) (shown_faultless S.faultless) taken.now.givens.items) (fixed_as wanted.now.root.now wanted.now.mode.now wanted.now.how.capacity) blob }
 {
     let Ok(mut out) = disk.draft(path) else {
         return Err(GatheredFault::File(FileFault::Memory));
@@ -655,7 +630,7 @@ fn drafted<'a, R: AllocGlobal + Threads + Sync, D: Disk, P: Progress + Sync>(
 /// can't be opened or read, or for which there is no descriptor or no memory, is left out.
 ///
 /// What became of each file is noted in `notes.fates` under its index, as far as that goes, whatever the result; with
-/// `count` also its worth ([`worth_of_encoding`] or [`worth_of_copy`]), unless memory is refused. If the blob stays
+/// `count` also its worth ([`worth_of`]), unless memory is refused. If the blob stays
 /// unfinished (901), `notes.lack` says what no file has ([`lack_of`]), unless `parts` is 0 or there are no files;
 /// otherwise it is unchanged or `Unasked`. The bytes read are reported to `progress` if the longest file has at least
 /// 4 MiB; this doesn't affect the result.

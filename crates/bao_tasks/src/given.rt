@@ -4,11 +4,11 @@ ghost use Rattle.bao_files.specs.declared.fault.FileFault.TheVariants as FileFau
 ghost use Rattle.bao_tasks.specs.FromFiles.{taken_bytes};
 ghost use Rattle.bao_tasks.specs.Givens.{given_contents, is_given_faultless, most_bytes};
 
+use b3par::Source;
 use b3tree::CHUNK_LEN;
 use bao_files::{Disk, FileFault, read_input};
-use bao_read::Source;
 use bao_text::encoded_len;
-use gather::Form;
+use holders::Form;
 use std::alloc::Global;
 use std::io;
 use std::io::Read;

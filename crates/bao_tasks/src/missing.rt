@@ -1,17 +1,15 @@
 ghost use Rattle.std.specs.Prelude.{◌≡◌, ℕ, ◌+◌, ◌-◌, ◌*◌, ◌^◌, ◌<◌, ◌≤◌, ◌++◌, ◌∷◌, List, [], min, not, take, true, false, None, IfOk, IfSome, OnOk};
-ghost use Rattle.bao_text.specs.Choice.{chunk_count};
-ghost use Rattle.bao_check.specs.Outline.{outline_claimed};
-ghost use Rattle.gather.specs.Forms.{AreSlices, IsLengthOf};
-ghost use Rattle.bao_tasks.specs.Missing.{AreGaps, AreGoodChunks, AreParts, BeginsWithin, ClaimsIn, ClaimsLength, GoesUpTo, HasChunks, HasSome, HasUnit, IsGoodSlice, IsLackBy, IsLackOf, IsNextGap, IsUnit, JudgesClaim, JudgesUnit, Tells, claim_in, place_of, span_len, span_of, unit_chunks, units_in};
-ghost use Rattle.bao_tasks.specs.Worth.{IsSaidOf, JudgesGroup};
+ghost use Rattle.holders.specs.Forms.{AreSlices, IsLengthOf};
+ghost use Rattle.bao_tasks.specs.Missing.{AreGaps, AreParts, BeginsWithin, ClaimsIn, ClaimsLength, GoesUpTo, HasSome, HasUnit, IsLackBy, IsLackOf, IsNextGap, IsUnit, JudgesClaim, JudgesUnit, Tells, claim_in, place_of, span_len, span_of, unit_chunks, units_in};
+ghost use Rattle.bao_tasks.specs.Worth.{HasChunks, IsSaidOf, JudgesGroup};
 
-use b3tree::{CHUNK_LEN, Hash, Mode};
-use bao_check::{GROUP_BYTES, GROUP_LEN, Outline, check_bare, check_slice};
-use bao_read::{Source, fill};
+use b3par::{Source, fill};
+use b3tree::CHUNK_LEN;
+use bao_check::{GROUP_BYTES, GROUP_LEN};
 use bao_text::{LENGTH_LEN, Memory, chunk_count, claimed};
-use bao_windows::{Wanted, certified_length};
-use gather::{Encoded, Form, GatherFault, Grain, Holder, HolderFault, Plain};
-use std::alloc::Global;
+use bao_windows::{GatherFault, Wanted, ask, certified_length};
+use holders::{ByteRange, Form, Grain};
+use std::alloc::{AllocError, Global};
 
 // The most groups, or chunks, that are looked for. Whoever made the root may have certified an absurd length.
 const MOST_UNITS: u64 = 1 << 22;
@@ -56,56 +54,8 @@ pub enum Lack {
     Missing(MissingParts),
 }
 
-// Returns whether the slice (`start`, `len`), cut from the encoding, is refused.
-fn lacks_slice<S: Source>(
-    alloc: Global,
-    mode: &Mode,
-    root: &Hash,
-    source: &S,
-    start: u64,
-    len: u64,
-    room: &mut Vec<u8>,
-) -> Result<bool, Memory>
-    ensures { IfOk result (λ lacks. IsSaidOf (S.contents source.now) (S.faultless source.now) (λ text. JudgesGroup lacks (IsGoodSlice mode.now root.now.0 start len text))) }
-{
-    room.clear();
-    match Encoded::at(source).fetch(start, len, room) {
-        Ok(()) => {}
-        Err(HolderFault::Device) => return Ok(true),
-        Err(HolderFault::Memory) => return Err(Memory),
-    }
-    let checked = check_slice(alloc, mode, root, start, len, room.as_slice());
-    Ok(checked.is_err())
-}
-
-// Returns whether at most `most` chunks of a plain copy, from chunk `first` on, are refused beside the outline.
-fn lacks_chunks<S: Source>(
-    outline: &Outline<'_>,
-    source: &S,
-    first: u64,
-    most: u64,
-    room: &mut Vec<u8>,
-) -> Result<bool, Memory>
-    requires first { first < chunk_count (outline_claimed outline.now) }
-    requires some { 0 < most }
-    requires few { most ≤ 64 }
-    ensures { IfOk result (λ lacks. IsSaidOf (S.contents source.now) (S.faultless source.now) (λ copy. JudgesGroup lacks (AreGoodChunks outline.now first (min (chunk_count (outline_claimed outline.now) - first) most) copy))) }
-{
-    let total = outline.claimed();
-    let count = (chunk_count(total) - first).min(most);
-    let start = CHUNK_LEN as u64 * first;
-    let len = total.saturating_sub(start).min(CHUNK_LEN as u64 * count);
-    room.clear();
-    match Plain::at(source).fetch(start, len, room) {
-        Ok(()) => {}
-        Err(HolderFault::Device) => return Ok(true),
-        Err(HolderFault::Memory) => return Err(Memory),
-    }
-    Ok(check_bare(outline, first, count, room.as_slice()).is_err())
-}
-
 // Returns whether a source lacks one of at most `most` chunks from chunk `first` on.
-fn lacks_part<S: Source>(
+pub(crate) fn lacks_part<S: Source>(
     alloc: Global,
     wanted: &Wanted<'_>,
     source: &S,
@@ -118,17 +68,13 @@ fn lacks_part<S: Source>(
     requires few { most ≤ 64 }
     ensures { IfOk result (λ lacks. IsSaidOf (S.contents source.now) (S.faultless source.now) (λ bytes. JudgesGroup lacks (HasChunks wanted.now.form wanted.now.mode wanted.now.root.0 first most bytes))) }
 {
-    match wanted.form {
-        Form::Slices => lacks_slice(
-            alloc,
-            &wanted.mode,
-            &wanted.root,
-            source,
-            CHUNK_LEN as u64 * first,
-            CHUNK_LEN as u64 * most,
-            room,
-        ),
-        Form::Bare(outline) => lacks_chunks(outline, source, first, most, room),
+    let range = ByteRange {
+        start: CHUNK_LEN as u64 * first,
+        len: CHUNK_LEN as u64 * most,
+    };
+    match ask(alloc, wanted, source, range, room) {
+        Ok(found) => Ok(found.is_none()),
+        Err(AllocError) => Err(Memory),
     }
 }
 

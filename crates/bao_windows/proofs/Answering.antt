@@ -5,17 +5,17 @@ use Rattle.b3tree.specs.Valid.{IsKeyed}
 use Rattle.bao_text.proofs.Laws.{length-combined_text}
 use Rattle.bao_text.specs.Choice.{chunk_count}
 use Rattle.bao_text.specs.Texts.{combined_text}
-use Rattle.gather.proofs.Serving.{true_slices}
-use Rattle.gather.specs.Available.{HaveSlices}
-use Rattle.gather.specs.declared.fault.GatherFault.{GatherFault}
-use Rattle.gather.specs.declared.fault.GatherFault.TheVariants.{TooLarge, Unfinished, NotTheRoot, Memory, Starved}
-use Rattle.gather.specs.Forms.{AreSlices, IsLengthOf}
-use Rattle.gather.specs.Large.{HasCollision, IsOfNone}
-use Rattle.gather.specs.Lists.{source_gives}
-use Rattle.store_core.specs.declared.fixed.Fixed.{Fixed}
-use Rattle.store_core.specs.declared.history.Piece.{Piece}
-use Rattle.store_core.specs.Laws.{IsBlob}
-use Rattle.bao_windows.proofs.Asking.{HaveAsked, copies_asked, copy_all, slices_asked}
+use Rattle.holders.proofs.Slices.{true_slices}
+use Rattle.holders.specs.Available.{HaveSlices}
+use Rattle.bao_windows.specs.declared.fault.GatherFault.{GatherFault}
+use Rattle.bao_windows.specs.declared.fault.GatherFault.TheVariants.{TooLarge, Unfinished, NotTheRoot, Memory, Starved}
+use Rattle.holders.specs.Forms.{AreSlices, IsLengthOf}
+use Rattle.holders.specs.Blobs.{HasCollision, IsOfNone}
+use Rattle.holders.specs.Lists.{source_gives}
+use Rattle.holders.specs.declared.fixed.Fixed.{Fixed}
+use Rattle.holders.specs.declared.piece.Piece.{Piece}
+use Rattle.holders.specs.Blobs.{IsBlob}
+use Rattle.bao_windows.proofs.Making.{HaveAsked, copies_asked, copy_all, slices_asked}
 use Rattle.bao_windows.proofs.Covered.{missing_none, no_end, source_true}
 use Rattle.bao_windows.specs.declared.fault.WindowsFault.{WindowsFault}
 use Rattle.bao_windows.specs.declared.fault.WindowsFault.TheVariants.{Gather, Write}

@@ -5,9 +5,9 @@ use Rattle.std.proofs.lemmas.List.{get_or-drop, get_or-take, get_or_append_left,
 use Rattle.std.proofs.lemmas.Option.{cond_some, slice_get-get_or}
 use Rattle.bao_check.specs.Pieces.{chunk_of}
 use Rattle.bao_text.specs.Choice.{chunk_count}
-use Rattle.gather.specs.Large.{HasCollision}
-use Rattle.store_core.specs.declared.fixed.Fixed.{Fixed}
-use Rattle.store_core.specs.declared.history.Piece.{Piece}
+use Rattle.holders.specs.Blobs.{HasCollision}
+use Rattle.holders.specs.declared.fixed.Fixed.{Fixed}
+use Rattle.holders.specs.declared.piece.Piece.{Piece}
 use Rattle.bao_windows.specs.Windows.{Adds, AllAt, AreBytesAt, IsAt, IsOfAccepted}
 
 pub place_of : (i n : ℕ) → (i < n) ⊎ (n ≤ i)

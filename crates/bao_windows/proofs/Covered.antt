@@ -8,16 +8,16 @@ use Rattle.bao_check.specs.Pieces.{chunk_in}
 use Rattle.bao_text.proofs.Laws.{cut_text-combined}
 use Rattle.bao_text.specs.Choice.{slice_end, slice_start}
 use Rattle.bao_text.specs.Texts.{combined_text, slice_text}
-use Rattle.gather.specs.Available.{HasTrue}
-use Rattle.gather.specs.declared.grain.Grain.{Grain}
-use Rattle.gather.specs.declared.grain.Grain.TheVariants.{Group as ByGroup, Chunk as ByChunk}
-use Rattle.gather.specs.Large.{HasCollision}
-use Rattle.gather.specs.Lists.{source_gives}
-use Rattle.gather.specs.Places.{IsCutAt}
-use Rattle.store_core.specs.declared.history.Piece.{Piece}
-use Rattle.store_core.specs.Laws.{IsBlob}
-use Rattle.store_core.specs.Pieces.{EndsBlob, places_in}
-use Rattle.bao_windows.proofs.Asking.{HaveAsked, Makes, handed_in}
+use Rattle.holders.specs.Available.{HasTrue}
+use Rattle.holders.specs.declared.grain.Grain.{Grain}
+use Rattle.holders.specs.declared.grain.Grain.TheVariants.{Group as ByGroup, Chunk as ByChunk}
+use Rattle.holders.specs.Blobs.{HasCollision}
+use Rattle.holders.specs.Lists.{source_gives}
+use Rattle.holders.specs.Places.{IsCutAt}
+use Rattle.holders.specs.declared.piece.Piece.{Piece}
+use Rattle.holders.specs.Blobs.{IsBlob}
+use Rattle.holders.specs.Pieces.{EndsBlob, places_in}
+use Rattle.bao_windows.proofs.Making.{HaveAsked, Makes, handed_in}
 use Rattle.bao_windows.proofs.Bytes.{chunk_long, place_of}
 use Rattle.bao_windows.proofs.Served.{ends_there, present, slice_good, the_slice}
 use Rattle.bao_windows.specs.declared.wanted.Wanted.{Wanted}
@@ -62,11 +62,11 @@ module _ {S : Type 0} (contents : S → Option (List ℕ)) (faultless : S → Ty
       ]
 
   -- so there is where all sources refuse a slice that one gives
-  all_refuse : (at len span : ℕ) → IsFitting wanted wanted.form → IsWithin wanted.form at len
-      → Makes wanted.form contents faultless wanted.mode blob sources at (span_in wanted.form len span) → IsPartOf blob at len (span_in wanted.form len span)
+  all_refuse : (at len span : ℕ) → IsFitting wanted wanted.form → IsWithin wanted.form at
+      → Makes wanted.form contents faultless wanted.mode blob sources at (span_in wanted.form at span) → IsPartOf blob at len (span_in wanted.form at span)
       → AllRefuse contents faultless wanted sources at len span → Collides
   all_refuse at len span fitting within has part refused =
-      let n : ℕ = span_in wanted.form len span in
+      let n : ℕ = span_in wanted.form at span in
       let why = refused has.place (slice_get_within sources has.place has.source has.there) fitting within has.source has.there in
       let same = has.makes why.0 why.2 in
       elim why.3 [

@@ -3,11 +3,11 @@ use Rattle.std.proofs.Common.{◌≡◌, ◌⊎◌, ℕ, List, length, ◌∙◌
 use Rattle.b3tree.specs.declared.mode.Mode.{Mode}
 use Rattle.b3tree.specs.declared.values.Hash.{Hash}
 use Rattle.b3tree.specs.Hashing.{hash}
-use Rattle.gather.proofs.Binding.{all_same, same_bytes}
-use Rattle.gather.specs.Large.{AreTheBlob, HasCollision, IsOfNone, fixed_as}
-use Rattle.store_core.specs.declared.fixed.Fixed.{Fixed}
-use Rattle.store_core.specs.declared.history.Piece.{Piece}
-use Rattle.store_core.specs.Laws.{IsBlob}
+use Rattle.holders.proofs.Same.{all_same, same_bytes}
+use Rattle.holders.specs.Blobs.{AreTheBlob, HasCollision, IsOfNone, fixed_as}
+use Rattle.holders.specs.declared.fixed.Fixed.{Fixed}
+use Rattle.holders.specs.declared.piece.Piece.{Piece}
+use Rattle.holders.specs.Blobs.{IsBlob}
 use Rattle.bao_windows.specs.Windows.{AreBytesAt, IsLengthOfEach}
 
 -- as many bytes as a blob with the root has are the blob, or a collision is exhibited

@@ -1,10 +1,9 @@
 pub mod Bytes
 pub mod Pieces
-pub mod Sources
 pub mod Served
 pub mod Turns
 pub mod Owning
-pub mod Asking
+pub mod Making
 pub mod Parts
 pub mod Covered
 pub mod Answering

@@ -11,7 +11,7 @@ use Rattle.bao_text.specs.Cut.{claimed}
 use Rattle.bao_text.specs.Nodes.{chosen_nodes}
 use Rattle.bao_text.specs.Texts.{outboard_text, slice_text}
 use Rattle.bao_text.specs.declared.choice.Choice.{Choice}
-use Rattle.gather.proofs.Owning.{own_makes as made_of_own}
+use Rattle.holders.proofs.Owning.{own_makes as made_of_own}
 
 pub own_makes : (mode : Mode) (blob : List ℕ) (start len : ℕ) → IsKeyed mode → length blob < 2 ^ 64 → IsOfChunks (length blob) start len
     → beside_text (outboard_text mode blob) start len (piece blob start (bare_len (length blob) start len)) ≡ slice_text mode blob start len

@@ -13,18 +13,12 @@ use Rattle.bao_check.specs.Laws.{BindsChunk}
 use Rattle.bao_check.specs.Pieces.{chunk_in}
 use Rattle.bao_check.specs.declared.tail.Tail.{Tail}
 use Rattle.bao_check.specs.Tail.{tail_piece}
-use Rattle.gather.specs.Large.{HasCollision, fixed_as}
-use Rattle.store_core.specs.declared.history.Piece.{Piece}
-use Rattle.store_core.specs.Pieces.{IsAcceptedPiece, piece_of}
+use Rattle.holders.specs.Blobs.{HasCollision, fixed_as}
+use Rattle.holders.specs.declared.piece.Piece.{Piece}
+use Rattle.holders.specs.Pieces.{IsAcceptedPiece, piece_of}
 use Rattle.bao_windows.proofs.Bytes.{both, chunk_byte}
+use Rattle.bao_windows.specs.Asked.{IsSound}
 use Rattle.bao_windows.specs.Windows.{AddsOf, AreBytesAt, AreOfPiece, HasByte, IsAt, IsLengthOfEach, LacksChunk, Takes, TakesOf}
-
--- a checked piece's encoding is of bytes, and accepted under this root in this mode
-pub record IsSound (piece : Checked) (mode : Mode) (root : Hash) : Type 0 where
-  pub mode_is : piece_mode piece ≡ mode
-  pub root_is : piece_root piece ≡ root.0
-  pub bytes : AreBytes (piece_text piece)
-  pub accepted : IsAccepted (piece_mode piece) (piece_root piece) (piece_text piece) (piece_nodes piece)
 
 -- the bytes of one of its chunks
 pub of_chunk : (piece : Checked) (at c : ℕ) (bytes : List ℕ) → at ≡ 1024 * c → chunk_in (piece_text piece) (piece_places piece) c ≡ Some bytes
@@ -56,7 +50,7 @@ adds_more_of piece at m n old mid new bytes first is size each =
     }
 
 -- the piece is accepted under the root
-sound_piece : (mode : Mode) (root : Hash) (piece : Checked) → IsSound piece mode root → IsAcceptedPiece (fixed_as root mode 0) (piece_of 0 piece)
+sound_piece : (mode : Mode) (root : Hash) (piece : Checked) → IsSound piece mode root.0 → IsAcceptedPiece (fixed_as root mode 0) (piece_of 0 piece)
 sound_piece mode root piece sound = record {
   bytes = sound.bytes;
   accepted = subst (λ (m : Mode). IsAccepted m root.0 (piece_text piece) (piece_nodes piece)) sound.mode_is
@@ -65,7 +59,7 @@ sound_piece mode root piece sound = record {
 }
 
 -- a collision that is exhibited from the piece
-pub pair_from : (handed : Piece → Type 0) (mode : Mode) (root : Hash) (piece : Checked) (blob : List ℕ) → IsSound piece mode root → handed (piece_of 0 piece)
+pub pair_from : (handed : Piece → Type 0) (mode : Mode) (root : Hash) (piece : Checked) (blob : List ℕ) → IsSound piece mode root.0 → handed (piece_of 0 piece)
     → NamesCollision (piece_mode piece) blob (piece_text piece) (piece_places piece) → HasCollision handed (fixed_as root mode 0) blob
 pair_from handed mode root piece blob sound from named = record {
   piece = piece_of 0 piece;
@@ -75,10 +69,10 @@ pair_from handed mode root piece blob sound from named = record {
 }
 
 -- a blob with the root has it in the piece's mode
-pub hashed_by : (mode : Mode) (root : Hash) (piece : Checked) (blob : List ℕ) → IsSound piece mode root → hash mode blob ≡ root.0 → hash (piece_mode piece) blob ≡ piece_root piece
+pub hashed_by : (mode : Mode) (root : Hash) (piece : Checked) (blob : List ℕ) → IsSound piece mode root.0 → hash mode blob ≡ root.0 → hash (piece_mode piece) blob ≡ piece_root piece
 hashed_by mode root piece blob sound is = subst (λ (m : Mode). hash m blob ≡ piece_root piece) (sym sound.mode_is) (is ∙ sym sound.root_is)
 
-pub bytes_of : (handed : Piece → Type 0) (mode : Mode) (root : Hash) (piece : Checked) (at : ℕ) (bytes : List ℕ) → IsSound piece mode root → handed (piece_of 0 piece)
+pub bytes_of : (handed : Piece → Type 0) (mode : Mode) (root : Hash) (piece : Checked) (at : ℕ) (bytes : List ℕ) → IsSound piece mode root.0 → handed (piece_of 0 piece)
     → AreOfPiece piece at bytes → AreBytesAt handed (fixed_as root mode 0) at bytes
 bytes_of handed mode root piece at bytes sound from of = record {
   slices = λ i less. record { piece = piece_of 0 piece; from = from; accepted = sound_piece mode root piece sound; has = of.chunks i less };
@@ -89,7 +83,7 @@ bytes_of handed mode root piece at bytes sound from of = record {
 }
 
 -- what is taken of a piece that was handed over
-pub takes_of : (took : Bool) (handed : Piece → Type 0) (mode : Mode) (root : Hash) (piece : Checked) (at len : ℕ) (old new : List ℕ) → IsSound piece mode root → handed (piece_of 0 piece)
+pub takes_of : (took : Bool) (handed : Piece → Type 0) (mode : Mode) (root : Hash) (piece : Checked) (at len : ℕ) (old new : List ℕ) → IsSound piece mode root.0 → handed (piece_of 0 piece)
     → TakesOf took piece at len old new → Takes took handed (fixed_as root mode 0) at len old new
 takes_of true handed mode root piece at len old new sound from adds =
     record { bytes = adds.bytes; is = adds.is; size = adds.size; each = bytes_of handed mode root piece at adds.bytes sound from adds.each }
@@ -122,7 +116,7 @@ lacks_size piece at len came bytes aligned step below is other = record {
 }
 
 -- the length that a tail certifies
-pub length_each : (handed : Piece → Type 0) (mode : Mode) (root : Hash) (piece : Checked) (tail : Tail) (l : ℕ) → IsSound piece mode root → handed (piece_of 0 piece) → tail_piece tail ≡ piece
+pub length_each : (handed : Piece → Type 0) (mode : Mode) (root : Hash) (piece : Checked) (tail : Tail) (l : ℕ) → IsSound piece mode root.0 → handed (piece_of 0 piece) → tail_piece tail ≡ piece
     → ((blob : List ℕ) → AreBytes blob → hash (piece_mode (tail_piece tail)) blob ≡ piece_root (tail_piece tail)
     → (l ≡ length blob) ⊎ NamesCollision (piece_mode (tail_piece tail)) blob (piece_text (tail_piece tail)) (piece_places (tail_piece tail)))
     → IsLengthOfEach handed (fixed_as root mode 0) l

@@ -14,8 +14,8 @@ use Rattle.bao_text.specs.Choice.{chunk_count, of_slice, slice_end, slice_start}
 use Rattle.bao_text.specs.Cut.{claimed}
 use Rattle.bao_text.specs.Nodes.{nodes}
 use Rattle.bao_text.specs.Texts.{slice_text}
-use Rattle.store_core.specs.declared.history.Piece.{Piece}
-use Rattle.store_core.specs.Pieces.{EndsBlob, places_in}
+use Rattle.holders.specs.declared.piece.Piece.{Piece}
+use Rattle.holders.specs.Pieces.{EndsBlob, places_in}
 use Rattle.bao_windows.specs.Available.{slice_piece}
 
 some_mapped : {X Y : Type 0} (f : X → Y) (o : Option X) → IsSome o → IsSome (option_map f o)

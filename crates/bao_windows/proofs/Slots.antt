@@ -2,10 +2,10 @@
 use Rattle.std.proofs.Common.{◌≡◌, ℕ, ◌+◌, ◌-◌, ◌*◌, ◌<◌, ◌≤◌, min, suc, List, [], ◌∷◌, ◌++◌, length, take, take_at, drop, get_or, slice_index_or, ◌∙◌, sym, ap, subst, arith, inl, inr, refl, Option, None, Some, IfErr, IfSome, OnOk, Result, Ok, Err, length-append, ◌⊎◌}
 use Rattle.std.proofs.lemmas.Grind.{flat_map-append}
 use Rattle.std.proofs.lemmas.List.{drop_more, take-append-drop}
-use Rattle.gather.specs.declared.fault.GatherFault.{GatherFault}
-use Rattle.gather.specs.declared.fault.GatherFault.TheVariants.{Starved, Unfinished}
-use Rattle.store_core.specs.declared.fixed.Fixed.{Fixed}
-use Rattle.store_core.specs.declared.history.Piece.{Piece}
+use Rattle.bao_windows.specs.declared.fault.GatherFault.{GatherFault}
+use Rattle.bao_windows.specs.declared.fault.GatherFault.TheVariants.{Starved, Unfinished}
+use Rattle.holders.specs.declared.fixed.Fixed.{Fixed}
+use Rattle.holders.specs.declared.piece.Piece.{Piece}
 use Rattle.bao_windows.proofs.Bytes.{both_at, none_at, place_of}
 use Rattle.bao_windows.specs.declared.wanted.Wanted.{Wanted}
 use Rattle.bao_windows.specs.declared.window.Slot.{Slot}

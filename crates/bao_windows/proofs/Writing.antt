@@ -11,8 +11,8 @@ use Rattle.bao_text.specs.Faults.{WroteOnly}
 use Rattle.b3tree.specs.declared.mode.Mode.{Mode}
 use Rattle.b3tree.proofs.BlockWords.{AreBytes-append, AreBytes-nil}
 use Rattle.b3tree.specs.Taken.{Holds}
-use Rattle.store_core.specs.declared.fixed.Fixed.{Fixed}
-use Rattle.store_core.specs.declared.history.Piece.{Piece}
+use Rattle.holders.specs.declared.fixed.Fixed.{Fixed}
+use Rattle.holders.specs.declared.piece.Piece.{Piece}
 use Rattle.bao_windows.proofs.Bytes.{both_at, first_at, none_at}
 use Rattle.bao_windows.specs.declared.window.Slot.{Slot}
 use Rattle.bao_windows.specs.Windows.{AreBytesAt, AreOfWindow, window_bytes}

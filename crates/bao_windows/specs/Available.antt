@@ -2,19 +2,19 @@
 use Rattle.std.specs.Prelude.{◌≡◌, ◌⊎◌, ℕ, ◌+◌, ◌-◌, ◌*◌, ◌/◌, ◌%◌, ◌^◌, ◌<◌, min, List, length, IfErr, IfSome, IsErrOf, None, OnOk, Option, Result, Some, slice_get}
 use Rattle.b3tree.specs.Valid.{AreBytes}
 use Rattle.bao_check.specs.Accepted.{IsAccepted}
-use Rattle.bao_check.specs.Bare.{AreChunksOf, bare_part}
+use Rattle.bao_check.specs.Bare.{bare_part}
 use Rattle.bao_check.specs.Beside.{bare_len, beside_text}
 use Rattle.bao_check.specs.declared.outline.Outline.{Outline}
 use Rattle.bao_check.specs.Outline.{outline_claimed, outline_mode, outline_root, outline_text}
 use Rattle.bao_text.specs.Choice.{chunk_count}
-use Rattle.gather.specs.declared.fault.GatherFault.{GatherFault}
-use Rattle.gather.specs.declared.fault.GatherFault.TheVariants.{Starved, Unfinished}
-use Rattle.gather.specs.declared.form.Form.{Form}
-use Rattle.gather.specs.declared.form.Form.TheVariants.{Slices, Bare}
-use Rattle.gather.specs.declared.grain.Grain.TheVariants.{Chunk as ByChunk}
-use Rattle.gather.specs.Lists.{part_gives, source_gives}
-use Rattle.store_core.specs.declared.history.Piece.{Piece}
-use Rattle.store_core.specs.Pieces.{EndsBlob, length_of, nodes_of}
+use Rattle.bao_windows.specs.declared.fault.GatherFault.{GatherFault}
+use Rattle.bao_windows.specs.declared.fault.GatherFault.TheVariants.{Starved, Unfinished}
+use Rattle.holders.specs.declared.form.Form.{Form}
+use Rattle.holders.specs.declared.form.Form.TheVariants.{Slices, Bare}
+use Rattle.holders.specs.declared.grain.Grain.TheVariants.{Chunk as ByChunk}
+use Rattle.holders.specs.Lists.{part_gives, source_gives}
+use Rattle.holders.specs.declared.piece.Piece.{Piece}
+use Rattle.holders.specs.Pieces.{EndsBlob, length_of, nodes_of}
 use Rattle.bao_windows.specs.declared.wanted.Wanted.{Wanted}
 use Rattle.bao_windows.specs.declared.window.Slot.{Slot}
 use Rattle.bao_windows.specs.Windows.{AreOfSlot, AreOfWindow, IsFrom, LacksChunk, fixed_for}
@@ -36,16 +36,16 @@ abbrev pub IsFitting : Wanted → Form → Type 0
 IsFitting wanted Slices = Unit {0}
 IsFitting wanted (Bare outline) = IsOfRoot wanted outline.now
 
--- the chunks that `len` bytes from a place on begin in are some of the length that it claims
-abbrev pub IsWithin : Form → ℕ → ℕ → Type 0
-IsWithin Slices at len = Unit {0}
-IsWithin (Bare outline) at len = AreChunksOf outline.now (at / 1024) (chunk_count len)
+-- a range that begins there is asked for: at a chunk of the length that the outline claims
+abbrev pub IsWithin : Form → ℕ → Type 0
+IsWithin Slices at = Unit {0}
+IsWithin (Bare outline) at = (at % 1024 ≡ 0) × (at / 1024 < chunk_count (outline_claimed outline.now))
 
--- How many bytes the slice has that such a part is taken from: as many as are asked for, or, of a plain copy, as many as these chunks
--- may have.
+-- How many bytes the slice has that `span` bytes from a place on are checked by: as many, or, of a plain copy, as many as the chunks may have that they begin
+-- in, as far as that length goes.
 abbrev pub span_in : Form → ℕ → ℕ → ℕ
-span_in Slices len span = span
-span_in (Bare outline) len span = bare_part (chunk_count len)
+span_in Slices at span = span
+span_in (Bare outline) at span = bare_part (min (chunk_count span) (chunk_count (outline_claimed outline.now) - at / 1024))
 
 -- what a source gives for it: a slice, or a part of a plain copy
 abbrev pub gives_in : {S : Type 0} → Form → (S → Option (List ℕ)) → (S → Type 0) → S → ℕ → ℕ → List ℕ → Type 0
@@ -64,14 +64,14 @@ HasNot wanted piece at len = (IsAcceptedAs wanted piece → ⊥) ⊎ (AreBytes p
 -- What a source gave for a part isn't accepted, or lacks a chunk of it.
 abbrev pub HasRefused : {S : Type 0} → Form → (S → Option (List ℕ)) → (S → Type 0) → Wanted → S → ℕ → ℕ → ℕ → Type 0
 HasRefused form contents faultless wanted source at len span =
-    (text : List ℕ) × AreBytes text × gives_in form contents faultless source at (span_in form len span) text
-    × HasNot wanted (slice_in form at (span_in form len span) text) at len
+    (text : List ℕ) × AreBytes text × gives_in form contents faultless source at (span_in form at span) text
+    × HasNot wanted (slice_in form at (span_in form at span) text) at len
 
--- What the source at this place gave for `len` bytes from a place on, as the slice of `span` bytes from there on, isn't accepted, or lacks a
--- chunk that they begin in. Of plain copies this is so where the outline is of the root and has these chunks.
+-- What the source at this place gave for `span` bytes from a place on isn't accepted, or lacks a chunk that the first `len` of them begin in. Of plain copies
+-- this is so where the outline is of the root and has the first chunk.
 abbrev pub Refuses : {S : Type 0} → (S → Option (List ℕ)) → (S → Type 0) → Wanted → List S → ℕ → ℕ → ℕ → ℕ → Type 0
 Refuses contents faultless wanted sources at len span place =
-    IsFitting wanted wanted.form → IsWithin wanted.form at len → (source : _) → slice_get sources place ≡ Some source
+    IsFitting wanted wanted.form → IsWithin wanted.form at → (source : _) → slice_get sources place ≡ Some source
     → HasRefused wanted.form contents faultless wanted source at len span
 
 -- what each of them gave
@@ -97,14 +97,13 @@ pub record IsMissing {S : Type 0} (contents : S → Option (List ℕ)) (faultles
   pub below : at < total
   pub lacks : LacksGroup contents faultless wanted sources at (min 65536 (total - at))
 
--- The slice that the length is asked for by: that of the last byte, or the last chunk of the length that the outline claims.
+-- A byte is asked for to come by the length: the last that a blob may have, or the first of the last chunk of the length that the outline claims.
 abbrev pub end_start : Form → ℕ
 end_start Slices = 2 ^ 64 - 1
 end_start (Bare outline) = 1024 * (chunk_count (outline_claimed outline.now) - 1)
 
 abbrev pub end_span : Form → ℕ
-end_span Slices = 1
-end_span (Bare outline) = bare_part 1
+end_span form = span_in form (end_start form) 1
 
 -- Of the slice that what a source gave for the length makes this is so.
 abbrev pub GaveEnd : {S : Type 0} → Form → (S → Option (List ℕ)) → (S → Type 0) → S → (Piece → Type 0) → Type 0

@@ -8,16 +8,13 @@ use Rattle.bao_check.specs.Checked.{piece_mode, piece_places, piece_root, piece_
 use Rattle.bao_check.specs.Inputs.{NamesCollision}
 use Rattle.bao_check.specs.Pieces.{chunk_in}
 use Rattle.bao_text.specs.Nodes.{TreeNode}
-use Rattle.bao_check.specs.declared.outline.Outline.{Outline}
-use Rattle.gather.specs.declared.fault.GatherFault.{GatherFault}
-use Rattle.gather.specs.declared.form.Form.{Form}
-use Rattle.gather.specs.declared.form.Form.TheVariants.{Slices, Bare}
-use Rattle.gather.specs.Large.{HasCollision, fixed_as}
-use Rattle.gather.specs.Lists.{IsFromSource}
-use Rattle.store_core.specs.declared.fixed.Fixed.{Fixed}
-use Rattle.store_core.specs.declared.history.Piece.{Piece}
-use Rattle.store_core.specs.Laws.{IsBlob}
-use Rattle.store_core.specs.Pieces.{IsAcceptedPiece, piece_of, places_in}
+use Rattle.bao_windows.specs.declared.fault.GatherFault.{GatherFault}
+use Rattle.holders.specs.Blobs.{HasCollision, fixed_as}
+use Rattle.holders.specs.Lists.{IsFromSource}
+use Rattle.holders.specs.declared.fixed.Fixed.{Fixed}
+use Rattle.holders.specs.declared.piece.Piece.{Piece}
+use Rattle.holders.specs.Blobs.{IsBlob}
+use Rattle.holders.specs.Pieces.{IsAcceptedPiece, piece_of, places_in}
 use Rattle.bao_windows.specs.declared.wanted.Wanted.{Wanted}
 use Rattle.bao_windows.specs.declared.window.Slot.{Slot}
 
@@ -28,11 +25,6 @@ fixed_for wanted = fixed_as wanted.root wanted.mode 0
 -- the piece is a slice that is cut out of one of the sources, or made of a part of one of them beside the outboard encoding
 abbrev pub IsFrom : {S : Type 0} → Wanted → (S → Option (List ℕ)) → (S → Type 0) → List S → Piece → Type 0
 IsFrom wanted contents faultless sources = IsFromSource wanted.form contents faultless sources
-
--- the form is that of plain copies beside this outline
-abbrev pub IsBeside : Form → Outline → Type 0
-IsBeside Slices outline = ⊥
-IsBeside (Bare beside) outline = beside.now ≡ outline
 
 -- it holds of each of these bytes and its offset, which is `at` for the first
 abbrev pub AllAt : (ℕ → ℕ → Type 0) → ℕ → List ℕ → Type 0

@@ -7,12 +7,12 @@ use Rattle.b3tree.specs.Hashing.{hash}
 use Rattle.b3tree.specs.Taken.{Holds}
 use Rattle.b3tree.specs.Valid.{AreBytes}
 use Rattle.bao_text.specs.Choice.{chunk_count}
-use Rattle.gather.specs.declared.fault.GatherFault.TheVariants.{Memory, NotTheRoot, Starved, TooLarge, Unfinished}
-use Rattle.gather.specs.HandedOut.{IsExcused}
-use Rattle.gather.specs.Large.{AreTheBlob, HasCollision}
-use Rattle.store_core.specs.declared.fixed.Fixed.{Fixed}
-use Rattle.store_core.specs.declared.history.Piece.{Piece}
-use Rattle.store_core.specs.Laws.{IsBlob}
+use Rattle.bao_windows.specs.declared.fault.GatherFault.TheVariants.{Memory, NotTheRoot, Starved, TooLarge, Unfinished}
+use Rattle.bao_windows.specs.Faults.{IsExcused}
+use Rattle.holders.specs.Blobs.{AreTheBlob, HasCollision}
+use Rattle.holders.specs.declared.fixed.Fixed.{Fixed}
+use Rattle.holders.specs.declared.piece.Piece.{Piece}
+use Rattle.holders.specs.Blobs.{IsBlob}
 use Rattle.bao_windows.specs.declared.fault.WindowsFault.{WindowsFault}
 use Rattle.bao_windows.specs.declared.fault.WindowsFault.TheVariants.{Gather, Write}
 use Rattle.bao_windows.specs.declared.wanted.Wanted.{Wanted}

@@ -1,5 +1,5 @@
 ghost use Rattle.std.specs.Prelude.{◌≡◌, ◌+◌, ◌*◌, ◌%◌, ◌^◌, ◌<◌, false, true, length, take, IfOk};
-ghost use Rattle.store_core.specs.Pieces.{piece_of};
+ghost use Rattle.holders.specs.Pieces.{piece_of};
 ghost use Rattle.bao_windows.specs.Windows.{AddsOf, LacksChunk, TakesOf};
 
 use b3tree::CHUNK_LEN;

@@ -1,7 +1,7 @@
 ghost use Rattle.std.specs.Prelude.{IsErrOf, OnOk};
-ghost use Rattle.gather.specs.declared.holder.HolderFault.TheVariants.{Memory};
+ghost use Rattle.holders.specs.declared.holder.HolderFault.TheVariants.{Memory};
 
-use gather::HolderFault;
+use holders::HolderFault;
 use std::alloc::AllocError;
 
 // Passes over a device that failed, of which nothing came. That there was no memory is the only fault.

@@ -5,9 +5,9 @@ ghost use Rattle.bao_windows.specs.Windows.{Adds, IsFrom, fixed_for};
 use crate::appending::CHUNK_BYTES;
 use crate::taking::take_any;
 use crate::wanted::Wanted;
+use b3par::Source;
 use bao_check::GROUP_BYTES;
-use bao_read::Source;
-use gather::{ByteRange, Grain};
+use holders::{ByteRange, Grain};
 use std::alloc::{AllocError, Global};
 
 // Takes the chunks of a part one by one, each from the first source in turn that has it, up to one that none has.

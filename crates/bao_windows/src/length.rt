@@ -1,90 +1,25 @@
 ghost use Rattle.std.specs.Prelude.{◌≡◌, ◌⊎◌, ◌<◌, length, None, IfErr, IfOk, IfSome, IsErrOf};
-ghost use Rattle.gather.specs.declared.fault.GatherFault.TheVariants.{Starved, Unfinished};
-ghost use Rattle.bao_check.specs.Outline.{outline_claimed};
-ghost use Rattle.gather.specs.Forms.{AreSlices, IsLengthOf};
-ghost use Rattle.bao_windows.specs.Available.{CertifiesEnd, HasNoEnd, IsFirstEnd, RefusesEnd};
-ghost use Rattle.bao_windows.specs.Windows.{IsBeside, IsFrom, IsLengthOfEach, fixed_for};
+ghost use Rattle.bao_windows.specs.declared.fault.GatherFault.TheVariants.{Starved, Unfinished};
+ghost use Rattle.holders.specs.Forms.{IsLengthOf};
+ghost use Rattle.bao_windows.specs.Available.{CertifiesEnd, HasNoEnd, IsFirstEnd, IsFitting, RefusesEnd, end_start};
+ghost use Rattle.bao_windows.specs.Windows.{IsFrom, IsLengthOfEach, fixed_for};
 
 use crate::appending::CHUNK_BYTES;
-use crate::fetching::pass_over;
+use crate::asking::ask;
+use crate::fault::GatherFault;
 use crate::wanted::Wanted;
-use bao_check::{Outline, check_bare, check_slice};
-use bao_read::Source;
+use b3par::Source;
 use bao_text::chunk_count;
-use gather::{Encoded, Form, GatherFault, Holder, Plain};
+use holders::{ByteRange, Form};
 use std::alloc::{AllocError, Global};
 
-// The length that the slice of the last byte certifies, which this source has.
-fn length_by_slice<S: Source>(
-    alloc: Global,
-    wanted: &Wanted<'_>,
-    sources: &[S],
-    place: usize,
-    room: &mut Vec<u8>,
-) -> Result<Option<u64>, AllocError>
-    requires form { AreSlices wanted.now.form }
-    requires place { place < length sources.now }
-    ensures each { IfOk result (λ found. IfSome found (λ l. IsLengthOfEach (IsFrom wanted.now S.contents S.faultless sources.now) (fixed_for wanted.now) l)) }
-    ensures certified { IfOk result (λ found. IfSome found (CertifiesEnd S.contents S.faultless wanted.now sources.now place)) }
-    ensures refused { IfOk result (λ found. found ≡ None → RefusesEnd S.contents S.faultless wanted.now sources.now place) }
+// Where the byte is that the length is asked for by: the last that a blob may have, or, beside an outline, the first of the last chunk.
+fn end_start(form: &Form<'_>) -> u64
+    ensures { result ≡ end_start form.now }
 {
-    room.clear();
-    let mut holder = Encoded::at(&sources[place]);
-    pass_over(holder.fetch(u64::MAX, 1, room))?;
-    match check_slice(
-        alloc,
-        &wanted.mode,
-        &wanted.root,
-        u64::MAX,
-        1,
-        room.as_slice(),
-    ) {
-        Ok(piece) => {
-            // For the prover alone: an accepted piece's encoding is of bytes.
-            piece.is_accepted();
-            match piece.tail() {
-                Some(tail) => Ok(Some(tail.length())),
-                None => Ok(None),
-            }
-        }
-        Err(_) => Ok(None),
-    }
-}
-
-// The length that the outline claims, where the last chunk of this plain copy certifies it.
-fn length_by_copy<S: Source>(
-    wanted: &Wanted<'_>,
-    outline: &Outline<'_>,
-    sources: &[S],
-    place: usize,
-    room: &mut Vec<u8>,
-) -> Result<Option<u64>, AllocError>
-    requires form { IsBeside wanted.now.form outline.now }
-    requires place { place < length sources.now }
-    ensures each { IfOk result (λ found. IfSome found (λ l. IsLengthOfEach (IsFrom wanted.now S.contents S.faultless sources.now) (fixed_for wanted.now) l)) }
-    ensures claims { IfOk result (λ found. IfSome found (λ l. l ≡ outline_claimed outline.now)) }
-    ensures certified { IfOk result (λ found. IfSome found (CertifiesEnd S.contents S.faultless wanted.now sources.now place)) }
-    ensures refused { IfOk result (λ found. found ≡ None → RefusesEnd S.contents S.faultless wanted.now sources.now place) }
-{
-    if !wanted.fixed().is_of(&outline.root(), &outline.mode()) {
-        return Ok(None);
-    }
-    let total = outline.claimed();
-    let last = chunk_count(total) - 1;
-    let at = CHUNK_BYTES * last;
-    room.clear();
-    let mut holder = Plain::at(&sources[place]);
-    pass_over(holder.fetch(at, total - at, room))?;
-    match check_bare(outline, last, 1, room.as_slice()) {
-        Ok(piece) => {
-            // For the prover alone: an accepted piece's encoding is of bytes.
-            piece.is_accepted();
-            match piece.tail() {
-                Some(tail) => Ok(Some(tail.length())),
-                None => Ok(None),
-            }
-        }
-        Err(_) => Ok(None),
+    match form {
+        Form::Slices => u64::MAX,
+        Form::Bare(outline) => CHUNK_BYTES * (chunk_count(outline.claimed()) - 1),
     }
 }
 
@@ -94,17 +29,24 @@ fn length_from<S: Source>(
     wanted: &Wanted<'_>,
     sources: &[S],
     place: usize,
+    start: u64,
     room: &mut Vec<u8>,
 ) -> Result<Option<u64>, AllocError>
-    requires { place < length sources.now }
+    requires fitting { IsFitting wanted.now wanted.now.form }
+    requires place { place < length sources.now }
+    requires start { start ≡ end_start wanted.now.form }
     ensures each { IfOk result (λ found. IfSome found (λ l. IsLengthOfEach (IsFrom wanted.now S.contents S.faultless sources.now) (fixed_for wanted.now) l)) }
     ensures of { IfOk result (λ found. IfSome found (λ l. IsLengthOf wanted.now.form l)) }
     ensures certified { IfOk result (λ found. IfSome found (CertifiesEnd S.contents S.faultless wanted.now sources.now place)) }
     ensures refused { IfOk result (λ found. found ≡ None → RefusesEnd S.contents S.faultless wanted.now sources.now place) }
 {
-    match wanted.form {
-        Form::Slices => length_by_slice(alloc, wanted, sources, place, room),
-        Form::Bare(outline) => length_by_copy(wanted, outline, sources, place, room),
+    let asked = ByteRange { start, len: 1 };
+    match ask(alloc, wanted, &sources[place], asked, room)? {
+        Some(piece) => match piece.tail() {
+            Some(tail) => Ok(Some(tail.length())),
+            None => Ok(None),
+        },
+        None => Ok(None),
     }
 }
 
@@ -131,9 +73,13 @@ pub fn certified_length<S: Source>(
     ensures fault { IfErr result (λ fault. (fault ≡ Unfinished) ⊎ (fault ≡ Starved)) }
     ensures missing { IsErrOf result Unfinished → HasNoEnd S.contents S.faultless wanted.now sources.now }
 {
+    let start = end_start(&wanted.form);
+    if !wanted.is_fitting() {
+        return Err(GatherFault::Unfinished);
+    }
     let mut room = Vec::new(alloc);
     for place in 0..sources.len() {
-        match length_from(alloc, wanted, sources, place, &mut room) {
+        match length_from(alloc, wanted, sources, place, start, &mut room) {
             Ok(Some(length)) => return Ok(length),
             Ok(None) => {}
             Err(_) => return Err(GatherFault::Starved),

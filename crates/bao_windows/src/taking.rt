@@ -1,20 +1,16 @@
-ghost use Rattle.std.specs.Prelude.{◌≡◌, ℕ, ◌+◌, ◌%◌, ◌^◌, ◌<◌, false, length, IfOk};
-ghost use Rattle.gather.specs.Forms.{AreSlices};
-ghost use Rattle.bao_windows.specs.Available.{AllRefuse, Refuses};
-ghost use Rattle.bao_windows.specs.Windows.{IsBeside, IsFrom, IsInTurn, Takes, fixed_for};
+ghost use Rattle.std.specs.Prelude.{◌≡◌, ◌+◌, ◌%◌, ◌^◌, ◌<◌, false, length, IfOk};
+ghost use Rattle.bao_windows.specs.Available.{AllRefuse, IsFitting, IsWithin, Refuses};
+ghost use Rattle.bao_windows.specs.Windows.{IsFrom, IsInTurn, Takes, fixed_for};
 
-use crate::appending::{CHUNK_BYTES, append_part};
-use crate::fetching::pass_over;
+use crate::appending::append_part;
+use crate::asking::ask;
 use crate::wanted::Wanted;
-use b3tree::bytes_are;
-use bao_check::{Outline, bare_fits, check_bare, check_slice};
-use bao_read::Source;
-use bao_text::chunk_count;
-use gather::{ByteRange, Encoded, Form, Holder, Plain};
+use b3par::Source;
+use holders::ByteRange;
 use std::alloc::{AllocError, Global};
 
-// Takes a part of the blob from one source, whose slice of `span` bytes from the part's place on is fetched and checked.
-fn take_slice<S: Source>(
+// Takes a part of the blob from one source, of which `span` bytes from the part's place on are asked for.
+fn take_part<S: Source>(
     alloc: Global,
     wanted: &Wanted<'_>,
     sources: &[S],
@@ -24,76 +20,21 @@ fn take_slice<S: Source>(
     room: &mut Vec<u8>,
     into: &mut Vec<u8>,
 ) -> Result<bool, AllocError>
-    requires form { AreSlices wanted.now.form }
+    requires fitting { IsFitting wanted.now wanted.now.form }
+    requires within { IsWithin wanted.now.form part.start }
     requires place { place < length sources.now }
     requires aligned { part.start % 1024 ≡ 0 }
     requires range { part.start + part.len < 2 ^ 64 }
     ensures took { IfOk result (λ took. Takes took (IsFrom wanted.now S.contents S.faultless sources.now) (fixed_for wanted.now) part.start part.len into.old.items into.new.items) }
     ensures refused { IfOk result (λ took. took ≡ false → Refuses S.contents S.faultless wanted.now sources.now part.start part.len span place) }
 {
-    room.clear();
-    let mut holder = Encoded::at(&sources[place]);
-    pass_over(holder.fetch(part.start, span, room))?;
-    // For the prover alone: the elements of a text are bytes.
-    bytes_are(room.as_slice());
-    match check_slice(
-        alloc,
-        &wanted.mode,
-        &wanted.root,
-        part.start,
-        span,
-        room.as_slice(),
-    ) {
-        Ok(piece) => {
-            // For the prover alone: an accepted piece's encoding is of bytes.
-            piece.is_accepted();
-            append_part(&piece, part.start, part.len, into)
-        }
-        Err(_) => Ok(false),
-    }
-}
-
-// Takes a part of the blob from one plain copy, of which so many bytes as whole chunks have are fetched and checked beside the
-// outline.
-fn take_bare<S: Source>(
-    wanted: &Wanted<'_>,
-    outline: &Outline<'_>,
-    sources: &[S],
-    place: usize,
-    part: ByteRange,
-    room: &mut Vec<u8>,
-    into: &mut Vec<u8>,
-) -> Result<bool, AllocError>
-    requires form { IsBeside wanted.now.form outline.now }
-    requires place { place < length sources.now }
-    requires aligned { part.start % 1024 ≡ 0 }
-    requires range { part.start + part.len < 2 ^ 64 }
-    ensures took { IfOk result (λ took. Takes took (IsFrom wanted.now S.contents S.faultless sources.now) (fixed_for wanted.now) part.start part.len into.old.items into.new.items) }
-    ensures refused { IfOk result (λ took. took ≡ false → (span : ℕ) → Refuses S.contents S.faultless wanted.now sources.now part.start part.len span place) }
-{
-    let first = part.start / CHUNK_BYTES;
-    let count = chunk_count(part.len);
-    if !wanted.fixed().is_of(&outline.root(), &outline.mode()) {
-        return Ok(false);
-    }
-    if !bare_fits(outline, first, count) {
-        return Ok(false);
-    }
-    let len = CHUNK_BYTES
-        .saturating_mul(count)
-        .min(outline.claimed().saturating_sub(part.start));
-    room.clear();
-    let mut holder = Plain::at(&sources[place]);
-    pass_over(holder.fetch(part.start, len, room))?;
-    // For the prover alone: the elements of a text are bytes.
-    bytes_are(room.as_slice());
-    match check_bare(outline, first, count, room.as_slice()) {
-        Ok(piece) => {
-            // For the prover alone: an accepted piece's encoding is of bytes.
-            piece.is_accepted();
-            append_part(&piece, part.start, part.len, into)
-        }
-        Err(_) => Ok(false),
+    let asked = ByteRange {
+        start: part.start,
+        len: span,
+    };
+    match ask(alloc, wanted, &sources[place], asked, room)? {
+        Some(piece) => append_part(&piece, part.start, part.len, into),
+        None => Ok(false),
     }
 }
 
@@ -111,8 +52,7 @@ fn in_turn(first: usize, count: usize, turn: usize) -> usize
     }
 }
 
-// Takes a part of the blob from the first source in turn that has it, as the form has it: the one that had one last, and then the others,
-// each once.
+// Takes a part of the blob from the first source in turn that has it: the one that had one last, and then the others, each once.
 pub(crate) fn take_any<S: Source>(
     alloc: Global,
     wanted: &Wanted<'_>,
@@ -128,23 +68,16 @@ pub(crate) fn take_any<S: Source>(
     ensures took { IfOk result (λ took. Takes took (IsFrom wanted.now S.contents S.faultless sources.now) (fixed_for wanted.now) part.start part.len into.old.items into.new.items) }
     ensures refused { IfOk result (λ took. took ≡ false → AllRefuse S.contents S.faultless wanted.now sources.now part.start part.len span) }
 {
+    if !wanted.is_fitting() || !wanted.begins_within(part.start) {
+        return Ok(false);
+    }
     let count = sources.len();
     let first = (*last).min(count.saturating_sub(1));
     for turn in 0..count {
         let place = in_turn(first, count, turn);
-        match wanted.form {
-            Form::Slices => {
-                if take_slice(alloc, wanted, sources, place, part, span, room, into)? {
-                    *last = place;
-                    return Ok(true);
-                }
-            }
-            Form::Bare(outline) => {
-                if take_bare(wanted, outline, sources, place, part, room, into)? {
-                    *last = place;
-                    return Ok(true);
-                }
-            }
+        if take_part(alloc, wanted, sources, place, part, span, room, into)? {
+            *last = place;
+            return Ok(true);
         }
     }
     Ok(false)

@@ -1,9 +1,10 @@
-ghost use Rattle.std.specs.Prelude.{◌≡◌};
-ghost use Rattle.bao_windows.specs.Windows.{fixed_for};
+ghost use Rattle.std.specs.Prelude.{◌↔◌, IsTrue};
+ghost use Rattle.bao_windows.specs.Available.{IsFitting, IsWithin};
 
+use crate::appending::CHUNK_BYTES;
 use b3tree::{Hash, Mode};
-use gather::{Form, Grain};
-use store_core::Fixed;
+use bao_text::chunk_count;
+use holders::{Fixed, Form, Grain};
 
 /// What is gathered: the blob with this root in this mode.
 #[derive(Clone, Copy, Debug)]
@@ -18,15 +19,33 @@ pub struct Wanted<'a> {
 }
 
 impl Wanted<'_> {
-    // The root and the mode, as of a store of the blob.
-    pub(crate) fn fixed(&self) -> Fixed
-        ensures { result ≡ fixed_for self.now }
+    // Whether the outline, if there is one, is of the root and the mode.
+    pub(crate) fn is_fitting(&self) -> bool
+        ensures { IsTrue result ↔ IsFitting self.now self.now.form }
     {
-        Fixed {
-            root: self.root,
-            mode: self.mode,
-            capacity: 0,
-            base: 0,
+        match self.form {
+            Form::Slices => true,
+            Form::Bare(outline) => {
+                let fixed = Fixed {
+                    root: self.root,
+                    mode: self.mode,
+                    capacity: 0,
+                    base: 0,
+                };
+                fixed.is_of(&outline.root(), &outline.mode())
+            }
+        }
+    }
+
+    // Whether a range that begins there is asked for: beside an outline, at a chunk of the length that it claims.
+    pub(crate) fn begins_within(&self, at: u64) -> bool
+        ensures { IsTrue result ↔ IsWithin self.now.form at }
+    {
+        match self.form {
+            Form::Slices => true,
+            Form::Bare(outline) => {
+                at % CHUNK_BYTES == 0 && at / CHUNK_BYTES < chunk_count(outline.claimed())
+            }
         }
     }
 }

@@ -1,13 +1,14 @@
 ghost use Rattle.std.specs.Prelude.{◌≡◌, ◌⊎◌, ℕ, ◌+◌, ◌-◌, ◌*◌, ◌%◌, ◌<◌, ◌≤◌, min, length, vec_len, false, true, None, Ok, Some, IfErr, IfOk, IfSome, IsErrOf, OnOk, slice_index_or};
-ghost use Rattle.gather.specs.declared.fault.GatherFault.TheVariants.{Starved, Unfinished};
+ghost use Rattle.bao_windows.specs.declared.fault.GatherFault.TheVariants.{Starved, Unfinished};
 ghost use Rattle.bao_windows.specs.Available.{IsFilled, IsTried};
 ghost use Rattle.bao_windows.specs.Windows.{HasFault};
 
+use crate::fault::GatherFault;
 use crate::group::take_group;
 use crate::wanted::Wanted;
+use b3par::Source;
 use bao_check::GROUP_BYTES;
-use bao_read::Source;
-use gather::{ByteRange, GatherFault};
+use holders::ByteRange;
 use std::alloc::{AllocError, Global};
 use std::thread::{Threads, for_each_mut};
 

@@ -1,4 +1,4 @@
-use bao_read::Source;
+use b3par::Source;
 use std::io;
 use std::io::ErrorKind;
 use std::sync::atomic::{AtomicU64, Ordering};

@@ -1,5 +1,6 @@
 use anyhow::Result;
-use gather::{FinishFault, GatherFault};
+use bao_windows::GatherFault;
+use gather::FinishFault;
 use std::alloc::Global;
 use std::fmt::Display;
 

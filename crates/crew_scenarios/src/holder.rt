@@ -1,12 +1,11 @@
 ghost use Rattle.std.specs.Prelude.{◌≡◌, OnErr, OnOk};
-ghost use Rattle.gather.specs.Holders.{Appends};
+ghost use Rattle.holders.specs.Holders.{Appends};
 
 use crate::dealing::Dealing;
 use crate::line::number;
 use crate::texts::Texts;
 use anyhow::{Context, Result, bail};
-use crews::Peer;
-use gather::{Encoded, Holder, HolderFault, Plain};
+use gather::{Encoded, Holder, HolderFault, Peer, Plain};
 use std::alloc::Global;
 
 // What a holder is over.

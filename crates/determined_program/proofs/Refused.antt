@@ -11,7 +11,7 @@ use Rattle.bao_script.specs.Forms.{SaysLine}
 use Rattle.bao_script.specs.Scripts.{AreRead, IsFirstRefused, IsRefusedLine, IsScript, numbered}
 use Rattle.bao_script.specs.Words.{line_words, lines_of}
 use Rattle.determined_program.proofs.Lines.{one_script}
-use Rattle.determined_program.specs.Scripts.{SameReading}
+use Rattle.determined_texts.specs.Agreeing.{AgreeButFor}
 
 -- the first of lines that are read, if it isn't empty, says something; and the others are read
 head_read : (files k : ℕ) (empty : Bool) (first : List ℕ) (rest : List (ℕ × List ℕ)) (said : List NumberedLine) → AreRead files (cond empty rest ((k, first) ∷ rest)) said
@@ -50,7 +50,7 @@ not_before : (files : ℕ) (text : List ℕ) (m n : ℕ) (a : IsFirstRefused fil
 not_before files text m n a b less =
     read_none files 1 (take b.index (lines_of text)) b.before a.index a.line b.read (at_take (lines_of text) a.index b.index a.line less a.line_is) a.refused
 
-one_refused : (files : ℕ) (text : List ℕ) (m n : ℕ) → IsFirstRefused files text m → IsFirstRefused files text n → m ≡ n
+pub one_refused : (files : ℕ) (text : List ℕ) (m n : ℕ) → IsFirstRefused files text m → IsFirstRefused files text n → m ≡ n
 one_refused files text m n a b = elim (cases_lt a.index b.index) [
   | inl less ↦ absurd (not_before files text m n a b less)
   | inr more ↦ elim (cases_lt b.index a.index) [
@@ -59,15 +59,15 @@ one_refused files text m n a b = elim (cases_lt a.index b.index) [
   ]
 ]
 
-not_read : (files : ℕ) (text : List ℕ) (said : List NumberedLine) (n : ℕ) → IsScript files text said → IsFirstRefused files text n → ⊥
-not_read files text said n read a = read_none files 1 (lines_of text) said a.index a.line read a.line_is a.refused
+pub refused_apart : (files : ℕ) (text : List ℕ) (n : ℕ) (said : List NumberedLine) → IsFirstRefused files text n → IsScript files text said → ⊥
+refused_apart files text n said a read = read_none files 1 (lines_of text) said a.index a.line read a.line_is a.refused
 
 pub readings_agree : (files : ℕ) (text : List ℕ) (r s : Result (List NumberedLine) ScriptFault) → IfOk r (IsScript files text) → IfOk s (IsScript files text)
-    → ((n : ℕ) → r ≡ Err (unread.Line n) → IsFirstRefused files text n) → ((n : ℕ) → s ≡ Err (unread.Line n) → IsFirstRefused files text n) → SameReading r s
+    → ((n : ℕ) → r ≡ Err (unread.Line n) → IsFirstRefused files text n) → ((n : ℕ) → s ≡ Err (unread.Line n) → IsFirstRefused files text n) → AgreeButFor unread.Memory (λ x y. x ≡ y) r s
 readings_agree files text (Ok x) (Ok y) p q bad worse = one_script files (numbered 1 (lines_of text)) x y p q
-readings_agree files text (Ok x) (Err (unread.Line n)) p q bad worse = absurd (not_read files text x n p (worse n refl))
+readings_agree files text (Ok x) (Err (unread.Line n)) p q bad worse = absurd (refused_apart files text n x (worse n refl) p)
 readings_agree files text (Ok x) (Err unread.Memory) p q bad worse = refl
-readings_agree files text (Err (unread.Line n)) (Ok y) p q bad worse = absurd (not_read files text y n q (bad n refl))
+readings_agree files text (Err (unread.Line n)) (Ok y) p q bad worse = absurd (refused_apart files text n y (bad n refl) q)
 readings_agree files text (Err unread.Memory) (Ok y) p q bad worse = refl
 readings_agree files text (Err (unread.Line m)) (Err (unread.Line n)) p q bad worse = inl (ap (λ k. unread.Line k) (one_refused files text m n (bad m refl) (worse n refl)))
 readings_agree files text (Err e) (Err unread.Memory) p q bad worse = inr (inr refl)

@@ -1,2 +1,9 @@
+pub mod Windows
+pub mod Files
 pub mod Requests
-pub mod Scripts
+pub mod Blobs
+pub mod Copies
+pub mod Replays
+pub mod Lacks
+pub mod Commands
+pub mod Outcomes

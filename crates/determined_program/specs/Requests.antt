@@ -1,5 +1,5 @@
 -- Two requests that are the same: the same task with the same texts, numbers and options.
-use Rattle.std.specs.Prelude.{◌≡◌, ◌⊎◌, [], ◌∷◌, Result, Ok, Err, map}
+use Rattle.std.specs.Prelude.{◌≡◌, ◌⊎◌, [], ◌∷◌, Result, map}
 use Rattle.std.specs.Option.{option_copied}
 use Rattle.clap.specs.Words.{IsAmong, Kinds, kind_of}
 use Rattle.clap.specs.declared.error.Error.{Error}
@@ -7,6 +7,7 @@ use Rattle.clap.specs.declared.error.kind.ErrorKind.{ErrorKind}
 use Rattle.clap.specs.declared.error.kind.ErrorKind.TheVariants.{DisplayHelp, InvalidSubcommand, OutOfMemory, UnknownArgument}
 use Rattle.bao_request.specs.declared.tasks.Request.{Request}
 use Rattle.bao_request.specs.declared.tasks.Task.{Task}
+use Rattle.determined_texts.specs.Agreeing.{AgreeBy}
 use Rattle.bao_request.specs.declared.tasks.Task.TheVariants.{Hash, Encode, CutSlice, Decode, DecodeCopy, Gather, Replay}
 
 abbrev pub SameTask : Task → Task → Type 0
@@ -40,7 +41,5 @@ SameKind a b = (a ≡ b) ⊎ (AreBoth (DisplayHelp ∷ InvalidSubcommand ∷ [])
 
 -- the same request, or the same kind of fault; or memory ran out
 abbrev pub SameAnswer : Result Request Error → Result Request Error → Type 0
-SameAnswer (Ok a) (Ok b) = SameRequest a b
-SameAnswer (Ok a) (Err f) = kind_of f ≡ OutOfMemory
-SameAnswer (Err e) (Ok b) = kind_of e ≡ OutOfMemory
-SameAnswer (Err e) (Err f) = SameKind (kind_of e) (kind_of f) ⊎ (kind_of e ≡ OutOfMemory) ⊎ (kind_of f ≡ OutOfMemory)
+SameAnswer r s =
+    AgreeBy SameRequest (λ e f. SameKind (kind_of e) (kind_of f) ⊎ (kind_of e ≡ OutOfMemory) ⊎ (kind_of f ≡ OutOfMemory)) (λ e. kind_of e ≡ OutOfMemory) (λ f. kind_of f ≡ OutOfMemory) r s

@@ -2,7 +2,8 @@
 
 ghost use Rattle.std.specs.Prelude.{◌≡◌, length};
 ghost use Rattle.bao_script.specs.Slices.{NameFiles};
-ghost use Rattle.determined_program.specs.Scripts.{SameReading, SameRun};
+ghost use Rattle.determined_program.specs.Replays.{IsWantOfRun};
+ghost use Rattle.determined_texts.specs.Agreeing.{AgreeButFor, AgreeUnless};
 
 use b3tree::{Hash, Mode};
 use bao_script::{NumberedLine, ReplayScriptFault, Script, ScriptFault, parse, replay_script};
@@ -20,7 +21,7 @@ pub fn parse_determined(
     text: &[u8],
     files: usize,
 ) -> (Result<Script, ScriptFault>, Result<Script, ScriptFault>)
-    ensures { SameReading result.0 result.1 }
+    ensures { AgreeButFor ScriptFault.Memory (λ x y. x ≡ y) result.0 result.1 }
 {
     let one = parse(alloc, text, files);
     let other = parse(alloc, text, files);
@@ -40,7 +41,7 @@ pub fn replay_script_determined(
     Result<Vec<u8>, ReplayScriptFault>,
 )
     requires { NameFiles (length files.now) script.now }
-    ensures { SameRun (λ text. text.items) result.0 result.1 }
+    ensures { AgreeUnless (λ x y. x.items ≡ y.items) IsWantOfRun IsWantOfRun result.0 result.1 }
 {
     let one = replay_script(alloc, root, mode, capacity, script, files);
     let other = replay_script(alloc, root, mode, capacity, script, files);

@@ -4,13 +4,12 @@
 #![tactic(auto)]
 
 mod telling;
+mod using_b3par;
 mod using_b3tree;
 mod using_bao_bind;
 mod using_bao_check;
 mod using_bao_decode;
-mod using_bao_feed;
 mod using_bao_files;
-mod using_bao_read;
 mod using_bao_script;
 mod using_bao_tasks;
 mod using_bao_text;
@@ -37,9 +36,8 @@ fn example_blob(alloc: Global) -> Result<Vec<u8>> {
 fn encodings<R: Print + Threads + Sync>(rt: &R, alloc: Global, blob: &[u8]) -> Result<()> {
     using_b3tree::show(rt, alloc, blob)?;
     using_bao_text::show(rt, alloc, blob)?;
-    using_bao_read::show(rt, alloc, blob)?;
+    using_b3par::show(rt, alloc, blob)?;
     using_bao_check::show(rt, alloc, blob)?;
-    using_bao_feed::show(rt, alloc, blob)?;
     using_bao_bind::show(rt, alloc, blob)
 }
 

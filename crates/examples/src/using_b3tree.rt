@@ -1,9 +1,9 @@
-//! Hashes: `b3tree`, and the pool of threads of `bao_read`.
+//! Hashes: `b3tree`, and the pool of threads of `b3par`.
 
 use crate::telling::tell;
 use anyhow::Result;
+use b3par::{Open, ParFault, hash_pool};
 use b3tree::{Hash, Hasher, Mode, TooLong, hash, xof};
-use bao_read::{Open, ParFault, hash_pool};
 use std::alloc::Global;
 use std::thread::Threads;
 

@@ -3,7 +3,9 @@
 use crate::telling::{tell, tell_text};
 use anyhow::{Context, Result, bail};
 use b3tree::{Hash, Mode, hash};
-use bao_check::{Checking, bare_fits, check_bare, check_outboard, check_slice};
+use bao_check::{
+    CheckFault, Checking, OutboardFeed, bare_fits, check_bare, check_outboard, check_slice,
+};
 use bao_text::{combined, outboard, slice};
 use std::alloc::Global;
 
@@ -59,6 +61,16 @@ pub fn decoded(alloc: Global, root: &Hash, text: &[u8]) -> Result<Vec<u8>> {
     Ok(blob)
 }
 
+/// The length that an outboard encoding claims, which comes in pieces. A false parent is refused before more of it comes.
+pub fn claimed_length(alloc: Global, root: &Hash, text: &[u8]) -> Result<u64, CheckFault> {
+    let mut feed = OutboardFeed::new(alloc, &Mode::hash(), root);
+    for piece in text.chunks(PIECE_LEN) {
+        feed.push(piece)?;
+    }
+    let outline = feed.outline()?;
+    Ok(outline.claimed())
+}
+
 fn show_chunk<R: Print>(rt: &R, alloc: Global, root: &Hash, blob: &[u8]) -> Result<()> {
     let (_, text) = slice(alloc, &Mode::hash(), blob, 70_000, 1)?;
     let chunk = checked_chunk(alloc, root, 70_000, text.as_slice())?;
@@ -79,6 +91,13 @@ fn show_beside<R: Print>(rt: &R, alloc: Global, root: &Hash, blob: &[u8]) -> Res
     tell_text(rt, alloc, "second chunk", checked.as_slice())
 }
 
+fn show_claimed<R: Print>(rt: &R, alloc: Global, root: &Hash, blob: &[u8]) -> Result<()> {
+    let (_, text) = outboard(alloc, &Mode::hash(), blob)?;
+    let length = claimed_length(alloc, root, text.as_slice())?;
+    println!(rt; "claimed by an outboard in pieces: {length}")?;
+    Ok(())
+}
+
 /// Prints a line for each.
 pub fn show<R: Print>(rt: &R, alloc: Global, blob: &[u8]) -> Result<()> {
     let root = hash(&Mode::hash(), blob);
@@ -92,5 +111,6 @@ pub fn show<R: Print>(rt: &R, alloc: Global, blob: &[u8]) -> Result<()> {
         alloc,
         "hash of what was decoded",
         &hash(&Mode::hash(), decoded.as_slice()).0,
-    )
+    )?;
+    show_claimed(rt, alloc, &root, blob)
 }

@@ -4,7 +4,7 @@ use crate::telling::tell_text;
 use crate::using_gather::{damaged_copies, holders_over};
 use anyhow::{Result, bail};
 use b3tree::{Hash, Mode};
-use crews::{Crew, Open, finish, run};
+use gather::{Crew, Open, finish, run};
 use std::alloc::Global;
 use std::thread::Threads;
 use store_shared::Assembly;

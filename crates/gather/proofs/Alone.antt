@@ -3,8 +3,8 @@ use Rattle.gather.proofs.Common.{◌≡◌, ℕ, ◌%◌, ◌/◌, ◌==◌, tru
 use Rattle.store_core.specs.declared.fault.StoreFault.TheVariants as fault
 use Rattle.gather.specs.Claims.{Among, AmongAnd, Without}
 use Rattle.gather.specs.Counts.{Still}
-use Rattle.gather.specs.Holders.{IsIt, IsNone}
-use Rattle.gather.specs.Large.{EndsTooFar}
+use Rattle.holders.specs.Holders.{IsIt, IsNone}
+use Rattle.holders.specs.Blobs.{EndsTooFar}
 use Rattle.gather.specs.Worked.{HasWorked, IsFrom, parents_of, worker, worker_claims}
 
 pub worked_one : (handed : Piece → Type 0) (old new : Store) (call : Call) → IsFrom handed call → IsEvent old new worker call

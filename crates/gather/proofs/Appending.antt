@@ -1,6 +1,6 @@
 -- What is known of a text that follows.
 use Rattle.gather.proofs.Common.{◌≡◌, ℕ, List, [], ◌++◌, sym, ap, subst, ◌∙◌}
-use Rattle.gather.specs.Holders.{Appends}
+use Rattle.holders.specs.Holders.{Appends}
 
 -- what follows nothing is all
 pub appended_all : (P : List ℕ → Type 0) (old new : List ℕ) → old ≡ [] → Appends P old new → P new

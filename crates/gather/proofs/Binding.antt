@@ -1,9 +1,9 @@
 -- What comes from accepted texts is the blob's, or a collision is exhibited.
-use Rattle.gather.proofs.Common.{Contains, map, option_map, ap, ◌∙◌, ◌≡◌, ◌⊎◌, zero, suc, ℕ, ◌+◌, ◌-◌, ◌<◌, List, length, Option, None, Some, is_some, true, false, slice_get, slice_index, refl, sym, subst, arith, inl, inr, below_more, ext_get_or, All-member, slice_get-map, get_or_from_slice_get, IsKeyed, AcceptedBinds, chunk_in, chunk_of, chunk_count, Fixed, Piece, Store, IsBlob, CollidesWith, has_room, length_of, places_in, Event, AreLegalFrom, IsLegal, run, IsReached, fixed_of, state_of, State, empty}
-use Rattle.gather.specs.Encodings.{EncodedBytes, IsCut, IsCutOf, cut_gives, encoding}
-use Rattle.gather.specs.Holders.{IsHanded}
+use Rattle.gather.proofs.Common.{Contains, map, option_map, ap, ◌∙◌, ◌≡◌, ◌⊎◌, ℕ, ◌+◌, ◌-◌, List, length, Option, None, Some, is_some, true, false, slice_get, refl, sym, subst, arith, inl, inr, All-member, slice_get-map, IsKeyed, AcceptedBinds, chunk_in, chunk_of, chunk_count, Fixed, Piece, Store, IsBlob, CollidesWith, has_room, length_of, places_in, Event, AreLegalFrom, IsLegal, run, IsReached, fixed_of, state_of, State, empty}
+use Rattle.holders.specs.Encodings.{EncodedBytes, IsCut, IsCutOf, cut_gives, encoding}
+use Rattle.holders.specs.Holders.{IsHanded}
 use Rattle.gather.specs.Finished.{BindsTo, IsNamedIn}
-use Rattle.gather.specs.Large.{AreLonger, AreTheBlob, HasCollision, IsTooLarge}
+use Rattle.holders.specs.Blobs.{AreLonger, AreTheBlob, HasCollision, IsTooLarge}
 use Rattle.gather.specs.Worked.{AreFrom, HasWorked, IsFrom, AddsBlobs, AddsCertified, IsCertified}
 
 certified_binds : AcceptedBinds → (handed : Piece → Type 0) (fixed : Fixed) (blob : List ℕ) (c : ℕ) (bytes : List ℕ) → IsKeyed fixed.mode → IsBlob fixed blob
@@ -34,25 +34,6 @@ are_longer law handed fixed keyed too_large blob is =
       | inr named ↦ inr (record { piece = piece; from = too_large.from; accepted = large.accepted; pair = named })
     ]
 
--- the bytes read are the blob's up to some number, or there is a collision
-pub both_same : (blob bytes : List ℕ) (P : Type 0) (n : ℕ) → ((i : ℕ) → i < n → slice_get blob (0 + i) ≡ Some (slice_index bytes i)) ⊎ P
-    → (slice_get blob (0 + n) ≡ Some (slice_index bytes n)) ⊎ P → ((i : ℕ) → i < suc n → slice_get blob (0 + i) ≡ Some (slice_index bytes i)) ⊎ P
-both_same blob bytes P n (inl before) (inl here) = inl (λ i below. below_more _ _ before here i (omega (arith, below)))
-both_same blob bytes P n (inl before) (inr pair) = inr pair
-both_same blob bytes P n (inr pair) here = inr pair
-
-pub all_same : (blob bytes : List ℕ) (P : Type 0) (n : ℕ) → ((i : ℕ) → i < n → (slice_get blob (0 + i) ≡ Some (slice_index bytes i)) ⊎ P)
-    → ((i : ℕ) → i < n → slice_get blob (0 + i) ≡ Some (slice_index bytes i)) ⊎ P
-all_same blob bytes P zero each = inl (λ i below. absurd (omega (arith, below)))
-all_same blob bytes P (suc n) each =
-    both_same blob bytes P n (all_same blob bytes P n (λ i below. each i (omega (arith, below)))) (each n (omega arith))
-
-pub same_bytes : (blob bytes : List ℕ) → length bytes ≡ length blob → ((i : ℕ) → i < length bytes → slice_get blob (0 + i) ≡ Some (slice_index bytes i)) → blob ≡ bytes
-same_bytes blob bytes long each =
-    ext_get_or 0 blob bytes (sym long) (λ i below.
-    let here : 0 + i ≡ i = omega arith in
-    get_or_from_slice_get blob i (slice_index bytes i) 0 (subst (λ (k : ℕ). slice_get blob k ≡ Some (slice_index bytes i)) here (each i (omega (arith, below, long)))))
-
 -- what holders over some things hand over is what these give
 pub handed_over : {H S : Type 0} (f : H → S) (gives : S → ℕ → ℕ → List ℕ → Type 0) (holders : List H) (all : List S) → map f holders ≡ all → (piece : Piece)
     → IsHanded (λ holder start len text. gives (f holder) start len text) holders piece → IsHanded gives all piece
@@ -67,10 +48,6 @@ handed_over {H = H} {S = S} f gives holders all over piece from = record {
 -- what holders over texts hand over is cut out of the texts
 pub handed_cut : (holders : List EncodedBytes) (texts : List (List ℕ)) → map encoding holders ≡ texts → (piece : Piece) → IsHanded IsCut holders piece → IsCutOf texts piece
 handed_cut holders texts over piece from = handed_over encoding cut_gives holders texts over piece from
-
-pub pair_wider : (handed wider : Piece → Type 0) → ((piece : Piece) → handed piece → wider piece) → (fixed : Fixed) (blob : List ℕ) → HasCollision handed fixed blob
-    → HasCollision wider fixed blob
-pair_wider handed wider more fixed blob has = record { piece = has.piece; from = more has.piece has.from; accepted = has.accepted; pair = has.pair }
 
 -- the piece of each event
 event_from : (handed : Piece → Type 0) (events : List Event) (e : Event) → AreFrom handed events → Contains events e → IsFrom handed e.call

@@ -1,13 +1,11 @@
 -- What the proofs of this crate name of std and of the crates below it.
-pub use Rattle.std.proofs.Common.{if◌then◌else◌, Bool, Contains, Err, IfErr, IfOk, IfSome, IsErr, IsErrOf, IsOk, IsSome, IsTrue, List, MatchResult, None, Ok, OnErr, OnOk, Option, Result, Some, [], ap, append-nil, append_assoc, arith, below_more, bit_and, bytes_eq, count_ones, div-lt_iff_lt-mul, drop, eq-eqb, eqb-true, ext_get_or, false, get_or, get_or-append-add, inl, inr, is_ok, is_some, length, length-append, length-drop, length-set, length-take, length-take-le, lt-ltb, ltb-true, map, max, min, mod-eq_of_lt, mod-lt, mul-lt-mul_of_pos_right, mul_comm, nat_eq, nat_lt, not, option_and_then, option_map, refl, replicate, rules, set, slice_get, slice_index, slice_index_or, subst, suc, sum_by, sym, take, take-take, take_all, take_at, true, vec_len, w64, zero, ℕ, ◌%◌, ◌&&◌, ◌*◌, ◌++◌, ◌+◌, ◌-◌, ◌/◌, ◌<◌, ◌==◌, ◌^◌, ◌||◌, ◌↔◌, ◌∙◌, ◌∷◌, ◌≡◌, ◌≢◌, ◌≤◌, ◌⊎◌}
+pub use Rattle.std.proofs.Common.{Bool, Contains, Err, IfErr, IfOk, IfSome, IsErr, IsErrOf, IsOk, IsSome, IsTrue, List, MatchResult, None, Ok, OnErr, OnOk, Option, Result, Some, [], ap, append-nil, arith, bit_and, count_ones, div-lt_iff_lt-mul, drop, eq-eqb, eqb-true, false, get_or, get_or-append-add, inl, inr, is_some, length, length-append, length-set, length-take, lt-ltb, ltb-true, map, max, min, mod-eq_of_lt, mod-lt, mul-lt-mul_of_pos_right, mul_comm, nat_eq, nat_lt, not, option_map, refl, replicate, set, slice_get, slice_index, slice_index_or, subst, suc, sum_by, sym, take, take_at, true, w64, zero, ℕ, ◌%◌, ◌&&◌, ◌*◌, ◌++◌, ◌+◌, ◌-◌, ◌/◌, ◌<◌, ◌==◌, ◌^◌, ◌||◌, ◌↔◌, ◌∙◌, ◌∷◌, ◌≡◌, ◌≢◌, ◌≤◌, ◌⊎◌}
 pub use Rattle.std.proofs.Math.Nat.{add-mod_right}
-pub use Rattle.std.proofs.Math.Seq.{take-append-add}
 pub use Rattle.std.proofs.lemmas.Bool.{and_from, and_parts, and_right, both_ways, cases_Bool, cases_lt}
-pub use Rattle.std.proofs.lemmas.List.{drop_all, get_or-replicate, get_or_append_left, length-replicate, set-get_or, take-append-le}
+pub use Rattle.std.proofs.lemmas.List.{drop_all, get_or-replicate, get_or_append_left, length-replicate, set-get_or}
 pub use Rattle.std.proofs.lemmas.List.Sums.{sum_by-cons, sum_by-set}
 pub use Rattle.std.proofs.lemmas.Nat.Bits.{bit_at-lt, bit_at-zero, bit_at_and, bit_at_not}
 pub use Rattle.std.proofs.lemmas.Option.{get_or_from_slice_get, slice_get-get_or, slice_get-map, slice_get_within}
-pub use Rattle.std.proofs.lemmas.Slice.Eq.{bytes_eq-Decides}
 pub use Rattle.std.specs.Int.{bit_at, bit_not}
 pub use Rattle.b3tree.specs.Hashing.{hash}
 pub use Rattle.b3tree.specs.Pieces.{piece}
@@ -30,8 +28,6 @@ pub use Rattle.bao_check.specs.declared.checked.Checked.{Checked}
 pub use Rattle.bao_check.specs.declared.fault.CheckFault.{CheckFault}
 pub use Rattle.bao_check.specs.declared.fault.CheckFault.TheVariants.{Memory, Mismatch, Reader, Short, Trailing}
 pub use Rattle.bao_check.specs.declared.outline.Outline.{Outline}
-pub use Rattle.bao_read.proofs.Parts.{GivenAt-append}
-pub use Rattle.bao_read.specs.Given.{GivenAt, ReadsAt}
 pub use Rattle.bao_text.specs.Choice.{chunk_count, of_slice, slice_end, slice_start}
 pub use Rattle.bao_text.specs.NodeNames.{name}
 pub use Rattle.bao_text.specs.Nodes.{nodes}
@@ -41,21 +37,23 @@ pub use Rattle.bao_text.specs.declared.walk.Node.{Node}
 pub use Rattle.store_core.proofs.Bound.{byte_binds, record_binds}
 pub use Rattle.store_core.proofs.HasRoom.{base_recorded, has_room_of, no_room_of}
 pub use Rattle.store_core.proofs.ReadLaws.{read_means}
-pub use Rattle.store_core.specs.Events.{IsRightReply, after, after_call, has_room, is_free, settling}
+pub use Rattle.store_core.specs.Events.{IsRightReply, after, after_call, is_free, settling}
+pub use Rattle.holders.specs.Room.{has_room}
 pub use Rattle.store_core.specs.Histories.{AreLegalFrom, IsLegal, run, state_after}
-pub use Rattle.store_core.specs.Laws.{CollidesWith, IsBlob, IsRead, ReadMeans, chunks_of}
+pub use Rattle.store_core.specs.Laws.{IsRead, ReadMeans, chunks_of}
+pub use Rattle.holders.specs.Blobs.{CollidesWith, IsBlob}
 pub use Rattle.store_core.specs.Masks.{IsMaskOf, has_bit, in_mask}
 pub use Rattle.store_core.specs.Names.{Name}
-pub use Rattle.store_core.specs.Pieces.{EndsBlob, holds_chunk, length_of, piece_of, places_in}
+pub use Rattle.holders.specs.Pieces.{EndsBlob, holds_chunk, length_of, piece_of, places_in}
 pub use Rattle.store_core.specs.Reached.{IsReached}
 pub use Rattle.store_core.specs.States.{State, byte_at, claims, empty, is_claimed, is_held}
 pub use Rattle.store_core.specs.Stores.{CollisionCommitted, DidRead, DidStore, IsEvent, IsOf, IsSame, IsUnstored, Settles, fixed_of, state_of}
 pub use Rattle.store_core.specs.declared.fault.StoreFault.{StoreFault}
-pub use Rattle.store_core.specs.declared.fixed.Fixed.{Fixed}
+pub use Rattle.holders.specs.declared.fixed.Fixed.{Fixed}
 pub use Rattle.store_core.specs.declared.history.Call.{Call}
 pub use Rattle.store_core.specs.declared.history.Call.TheVariants.{Commit, Give, Length, Parents, Read, Serve, Settle, Take}
 pub use Rattle.store_core.specs.declared.history.Event.{Event}
-pub use Rattle.store_core.specs.declared.history.Piece.{Piece}
+pub use Rattle.holders.specs.declared.piece.Piece.{Piece}
 pub use Rattle.store_core.specs.declared.history.Settling.{Settling}
 pub use Rattle.store_core.specs.declared.history.Settling.TheVariants.{Differs, Known, OtherRoot, Settled, TooLarge}
 pub use Rattle.store_core.specs.declared.history.Storing.{Storing}

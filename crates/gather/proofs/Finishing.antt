@@ -1,6 +1,6 @@
 -- What a read of all bytes below the recorded length tells, and what is known of bytes that are whole.
-use Rattle.gather.proofs.Common.{bytes_eq, true, false, not, ◌≡◌, ◌⊎◌, ℕ, ◌+◌, ◌*◌, ◌-◌, ◌/◌, ◌<◌, ◌≤◌, List, [], ◌++◌, length, drop, Option, None, Some, Ok, Err, Result, refl, slice_get, slice_index, sym, ap, subst, ◌∙◌, inl, inr, arith, length-append, get_or-append-add, cases_Bool, cases_lt, append-nil, drop_all, get_or_append_left, bytes_eq-Decides, IsErr, hash, IsKeyed, Fixed, Event, Store, IsLegal, state_after, IsRead, ReadMeans, State, byte_at, DidRead, CollisionCommitted, state_of, byte_binds, record_binds, base_recorded, read_means}
-use Rattle.gather.proofs.Binding.{all_same, same_bytes}
+use Rattle.gather.proofs.Common.{true, false, ◌≡◌, ◌⊎◌, ℕ, ◌+◌, ◌*◌, ◌-◌, ◌/◌, ◌<◌, ◌≤◌, List, [], ◌++◌, length, drop, Option, None, Some, Ok, Err, Result, refl, slice_get, slice_index, sym, ap, subst, ◌∙◌, inl, inr, arith, length-append, get_or-append-add, cases_lt, append-nil, drop_all, get_or_append_left, IsErr, hash, IsKeyed, Fixed, Event, Store, IsLegal, state_after, IsRead, ReadMeans, State, byte_at, DidRead, CollisionCommitted, state_of, byte_binds, record_binds, base_recorded, read_means}
+use Rattle.holders.proofs.Same.{all_same, same_bytes}
 use Rattle.gather.specs.declared.fault.FinishFault.{FinishFault}
 use Rattle.gather.specs.declared.fault.FinishFault.TheVariants.{NotTheRoot, Unfinished}
 use Rattle.gather.specs.Finished.{Binds, BindsNone, BindsTo, Finishes, IsFinished, IsOther, IsUnfinished, IsWhole, Judges, LacksByte}
@@ -52,17 +52,6 @@ read_lacks means store at old new p l recorded within read =
       below = omega (arith, read.answer.0, within);
       missing = is.missing read.answer.0;
     }
-
--- bytes that a test tells apart
-pub differs : (xs ys : List ℕ) → true ≡ not (bytes_eq xs ys) → xs ≡ ys → ⊥
-differs xs ys apart same = let alike : bytes_eq xs ys ≡ true = (bytes_eq-Decides xs ys).1 same in let no : true ≡ false = rw alike at apart in cc
-
--- and bytes that it doesn't
-pub alike : (xs ys : List ℕ) → false ≡ not (bytes_eq xs ys) → xs ≡ ys
-alike xs ys same = elim (cases_Bool (bytes_eq xs ys)) [
-  | inl equal ↦ (bytes_eq-Decides xs ys).0 equal
-  | inr other ↦ let no : false ≡ true = rw other at same in cc
-]
 
 -- a recorded length is one
 pub no_none : (recorded : Option ℕ) (l : ℕ) → recorded ≡ Some l → recorded ≡ None → ⊥

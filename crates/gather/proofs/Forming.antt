@@ -7,17 +7,18 @@ use Rattle.bao_check.specs.Beside.{IsOfChunks, beside_text}
 use Rattle.bao_check.specs.Outline.{outline_mode, outline_root, outline_text}
 use Rattle.bao_text.specs.Cut.{claimed}
 use Rattle.bao_text.specs.Texts.{length_text, outboard_text, subtree_text}
-use Rattle.gather.specs.Available.{GivesSlice, HasSlice, HaveSlices, IsServed, slice_of}
-use Rattle.gather.specs.declared.grain.Grain.{Grain}
-use Rattle.gather.specs.declared.grain.Grain.TheVariants.{Group as ByGroup, Chunk as ByChunk}
-use Rattle.gather.proofs.Owning.{own_makes}
+use Rattle.holders.specs.Available.{GivesSlice, HasSlice, HaveSlices, IsServed, slice_of}
+use Rattle.holders.specs.declared.grain.Grain.{Grain}
+use Rattle.holders.specs.declared.grain.Grain.TheVariants.{Group as ByGroup, Chunk as ByChunk}
+use Rattle.holders.proofs.Owning.{own_makes}
 use Rattle.gather.proofs.Serving.{is_of, later_slice, slice_good, slice_is}
-use Rattle.gather.specs.declared.form.Form.{Form}
-use Rattle.gather.specs.declared.form.Form.TheVariants.{Slices, Bare}
-use Rattle.gather.specs.declared.form.ByteRange.{ByteRange}
-use Rattle.gather.specs.Forms.{AreSlices, IsChunk, IsEnd, IsGroup, IsLengthOf, IsMade, IsPart, IsSliceCheck, checked_len, checked_text, chunks_of_part, form_mode, form_root, made_of}
-use Rattle.gather.specs.Parts.{HaveParts, IsAskedIn, IsEndIn, IsFor, IsOutlineFor, IsOwn}
-use Rattle.gather.specs.Holders.{AreLater, GivesNoMore, IsGiven}
+use Rattle.holders.specs.declared.form.Form.{Form}
+use Rattle.holders.specs.declared.form.Form.TheVariants.{Slices, Bare}
+use Rattle.holders.specs.declared.form.ByteRange.{ByteRange}
+use Rattle.holders.specs.Forms.{AreSlices, IsLengthOf, made_of}
+use Rattle.gather.specs.Asked.{IsChunk, IsEnd, IsGroup, IsMade, IsPart, IsSliceCheck, checked_len, checked_text, chunks_of_part, form_mode, form_root}
+use Rattle.holders.specs.Parts.{HaveParts, IsAskedIn, IsEndIn, IsFor, IsOutlineFor, IsOwn}
+use Rattle.holders.specs.Holders.{AreLater, GivesNoMore, IsGiven}
 
 -- what comes of a holder that gives no more is no more
 pub made_no_more : {H : Type 0} (form : Form) (gives : H → ℕ → ℕ → List ℕ → Type 0) (old new : H) → GivesNoMore gives old new → GivesNoMore (made_of form gives) old new

@@ -6,7 +6,7 @@ use Rattle.bao_text.specs.NodeNames.{boundary}
 use Rattle.bao_text.specs.Nodes.{TreeNode, placed_nodes, size}
 use Rattle.gather.specs.Counts.{HasFailedSince}
 use Rattle.gather.specs.Groups.{AreGroups, has_in, is_in}
-use Rattle.store_core.specs.Pieces.{holds_parent}
+use Rattle.holders.specs.Pieces.{holds_parent}
 use Rattle.gather.specs.declared.report.Report.{Report}
 
 -- the groups that have a boundary among all nodes are those that are marked, and those of the nodes that are left

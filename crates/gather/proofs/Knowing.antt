@@ -1,8 +1,8 @@
 -- What a call of a one-thread store leaves its worker to know.
 use Rattle.gather.proofs.Common.{◌≡◌, ◌≢◌, ◌<◌, ◌||◌, ℕ, ◌↔◌, ◌⊎◌, lt-ltb, is_claimed, inl, inr, ap, not, is_some, IsErrOf, IsOf, IsMaskOf, both_ways, cases_Bool, ◌/◌, ◌%◌, ◌==◌, true, ◌&&◌, Option, None, Some, Result, Ok, Err, IfErr, IfOk, IfSome, OnErr, MatchResult, refl, sym, subst, ◌∙◌, eqb-true, eq-eqb, and_from, and_parts, Checked, StoreFault, Take, Commit, Piece, Settling, Settled, Known, Differs, OtherRoot, TooLarge, Stored, Store, is_free, settling, has_bit, in_mask, holds_chunk, length_of, piece_of, State, claims, is_held, DidStore, IsEvent, IsSame, IsUnstored, Settles, fixed_of, state_of}
-use Rattle.gather.specs.Available.{IsOfOtherLength, IsWanted, Keeps, KeepsBut}
+use Rattle.gather.specs.Filled.{IsOfOtherLength, IsWanted, Keeps, KeepsBut}
 use Rattle.gather.specs.Lasting.{HasParent, HoldsChunk, IsBusy, Records}
-use Rattle.store_core.specs.Pieces.{holds_parent}
+use Rattle.holders.specs.Pieces.{holds_parent}
 use Rattle.store_core.specs.declared.fault.StoreFault.TheVariants as fault
 use Rattle.gather.specs.Worked.{worker, worker_claims}
 use Rattle.gather.proofs.Alone.{unstored_same}

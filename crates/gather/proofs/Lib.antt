@@ -12,6 +12,13 @@ pub mod Serving
 pub mod Served
 pub mod Finishing
 pub mod Handing
-pub mod Reading
 pub mod Appending
-pub mod Owning
+pub mod SeatCommon
+pub mod Summing
+pub mod Sharing
+pub mod SeatKnowing
+pub mod SeatFinishing
+pub mod SeatAlone
+pub mod HandedOver
+pub mod Giving
+pub mod InTurn

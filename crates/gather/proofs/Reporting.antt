@@ -1,13 +1,13 @@
 -- What a worker's report gains, from one seat to the next.
 use Rattle.gather.proofs.Common.{◌≡◌, ◌⊎◌, ℕ, zero, suc, ◌+◌, ◌<◌, ◌≤◌, List, [], ◌∷◌, length, get_or, set, None, Some, slice_get, true, Bool, IsTrue, refl, sym, ap, subst, ◌∙◌, length-set, arith, inl, inr, slice_get-get_or, sum_by, sum_by-set, CheckFault, Short, Mismatch, Trailing, Memory, Reader, Fixed, Piece}
-use Rattle.gather.specs.declared.holder.HolderFault.{HolderFault}
-use Rattle.gather.specs.declared.holder.HolderFault.TheVariants.{Device}
-use Rattle.gather.specs.declared.holder.HolderFault.TheVariants as unfetched
+use Rattle.holders.specs.declared.holder.HolderFault.{HolderFault}
+use Rattle.holders.specs.declared.holder.HolderFault.TheVariants.{Device}
+use Rattle.holders.specs.declared.holder.HolderFault.TheVariants as unfetched
 use Rattle.gather.specs.declared.report.Report.{Report}
 use Rattle.gather.proofs.Serving.{memory_counts}
 use Rattle.gather.specs.Counts.{FailsNoLess, Fits, Goes, HasFailedSince, IsAnswered, Reports, asked_once, checked_once, failed_once, lost_once, memory_once, plus, refused_once}
-use Rattle.gather.specs.Holders.{AreLater, GivesNoMore, IsGiven, IsHanded, IsIt, IsNone}
-use Rattle.gather.specs.Large.{EndsTooFar, IsTooLarge}
+use Rattle.holders.specs.Holders.{AreLater, GivesNoMore, IsGiven, IsHanded, IsIt, IsNone}
+use Rattle.holders.specs.Blobs.{EndsTooFar, IsTooLarge}
 
 -- what stands in a list of which an element was set
 set_there : {H : Type 0} (xs : List H) (i j : ℕ) (y h : H) → slice_get (set xs i y) j ≡ Some h → (h ≡ y) ⊎ (slice_get xs j ≡ Some h)

@@ -3,8 +3,8 @@ use Rattle.gather.proofs.Common.{◌≡◌, ◌∙◌, ℕ, ◌+◌, ◌-◌, �
 use Rattle.bao_check.proofs.Descents.{parent_wanted}
 use Rattle.bao_check.proofs.Parenting.{parent_in-some}
 use Rattle.bao_check.specs.Parents.{parent_place}
-use Rattle.store_core.specs.Pieces.{holds_parent}
-use Rattle.gather.specs.Available.{IsServed, slice_of}
+use Rattle.holders.specs.Pieces.{holds_parent}
+use Rattle.holders.specs.Available.{IsServed, slice_of}
 
 some_mapped : {X Y : Type 0} (f : X → Y) (o : Option X) → IsSome o → IsSome (option_map f o)
 some_mapped f None is = is

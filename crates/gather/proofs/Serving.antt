@@ -1,12 +1,13 @@
 -- What a worker does with the slices of a blob that a holder gives.
 use Rattle.gather.proofs.Common.{◌≢◌, eqb-true, eq-eqb, ◌≡◌, ℕ, ◌+◌, ◌-◌, ◌*◌, ◌/◌, ◌%◌, ◌^◌, ◌<◌, ◌≤◌, min, ◌==◌, ◌&&◌, not, Bool, true, false, List, [], ◌∷◌, zero, suc, get_or, set, slice_get, IfSome, IsSome, Option, None, Some, length, refl, sym, ap, subst, ◌∙◌, arith, inl, inr, ltb-true, mul_comm, nat_lt, get_or_from_slice_get, and_parts, both_ways, cases_Bool, cases_lt, lt-ltb, add-mod_right, div-lt_iff_lt-mul, mod-eq_of_lt, mul-lt-mul_of_pos_right, Mode, IsAccepted, slice_nodes, HoldsLast, IsPiece, Checked, slice_text, Fixed, Piece, has_room, IsMaskOf, has_bit, in_mask, EndsBlob, length_of, piece_of, IsOf}
 use Rattle.gather.proofs.Bits.{has_bit_zero}
-use Rattle.gather.specs.Holders.{AreLater}
-use Rattle.gather.specs.declared.grain.Grain.{Grain}
-use Rattle.gather.specs.Available.{GivesSlice, HasSlice, HasTrue, HaveSlices, IsServed, IsWanted, slice_of}
+use Rattle.holders.specs.Holders.{AreLater}
+use Rattle.gather.specs.Filled.{IsWanted}
+use Rattle.holders.specs.Available.{GivesSlice, HasSlice, IsServed, slice_of}
 use Rattle.gather.specs.Counts.{HasFailed, HasFailedSince, memory_once}
 use Rattle.gather.specs.declared.report.Report.{Report}
-use Rattle.gather.specs.Large.{EndsTooFar}
+use Rattle.holders.specs.Blobs.{EndsTooFar}
+use Rattle.holders.proofs.Slices.{piece_is}
 
 -- a slice is accepted under the store's root and in its mode
 pub slice_good : (fixed known : Fixed) (blob text : List ℕ) (start len : ℕ) → IsServed fixed blob → known ≡ fixed → text ≡ slice_text fixed.mode blob start len
@@ -14,11 +15,6 @@ pub slice_good : (fixed known : Fixed) (blob text : List ℕ) (start len : ℕ) 
 slice_good fixed known blob text start len served same is =
     subst (λ (f : Fixed). IsAccepted f.mode f.root.0 text (slice_nodes text start len)) (sym same)
     (subst (λ (xs : List ℕ). IsAccepted fixed.mode fixed.root.0 xs (slice_nodes xs start len)) (sym is) (served.accepted start len))
-
--- the piece that it is
-pub piece_is : (base : ℕ) (it : Checked) (mode : Mode) (root : List ℕ) (start len : ℕ) (text : List ℕ) → IsPiece it mode root start len text
-    → piece_of base it ≡ record { base = base; start = start; len = len; text = text }
-piece_is base it mode root start len text is = λ i. record { base = base; start = is.start_is i; len = is.len_is i; text = is.text_is i }
 
 pub slice_is : (fixed : Fixed) (it : Checked) (mode : Mode) (root : List ℕ) (start len : ℕ) (blob text : List ℕ) → IsPiece it mode root start len text
     → text ≡ slice_text fixed.mode blob start len → piece_of fixed.base it ≡ slice_of fixed blob start len
@@ -130,19 +126,6 @@ pub later_slice : {H : Type 0} (gives : H → ℕ → ℕ → List ℕ → Type 
 later_slice gives mode blob start len old new later has =
     let then = later.each has.place has.holder has.there in
     record { place = has.place; holder = then.0; there = then.1; gives_slice = λ text is. has.gives_slice text (then.2 start len text is) }
-
--- one that gives nothing but the slices of a blob gives each
-true_slice : {H : Type 0} (gives : H → ℕ → ℕ → List ℕ → Type 0) (mode : Mode) (blob : List ℕ) (start len : ℕ) (holders : List H) → HasTrue gives mode blob holders
-    → HasSlice gives mode blob start len holders
-true_slice gives mode blob start len holders has =
-    record { place = has.place; holder = has.holder; there = has.there; gives_slice = λ text is. has.gives_slices start len text is }
-
-pub true_slices : {H : Type 0} (grain : Grain) (gives : H → ℕ → ℕ → List ℕ → Type 0) (mode : Mode) (blob : List ℕ) (holders : List H) → HasTrue gives mode blob holders
-    → HaveSlices grain gives mode blob holders
-true_slices grain gives mode blob holders has = record {
-  end = true_slice gives mode blob (2 ^ 64 - 1) 1 holders has;
-  each = λ c start len below asked. true_slice gives mode blob start len holders has;
-}
 
 -- a worker begins at one of the groups
 pub begins_within : (number workers groups : ℕ) → number < workers → 0 < groups → number * groups / workers < groups

@@ -3,14 +3,14 @@ use Rattle.std.specs.Prelude.{◌≡◌, ◌⊎◌, ℕ, ◌+◌, ◌-◌, ◌^�
 use Rattle.bao_check.specs.declared.fault.CheckFault.{CheckFault}
 use Rattle.bao_check.specs.declared.fault.CheckFault.TheVariants.{Short, Mismatch, Trailing, Reader}
 use Rattle.bao_check.specs.declared.fault.CheckFault.TheVariants as refusal
-use Rattle.store_core.specs.declared.fixed.Fixed.{Fixed}
-use Rattle.store_core.specs.declared.history.Piece.{Piece}
-use Rattle.gather.specs.declared.holder.HolderFault.{HolderFault}
-use Rattle.gather.specs.declared.holder.HolderFault.TheVariants.{Device, Memory}
+use Rattle.holders.specs.declared.fixed.Fixed.{Fixed}
+use Rattle.holders.specs.declared.piece.Piece.{Piece}
+use Rattle.holders.specs.declared.holder.HolderFault.{HolderFault}
+use Rattle.holders.specs.declared.holder.HolderFault.TheVariants.{Device, Memory}
 use Rattle.gather.specs.declared.report.Report.{Report}
 use Rattle.gather.specs.Claims.{Among}
-use Rattle.gather.specs.Holders.{IsNone}
-use Rattle.gather.specs.Large.{IsTooLarge}
+use Rattle.holders.specs.Holders.{IsNone}
+use Rattle.holders.specs.Blobs.{IsTooLarge}
 
 -- a count goes up, and stays at 2^64 - 1 once there
 abbrev pub plus : ℕ → ℕ → ℕ

@@ -2,11 +2,11 @@
 use Rattle.std.specs.Prelude.{◌≡◌, ◌⊎◌, ℕ, ◌/◌, ◌%◌, ◌==◌, ◌&&◌, true, false, List, [], ◌∷◌, Option, None, Some, is_some}
 use Rattle.std.proofs.Common.{refl, sym, ap, subst, ◌∙◌, inl, inr, eqb-true}
 use Rattle.std.proofs.lemmas.Bool.{and_parts, cases_Bool}
-use Rattle.store_core.specs.declared.fixed.Fixed.{Fixed}
+use Rattle.holders.specs.declared.fixed.Fixed.{Fixed}
 use Rattle.store_core.specs.declared.history.Call.{Call}
 use Rattle.store_core.specs.declared.history.Call.TheVariants.{Take, Give, Commit, Settle, Read, Length, Parents, Serve}
 use Rattle.store_core.specs.declared.history.Event.{Event}
-use Rattle.store_core.specs.declared.history.Piece.{Piece}
+use Rattle.holders.specs.declared.piece.Piece.{Piece}
 use Rattle.store_core.specs.declared.store.Store.{Store}
 use Rattle.store_core.specs.Events.{IsRightReply, after, after_call}
 use Rattle.store_core.proofs.Lasting.{recorded_from}
@@ -14,11 +14,11 @@ use Rattle.store_core.proofs.ParentOrigins.{parents_from}
 use Rattle.store_core.specs.Histories.{AreLegalFrom, run}
 use Rattle.store_core.specs.Masks.{has_bit, in_mask}
 use Rattle.store_core.specs.Names.{Name}
-use Rattle.store_core.specs.Pieces.{holds_chunk}
+use Rattle.holders.specs.Pieces.{holds_chunk}
 use Rattle.std.specs.List.{AllByRecursion}
 use Rattle.store_core.specs.States.{State, is_among, claims, is_claimed, is_held}
 use Rattle.store_core.specs.Stores.{fixed_of, state_of}
-use Rattle.gather.specs.Available.{Lasts}
+use Rattle.gather.specs.Filled.{Lasts}
 use Rattle.gather.specs.Claims.{Among}
 use Rattle.gather.specs.Worked.{HasWorked, IsOwn, worker, worker_claims}
 

@@ -4,12 +4,13 @@ use Rattle.std.specs.List.{AllByRecursion, sum_by}
 use Rattle.store_core.specs.declared.history.Call.{Call}
 use Rattle.store_core.specs.declared.history.Call.TheVariants.{Take, Give, Commit, Settle, Read, Length, Parents, Serve}
 use Rattle.store_core.specs.declared.history.Event.{Event}
-use Rattle.store_core.specs.declared.fixed.Fixed.{Fixed}
-use Rattle.store_core.specs.declared.history.Piece.{Piece}
+use Rattle.holders.specs.declared.fixed.Fixed.{Fixed}
+use Rattle.holders.specs.declared.piece.Piece.{Piece}
 use Rattle.store_core.specs.declared.history.Storing.TheVariants.{OtherLength, Stored}
 use Rattle.bao_check.specs.Pieces.{chunk_of}
-use Rattle.store_core.specs.Laws.{IsBlob, CollidesWith, chunks_of}
-use Rattle.store_core.specs.Pieces.{IsAcceptedPiece, chunk_bytes}
+use Rattle.store_core.specs.Laws.{chunks_of}
+use Rattle.holders.specs.Blobs.{IsBlob, CollidesWith}
+use Rattle.holders.specs.Pieces.{IsAcceptedPiece, chunk_bytes}
 use Rattle.store_core.specs.declared.store.Store.{Store}
 use Rattle.store_core.specs.Histories.{AreLegalFrom, run}
 use Rattle.store_core.specs.Names.{Name}

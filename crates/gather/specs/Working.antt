@@ -3,11 +3,11 @@ use Rattle.std.specs.Prelude.{◌≡◌, ℕ, ◌+◌, List, [], ◌∷◌, ◌+
 use Rattle.std.proofs.Common.{refl, sym, ap, subst, ◌∙◌}
 use Rattle.std.proofs.lemmas.List.Sums.{sum_by-append}
 use Rattle.bao_check.proofs.Lists.{All-append}
-use Rattle.store_core.specs.declared.fixed.Fixed.{Fixed}
+use Rattle.holders.specs.declared.fixed.Fixed.{Fixed}
 use Rattle.store_core.specs.declared.history.Call.{Call}
 use Rattle.store_core.specs.declared.history.Call.TheVariants.{Take, Give, Commit, Settle, Read, Length, Parents, Serve}
 use Rattle.store_core.specs.declared.history.Event.{Event}
-use Rattle.store_core.specs.declared.history.Piece.{Piece}
+use Rattle.holders.specs.declared.piece.Piece.{Piece}
 use Rattle.store_core.specs.declared.store.Store.{Store}
 use Rattle.store_core.proofs.Lasting.{legal-join, run-append}
 use Rattle.store_core.specs.Histories.{AreLegalFrom, run}
@@ -15,7 +15,7 @@ use Rattle.store_core.specs.Laws.{chunks_of}
 use Rattle.store_core.specs.States.{State}
 use Rattle.store_core.specs.Stores.{fixed_of, state_of}
 use Rattle.gather.specs.Counts.{Goes}
-use Rattle.gather.specs.Holders.{IsNone}
+use Rattle.holders.specs.Holders.{IsNone}
 use Rattle.gather.specs.Worked.{AreFrom, HasWorked, IsFrom, IsOwn, chunks_in, parents_in, parents_of}
 
 pub no_work : (s : Store) → HasWorked IsNone s s 0 0

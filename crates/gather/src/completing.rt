@@ -1,22 +1,24 @@
 ghost use Rattle.std.specs.Prelude.{◌≡◌, ◌⊎◌, ℕ, ◌/◌, ◌<◌, ◌≤◌, IfSome, List, Some, length, sum_by, true};
 ghost use Rattle.bao_text.specs.Choice.{chunk_count};
-ghost use Rattle.gather.specs.Available.{HasAllParents, HasSlice, IsFilled, IsServed, slice_of};
+ghost use Rattle.gather.specs.Filled.{HasAllParents, IsFilled};
+ghost use Rattle.holders.specs.Available.{HasSlice, IsServed, slice_of};
 ghost use Rattle.gather.specs.Claims.{Among};
 ghost use Rattle.gather.specs.Counts.{HasFailedSince, IsToldTooLarge, Reports, Still};
-ghost use Rattle.gather.specs.declared.grain.Grain.TheVariants.{Group as ByGroup};
-ghost use Rattle.gather.specs.Forms.{IsLengthOf, IsPart, checked_len, made_of};
-ghost use Rattle.gather.specs.Holders.{AreLater, IsHanded, IsNone};
-ghost use Rattle.gather.specs.Parts.{HaveParts, IsFor};
-ghost use Rattle.store_core.specs.Pieces.{holds_parent};
+ghost use Rattle.holders.specs.declared.grain.Grain.TheVariants.{Group as ByGroup};
+ghost use Rattle.holders.specs.Forms.{IsLengthOf, made_of};
+ghost use Rattle.gather.specs.Asked.{IsPart, checked_len};
+ghost use Rattle.holders.specs.Holders.{AreLater, IsHanded, IsNone};
+ghost use Rattle.holders.specs.Parts.{HaveParts, IsFor};
+ghost use Rattle.holders.specs.Pieces.{holds_parent};
 
-use crate::form::{ByteRange, Form};
-use crate::holder::Holder;
+use crate::asking;
 use crate::masks::MAX_GROUPS;
 use crate::report::Report;
 use crate::shelf::Shelf;
 use crate::worker::{Place, ask, work_as};
 use bao_check::GROUP_LEN;
 use bao_text::chunk_count;
+use holders::{ByteRange, Form, Holder};
 use std::alloc::Global;
 
 // Whether all parents at boundaries of the group are held: there is one at each chunk below `chunks` but the first.
@@ -86,7 +88,7 @@ fn length_for<S: Shelf>(form: &Form<'_>, shelf: &S, seat: &mut S::Seat) -> Optio
     ensures known { (l : ℕ) → S.records seat.old l → IsLengthOf form.now l → result ≡ Some l }
 {
     match shelf.length(seat) {
-        Some(length) if form.is_of(length) => Some(length),
+        Some(length) if asking::is_of(form, length) => Some(length),
         _ => None,
     }
 }
@@ -121,7 +123,7 @@ fn complete<S: Shelf, H: Holder>(
     let mut room = Vec::new(alloc);
     for number in 0..groups {
         let group = number as u32;
-        let part = form.group(group);
+        let part = asking::group(form, group);
         complete_group(
             alloc, form, shelf, seat, holders, &part, group, chunks, &mut room, report,
         );

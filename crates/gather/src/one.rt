@@ -2,24 +2,24 @@ ghost use Rattle.std.specs.Prelude.{◌≡◌, ◌≤◌, ◌+◌, ◌⊎◌, �
 ghost use Rattle.store_core.specs.Stores.{fixed_of};
 ghost use Rattle.gather.specs.Claims.{Among};
 ghost use Rattle.bao_text.specs.Choice.{chunk_count};
-ghost use Rattle.gather.specs.Available.{HasAllParents, HaveSlices, IsFilled};
-ghost use Rattle.gather.specs.declared.grain.Grain.TheVariants.{Group as ByGroup};
+ghost use Rattle.gather.specs.Filled.{HasAllParents, IsFilled};
+ghost use Rattle.holders.specs.Available.{HaveSlices};
+ghost use Rattle.holders.specs.declared.grain.Grain.TheVariants.{Group as ByGroup};
 ghost use Rattle.gather.specs.Counts.{HasFailed, IsAnswered, IsToldTooLarge};
 ghost use Rattle.gather.specs.Lasting.{HasParent, HoldsChunk, IsBusy, Records};
-ghost use Rattle.store_core.specs.Laws.{IsBlob};
-ghost use Rattle.gather.specs.Holders.{AreLater, IsHanded};
-ghost use Rattle.gather.specs.Large.{AreLonger, IsTooLarge};
+ghost use Rattle.holders.specs.Blobs.{IsBlob};
+ghost use Rattle.holders.specs.Holders.{AreLater, IsHanded};
+ghost use Rattle.holders.specs.Blobs.{AreLonger, IsTooLarge};
 ghost use Rattle.gather.specs.Worked.{AddsBlobs, AddsCertified, Gains, HasWorked, worker_claims};
 
 use crate::completing::closing_round;
-use crate::form::Form;
-use crate::holder::Holder;
 use crate::report::Report;
 use crate::shelf::Shelf;
 use crate::worker::{Place, work};
 use bao_check::{Checked, Tail, accepted_binds};
+use holders::{Fixed, Form, Holder};
 use std::alloc::Global;
-use store_core::{Fixed, Settling, Store, StoreFault};
+use store_core::{Settling, Store, StoreFault};
 
 // The seat number of the worker of a one-thread store.
 const SEAT: u32 = 0;

@@ -1,12 +1,12 @@
 ghost use Rattle.std.specs.Prelude.{◌≡◌, ◌⊎◌, ◌<◌, ℕ, true, map};
 ghost use Rattle.bao_check.specs.Checked.{piece_nodes};
 ghost use Rattle.bao_text.specs.NodeNames.{name};
-ghost use Rattle.gather.specs.Available.{Keeps};
+ghost use Rattle.gather.specs.Filled.{Keeps};
 ghost use Rattle.gather.specs.Claims.{Among};
 ghost use Rattle.gather.specs.Counts.{HasFailedSince, Reports};
 ghost use Rattle.gather.specs.Groups.{AreGroups, IsNext};
-ghost use Rattle.gather.specs.Holders.{IsIt};
-ghost use Rattle.store_core.specs.Pieces.{holds_parent, length_of, piece_of};
+ghost use Rattle.holders.specs.Holders.{IsIt};
+ghost use Rattle.holders.specs.Pieces.{holds_parent, length_of, piece_of};
 ghost use Rattle.store_core.specs.Stores.{IsOf};
 
 use crate::masks::MAX_GROUPS;

@@ -1,8 +1,8 @@
 ghost use Rattle.std.specs.Prelude.{◌≡◌};
 ghost use Rattle.gather.specs.Counts.{Fits, asked_once, checked_once, lost_once, memory_once, no_counts};
 
-use crate::holder::HolderFault;
 use bao_check::CheckFault;
+use holders::HolderFault;
 
 /// What a worker did. A count stays at 2^64 - 1 once there.
 #[derive(Clone, Copy, Debug, PartialEq, Eq)]

@@ -1,19 +1,20 @@
 ghost use Rattle.std.specs.Prelude.{◌⊎◌, ℕ, List, sum_by};
-ghost use Rattle.gather.specs.Available.{HaveSlices, IsFilled, IsServed};
+ghost use Rattle.gather.specs.Filled.{IsFilled};
+ghost use Rattle.holders.specs.Available.{HaveSlices, IsServed};
 ghost use Rattle.gather.specs.Claims.{Among};
 ghost use Rattle.gather.specs.Counts.{HasFailedSince, IsToldTooLarge, Reports};
-ghost use Rattle.gather.specs.declared.grain.Grain.TheVariants.{Chunk as ByChunk};
-ghost use Rattle.gather.specs.Forms.{AreSlices, made_of};
-ghost use Rattle.gather.specs.Parts.{HaveParts, IsFor};
-ghost use Rattle.gather.specs.Holders.{AreLater, IsHanded};
+ghost use Rattle.holders.specs.declared.grain.Grain.TheVariants.{Chunk as ByChunk};
+ghost use Rattle.holders.specs.Forms.{AreSlices, made_of};
+ghost use Rattle.holders.specs.Parts.{HaveParts, IsFor};
+ghost use Rattle.holders.specs.Holders.{AreLater, IsHanded};
 
-use crate::form::Form;
-use crate::holder::Holder;
+use crate::asking;
 use crate::report::Report;
 use crate::shelf::Shelf;
 use crate::worker::{agree, work_part};
 use bao_check::GROUP_LEN;
 use bao_text::chunk_count;
+use holders::{Form, Holder};
 use std::alloc::Global;
 use store_core::{MAX_CAPACITY, with_bit};
 
@@ -58,7 +59,7 @@ pub fn salvage<S: Shelf, H: Holder>(
     };
     let chunks = chunk_count(length).min(u64::from(MAX_CAPACITY));
     for chunk in 0..chunks {
-        let part = form.chunk(chunk);
+        let part = asking::chunk(form, chunk);
         let group = (chunk / GROUP_LEN) as u32;
         let want = with_bit(0, (chunk % GROUP_LEN) as u32);
         work_part(

@@ -1,20 +1,21 @@
 ghost use Rattle.std.specs.Prelude.{◌≡◌, ◌≢◌, ◌⊎◌, ℕ, ◌*◌, ◌/◌, ◌<◌, ◌≤◌, Bool, true, IfErr, IfOk, IfSome, Some, MatchResult, count_ones};
-ghost use Rattle.store_core.specs.declared.fixed.Fixed as fixed;
+ghost use Rattle.holders.specs.declared.fixed.Fixed as fixed;
 ghost use Rattle.store_core.specs.declared.history.Settling.TheVariants.{OtherRoot, TooLarge};
 ghost use Rattle.gather.specs.Claims.{Among, AmongAnd, Without};
 ghost use Rattle.bao_check.specs.Tail.{tail_piece};
-ghost use Rattle.store_core.specs.declared.history.Piece.{Piece};
-ghost use Rattle.gather.specs.Available.{IsOfOtherLength, IsWanted, Keeps, KeepsBut, Lasts};
+ghost use Rattle.holders.specs.declared.piece.Piece.{Piece};
+ghost use Rattle.gather.specs.Filled.{IsOfOtherLength, IsWanted, Keeps, KeepsBut, Lasts};
 ghost use Rattle.store_core.specs.declared.fault.StoreFault.TheVariants.{Memory};
 ghost use Rattle.store_core.specs.Masks.{in_mask};
 ghost use Rattle.store_core.specs.Stores.{IsOf};
-ghost use Rattle.store_core.specs.Pieces.{holds_chunk, holds_parent, piece_of};
+ghost use Rattle.holders.specs.Pieces.{holds_chunk, holds_parent, piece_of};
 ghost use Rattle.gather.specs.Counts.{Goes, Still};
-ghost use Rattle.gather.specs.Holders.{IsIt, IsNone};
-ghost use Rattle.gather.specs.Large.{EndsTooFar};
+ghost use Rattle.holders.specs.Holders.{IsIt, IsNone};
+ghost use Rattle.holders.specs.Blobs.{EndsTooFar};
 
 use bao_check::{Checked, Tail};
-use store_core::{Fixed, Settling, StoreFault};
+use holders::Fixed;
+use store_core::{Settling, StoreFault};
 
 /// A store as one of its workers sees it: what [`work`](crate::work) requires. A worker's own part of the store
 /// is its seat, and each call takes a seat of this store.

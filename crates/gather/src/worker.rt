@@ -2,22 +2,25 @@ ghost use Rattle.std.specs.Prelude.{IfSome, IsTrue, List, length, true, false, �
 ghost use Rattle.gather.specs.Claims.{Among, AmongAnd};
 ghost use Rattle.bao_text.specs.Choice.{chunk_count};
 ghost use Rattle.store_core.specs.Masks.{in_mask};
-ghost use Rattle.gather.specs.Available.{GivesSlice, HasSlice, HaveSlices, IsFilled, IsServed, IsWanted, slice_of};
-ghost use Rattle.gather.specs.declared.grain.Grain.TheVariants.{Group as ByGroup};
-ghost use Rattle.gather.specs.Forms.{AreSlices, IsLengthOf, IsPart, checked_len, made_of};
-ghost use Rattle.gather.specs.Parts.{HaveParts, IsAgreed, IsEndIn, IsFor};
-ghost use Rattle.store_core.specs.Pieces.{holds_chunk, holds_parent};
+ghost use Rattle.gather.specs.Filled.{IsFilled, IsWanted};
+ghost use Rattle.holders.specs.Available.{GivesSlice, HasSlice, HaveSlices, IsServed, slice_of};
+ghost use Rattle.holders.specs.declared.grain.Grain.TheVariants.{Group as ByGroup};
+ghost use Rattle.holders.specs.Forms.{AreSlices, IsLengthOf, made_of};
+ghost use Rattle.gather.specs.Asked.{IsPart, checked_len};
+ghost use Rattle.holders.specs.Parts.{HaveParts, IsEndIn, IsFor};
+ghost use Rattle.gather.specs.Filled.{IsAgreed};
+ghost use Rattle.holders.specs.Pieces.{holds_chunk, holds_parent};
 ghost use Rattle.gather.specs.Counts.{HasFailedSince, IsToldTooLarge, Reports};
-ghost use Rattle.gather.specs.Holders.{AreLater, GivesNoMore, IsGiven, IsHanded};
+ghost use Rattle.holders.specs.Holders.{AreLater, GivesNoMore, IsGiven, IsHanded};
 
-use crate::form::{ByteRange, Form};
-use crate::holder::Holder;
+use crate::asking;
 use crate::masks::{MAX_GROUPS, without};
 use crate::parents::store_parents;
 use crate::report::Report;
 use crate::shelf::Shelf;
 use bao_check::GROUP_LEN;
 use bao_text::chunk_count;
+use holders::{ByteRange, Form, Holder};
 use std::alloc::Global;
 use store_core::{Settling, StoreFault, mask_below};
 
@@ -50,7 +53,7 @@ fn ask_end<S: Shelf, H: Holder>(
         → HasFailedSince report.old report.new ⊎ ((l : ℕ) × S.records seat.new l) }
     ensures large { IsTrue result → IsToldTooLarge report.new (IsGiven (made_of form.now H.gives) holder.old) (S.fixed_of seat.old) }
 {
-    let part = form.end();
+    let part = asking::end(form);
     report.fits();
     report.count_asked();
     room.clear();
@@ -62,7 +65,7 @@ fn ask_end<S: Shelf, H: Holder>(
         }
     }
     let fixed = shelf.fixed(seat);
-    match form.check(alloc, &fixed, &part, room.as_slice()) {
+    match asking::check(alloc, form, &fixed, &part, room.as_slice()) {
         Ok(piece) => {
             let Some(tail) = piece.tail() else {
                 return false;
@@ -118,7 +121,7 @@ pub(crate) fn agree<S: Shelf, H: Holder>(
         length = shelf.length(seat);
     }
     match length {
-        Some(length) if form.is_of(length) => Some(length),
+        Some(length) if asking::is_of(form, length) => Some(length),
         _ => None,
     }
 }
@@ -166,7 +169,7 @@ pub(crate) fn ask<S: Shelf, H: Holder>(
         }
     }
     let fixed = shelf.fixed(seat);
-    match form.check(alloc, &fixed, part, text.as_slice()) {
+    match asking::check(alloc, form, &fixed, part, text.as_slice()) {
         Ok(piece) => match shelf.commit(seat, group, &piece) {
             Ok(committed) => {
                 report.committed = report
@@ -311,7 +314,7 @@ pub fn work_as<S: Shelf, H: Holder>(
     let first = u64::from(place.number) * groups / u64::from(place.workers);
     for step in 0..groups {
         let group = ((first + step) % groups) as u32;
-        let part = form.group(group);
+        let part = asking::group(form, group);
         work_part(
             alloc,
             form,

@@ -35,15 +35,15 @@ use Rattle.bao_check.proofs.Lists.{Contains-cons_cases, Contains-head, Contains-
 use Rattle.bao_check.proofs.Marked.{SameParts, same_parts}
 use Rattle.bao_check.proofs.EachNode.{chunk_node, leaf_nodes}
 use Rattle.bao_check.proofs.NodesAsEncoding.{IsChunkMade, IsParentMade, made_accepted}
-use Rattle.store_core.specs.declared.fixed.Fixed.{Fixed}
+use Rattle.holders.specs.declared.fixed.Fixed.{Fixed}
 use Rattle.store_core.specs.declared.history.Event.{Event}
-use Rattle.store_core.specs.declared.history.Piece.{Piece}
+use Rattle.holders.specs.declared.piece.Piece.{Piece}
 use Rattle.store_core.specs.declared.history.Serving.TheVariants.{Text}
 use Rattle.store_core.specs.Histories.{IsLegal, state_after}
 use Rattle.store_core.specs.Laws.{IsCommitted, IsServed, IsSettled, IsStored, IsUsed, PiecesClash, ServedAccepted}
 use Rattle.store_core.specs.Laws.IsUsed.{of_chunk, of_parent}
 use Rattle.store_core.specs.Laws.PiecesClash.{of_lengths, of_parents}
-use Rattle.store_core.specs.Pieces.{IsAcceptedPiece, length_of, places_in}
+use Rattle.holders.specs.Pieces.{IsAcceptedPiece, length_of, places_in}
 use Rattle.store_core.specs.Serves.{node_and, node_held, served, serving_of}
 use Rattle.store_core.specs.States.{State}
 use Rattle.store_core.proofs.HasRoom.{base_recorded}

@@ -7,12 +7,13 @@ use Rattle.b3tree.specs.Valid.{IsKeyed}
 use Rattle.bao_text.specs.Choice.{chunk_count}
 use Rattle.bao_check.specs.Pieces.{chunk_in, chunk_of}
 use Rattle.bao_check.proofs.Laws.{accepted_binds}
-use Rattle.store_core.specs.declared.fixed.Fixed.{Fixed}
+use Rattle.holders.specs.declared.fixed.Fixed.{Fixed}
 use Rattle.store_core.specs.declared.history.Event.{Event}
-use Rattle.store_core.specs.declared.history.Piece.{Piece}
+use Rattle.holders.specs.declared.piece.Piece.{Piece}
 use Rattle.store_core.specs.Histories.{state_after}
-use Rattle.store_core.specs.Laws.{ByteBinds, HeldBinds, IsBlob, IsCommitted, IsSettled, CollidesWith, RecordBinds}
-use Rattle.store_core.specs.Pieces.{EndsBlob, IsAcceptedPiece, length_of, places_in}
+use Rattle.store_core.specs.Laws.{ByteBinds, HeldBinds, IsCommitted, IsSettled, RecordBinds}
+use Rattle.holders.specs.Blobs.{IsBlob, CollidesWith}
+use Rattle.holders.specs.Pieces.{EndsBlob, IsAcceptedPiece, length_of, places_in}
 use Rattle.store_core.specs.Stores.{ClaimBinds}
 use Rattle.store_core.proofs.Origins.{held_is_committed, record_is_settled}
 

@@ -4,18 +4,19 @@ use Rattle.std.proofs.Common.{◌≡◌, ◌⊎◌, ℕ, ◌+◌, ◌*◌, ◌/�
 use Rattle.std.proofs.Math.Bridge.{le_prop}
 use Rattle.std.proofs.Math.Logic.{∥∥₁_elim}
 use Rattle.b3tree.specs.Valid.{IsKeyed}
-use Rattle.store_core.specs.declared.fixed.Fixed.{Fixed}
+use Rattle.holders.specs.declared.fixed.Fixed.{Fixed}
 use Rattle.store_core.specs.declared.slot.Slot.{Slot}
-use Rattle.store_core.specs.Laws.{CollisionOf, IsBlob, IsServed, PiecesClash}
+use Rattle.store_core.specs.Laws.{CollisionOf, IsServed, PiecesClash}
+use Rattle.holders.specs.Blobs.{IsBlob}
 use Rattle.store_core.specs.Reached.{IsReached}
 use Rattle.store_core.specs.Slots.{state_in, with_parents}
 use Rattle.store_core.specs.States.{State, byte_at}
 use Rattle.bao_check.specs.Accepted.{IsAccepted, slice_nodes}
 use Rattle.bao_check.specs.Parents.{parent_of}
 use Rattle.bao_check.proofs.Laws.{accepted_binds}
-use Rattle.store_core.specs.declared.history.Piece.{Piece}
+use Rattle.holders.specs.declared.piece.Piece.{Piece}
 use Rattle.bao_check.specs.Pieces.{chunk_of}
-use Rattle.store_core.specs.Pieces.{IsAcceptedPiece}
+use Rattle.holders.specs.Pieces.{IsAcceptedPiece}
 use Rattle.store_core.specs.Stores.{ChunksBind, CollisionCommitted, CollisionSettled}
 use Rattle.store_core.proofs.Bound.{byte_binds, record_binds}
 use Rattle.store_core.proofs.Accepting.{served_accepted}

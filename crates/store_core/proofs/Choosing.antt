@@ -9,7 +9,7 @@ use Rattle.store_core.specs.Masks.{IsMaskOf, has_bit}
 use Rattle.bao_check.specs.declared.checked.Checked.{Checked}
 use Rattle.bao_check.specs.Checked.{piece_places, piece_text}
 use Rattle.bao_check.specs.Parents.{IsParentMask}
-use Rattle.store_core.specs.Pieces.{holds_parent, piece_of}
+use Rattle.holders.specs.Pieces.{holds_parent, piece_of}
 use Rattle.store_core.specs.Slots.{AreCopies, IsSlotCopy, slot_at}
 use Rattle.store_core.proofs.Bits.{has_bit-zero}
 

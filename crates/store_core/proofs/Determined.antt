@@ -1,15 +1,15 @@
 -- A state determines the replies: two right ones to one question are one.
 use Rattle.std.proofs.lemmas.Bool.Decides.{nat_tests}
 use Rattle.std.proofs.Common.{arith, ◌≡◌, ℕ, ◌%◌, Bool, ◌&&◌, List, sym, ◌∙◌}
-use Rattle.store_core.specs.declared.fixed.Fixed.{Fixed}
+use Rattle.holders.specs.declared.fixed.Fixed.{Fixed}
 use Rattle.store_core.specs.declared.history.Call.TheVariants.{Take, Give, Commit, Settle, Read, Length, Parents, Serve}
-use Rattle.store_core.specs.declared.history.Piece.{Piece}
+use Rattle.holders.specs.declared.piece.Piece.{Piece}
 use Rattle.store_core.specs.declared.history.Settling.{Settling}
 use Rattle.store_core.specs.Events.{IsRightReply, is_free}
 use Rattle.store_core.specs.Laws.{StateDetermines}
 use Rattle.store_core.specs.Masks.{IsMaskOf, has_bit}
 use Rattle.store_core.specs.Names.{Name}
-use Rattle.store_core.specs.Pieces.{holds_chunk}
+use Rattle.holders.specs.Pieces.{holds_chunk}
 use Rattle.store_core.specs.States.{State, claims}
 use Rattle.store_core.proofs.Tells.{mask_unique}
 

@@ -1,9 +1,9 @@
 -- When a store has room for a length, and that it has for one that is recorded.
 use Rattle.std.proofs.lemmas.Bool.Decides.{nat_tests}
 use Rattle.std.proofs.Common.{◌≡◌, ℕ, ◌*◌, ◌<◌, ◌≤◌, true, false, List, Some, subst, arith}
-use Rattle.store_core.specs.declared.fixed.Fixed.{Fixed}
+use Rattle.holders.specs.declared.fixed.Fixed.{Fixed}
 use Rattle.store_core.specs.declared.history.Event.{Event}
-use Rattle.store_core.specs.Events.{has_room}
+use Rattle.holders.specs.Room.{has_room}
 use Rattle.store_core.specs.Histories.{IsLegal, state_after}
 use Rattle.store_core.specs.Laws.{IsSettled}
 use Rattle.store_core.proofs.Origins.{record_is_settled}

@@ -2,7 +2,7 @@
 use Rattle.std.proofs.lemmas.Bool.Decides.{nat_tests}
 use Rattle.std.proofs.Common.{arith, ◌≡◌, ℕ, Bool, ◌||◌, List, [], ◌∷◌, map, Option, None, Some, refl, ap, ◌∙◌, append-nil}
 use Rattle.std.proofs.lemmas.List.Elements.{filter-append}
-use Rattle.store_core.specs.declared.fixed.Fixed.{Fixed}
+use Rattle.holders.specs.declared.fixed.Fixed.{Fixed}
 use Rattle.store_core.specs.declared.history.Event.{Event}
 use Rattle.store_core.specs.declared.view.Named.{Named}
 use Rattle.store_core.specs.declared.view.SeatView.{SeatView}

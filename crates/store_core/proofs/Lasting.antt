@@ -1,11 +1,11 @@
 -- What a history keeps: sound states, chunks held, the recorded length and the claims of those who don't call.
 use Rattle.std.proofs.lemmas.Bool.Decides.{nat_tests}
 use Rattle.std.proofs.Common.{arith, ◌≡◌, ℕ, true, false, List, [], ◌∷◌, ◌++◌, Some, refl}
-use Rattle.store_core.specs.declared.fixed.Fixed.{Fixed}
+use Rattle.holders.specs.declared.fixed.Fixed.{Fixed}
 use Rattle.store_core.specs.declared.history.Call.{Call}
 use Rattle.store_core.specs.declared.history.Call.TheVariants.{Commit}
 use Rattle.store_core.specs.declared.history.Event.{Event}
-use Rattle.store_core.specs.declared.history.Piece.{Piece}
+use Rattle.holders.specs.declared.piece.Piece.{Piece}
 use Rattle.store_core.specs.Events.{IsRightReply, after, after_call}
 use Rattle.store_core.specs.Histories.{AreLegalFrom, AreOfOthers, is_by, run}
 use Rattle.store_core.specs.Laws.{ClaimsLast, HeldLasts, IsSound, LegalIsSound, RecordLasts}

@@ -11,7 +11,6 @@ pub mod Bound
 pub mod Joining
 pub mod Ordering
 pub mod Naming
-pub mod SameRoot
 pub mod Copying
 pub mod SlotStates
 pub mod BoundStore

@@ -5,18 +5,18 @@ use Rattle.std.specs.List.{AllByRecursion}
 use Rattle.b3tree.specs.Valid.{IsKeyed}
 use Rattle.bao_check.specs.declared.checked.Checked.{Checked}
 use Rattle.bao_check.proofs.Lists.{All-append, All-member}
-use Rattle.store_core.specs.declared.fixed.Fixed.{Fixed}
+use Rattle.holders.specs.declared.fixed.Fixed.{Fixed}
 use Rattle.store_core.specs.declared.history.Call.{Call}
 use Rattle.store_core.specs.declared.history.Call.TheVariants.{Commit, Settle as SettleCall}
 use Rattle.store_core.specs.declared.history.Event.{Event}
-use Rattle.store_core.specs.declared.history.Piece.{Piece}
+use Rattle.holders.specs.declared.piece.Piece.{Piece}
 use Rattle.store_core.specs.declared.history.Settling.TheVariants.{Settled}
 use Rattle.store_core.specs.declared.micro.MicroStep.{MicroStep}
 use Rattle.store_core.specs.declared.micro.MicroStep.TheVariants.{Hash, Write, GiveBack, Load}
 use Rattle.store_core.specs.declared.micro.Reply.{Reply}
 use Rattle.store_core.specs.declared.store.Store.{Store}
 use Rattle.store_core.specs.Machine.{Machine, MachineSeat, start, with_seat}
-use Rattle.store_core.specs.Pieces.{piece_of}
+use Rattle.holders.specs.Pieces.{piece_of}
 use Rattle.store_core.specs.Replays.{IsListed, ReplayBinds}
 use Rattle.store_core.specs.Schedules.{Runs, after_step, step_events}
 use Rattle.store_core.specs.States.{State}
@@ -27,15 +27,15 @@ abbrev AreListed : Fixed → List Checked → Machine → Type 0
 AreListed fixed pieces m = (n : ℕ) (piece : Piece) → (m.seat n).piece ≡ Some piece → IsListed fixed pieces piece
 
 -- the piece that an event commits or settles a length by is one of the list
-abbrev IsCallOf : Fixed → List Checked → Call → Type 0
+abbrev pub IsCallOf : Fixed → List Checked → Call → Type 0
 IsCallOf fixed pieces (Commit group piece committed) = IsListed fixed pieces piece
 IsCallOf fixed pieces (SettleCall piece answer) = IsListed fixed pieces piece
 IsCallOf fixed pieces call = Unit {0}
 
-abbrev IsEventOf : Fixed → List Checked → Event → Type 0
+abbrev pub IsEventOf : Fixed → List Checked → Event → Type 0
 IsEventOf fixed pieces e = IsCallOf fixed pieces e.call
 
-start_listed : (fixed : Fixed) (pieces : List Checked) → AreListed fixed pieces start
+pub start_listed : (fixed : Fixed) (pieces : List Checked) → AreListed fixed pieces start
 start_listed fixed pieces n piece h = let none : None ≡ Some piece = h in cc
 
 -- the piece that a Hash makes current
@@ -66,7 +66,7 @@ events_listed : (fixed : Fixed) (pieces : List Checked) (m : Machine) (step : Mi
     → AllByRecursion (IsEventOf fixed pieces) (step_events fixed m step reply)
 events_listed fixed pieces m step reply are = grind (arith, nat_tests)
 
-runs_listed : (fixed : Fixed) (pieces : List Checked) (m : Machine) (steps : List MicroStep) (replies : List Reply) (history : List Event) (last : Machine)
+pub runs_listed : (fixed : Fixed) (pieces : List Checked) (m : Machine) (steps : List MicroStep) (replies : List Reply) (history : List Event) (last : Machine)
     → AreListed fixed pieces m → Runs fixed pieces m steps replies history last → AllByRecursion (IsEventOf fixed pieces) history
 runs_listed fixed pieces m [] replies history last are runs = subst (λ (h : List Event). AllByRecursion (IsEventOf fixed pieces) h) (sym runs.1) tt
 runs_listed fixed pieces m (step ∷ steps) replies history last are runs =

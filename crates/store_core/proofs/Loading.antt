@@ -3,7 +3,7 @@ use Rattle.std.proofs.lemmas.Bool.Decides.{nat_tests}
 use Rattle.std.proofs.Common.{◌≡◌, ◌≢◌, ℕ, ◌+◌, ◌-◌, ◌*◌, ◌/◌, ◌%◌, ◌<◌, min, nat_le, ◌==◌, ◌||◌, List, [], ◌++◌, length, take, drop, None, Some, ap, subst, ◌∙◌, arith, append-nil, length-append}
 use Rattle.std.proofs.Math.ListN.{drop_of_length-le}
 use Rattle.std.proofs.Math.Seq.{take-append_seam}
-use Rattle.store_core.specs.declared.fixed.Fixed.{Fixed}
+use Rattle.holders.specs.declared.fixed.Fixed.{Fixed}
 use Rattle.store_core.specs.declared.store.Store.{Store}
 use Rattle.store_core.specs.Machine.{Machine, ReadUnderWay, copied, is_over, is_whole, loaded, loaded_group, position, store_of}
 use Rattle.store_core.specs.ScheduleRuns.{carried_on}

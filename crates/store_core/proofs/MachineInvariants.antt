@@ -3,16 +3,16 @@ use Rattle.std.proofs.lemmas.Grind.{common_steps}
 use Rattle.std.proofs.lemmas.Bool.Decides.{nat_tests}
 use Rattle.std.proofs.Common.{◌≡◌, ℕ, ◌+◌, ◌≤◌, true, false, List, [], ◌∷◌, length, slice_index, Option, None, Some, option_map, refl, sym, subst, ◌∙◌, arith, eq-eqb}
 use Rattle.b3tree.specs.Valid.{AreBytes}
-use Rattle.bao_text.specs.Nodes.{TreeNode, size}
+use Rattle.bao_text.specs.Nodes.{TreeNode}
 use Rattle.bao_check.specs.Pieces.{chunk_in}
 use Rattle.bao_check.proofs.Certified.{certified}
-use Rattle.store_core.specs.declared.fixed.Fixed.{Fixed}
+use Rattle.holders.specs.declared.fixed.Fixed.{Fixed}
 use Rattle.store_core.specs.declared.history.Event.{Event}
-use Rattle.store_core.specs.declared.history.Piece.{Piece}
+use Rattle.holders.specs.declared.piece.Piece.{Piece}
 use Rattle.store_core.specs.Histories.{AreLegalFrom, run}
 use Rattle.store_core.specs.Laws.{IsSound}
 use Rattle.store_core.specs.Machine.{Machine, is_number, is_shown, seat_has, shown_byte, store_of}
-use Rattle.store_core.specs.Pieces.{IsAcceptedPiece, chunk_bytes}
+use Rattle.holders.specs.Pieces.{IsAcceptedPiece, chunk_bytes}
 use Rattle.store_core.specs.MachineInvariant.{IsKept, IsReadSoFar, IsSoundMachine}
 use Rattle.store_core.specs.Slots.{caller}
 use Rattle.store_core.specs.States.{State, byte_at, claims, is_among}

@@ -1,6 +1,6 @@
 -- A schedule has one run: the machine's replies, events and end are determined by its steps.
 use Rattle.std.proofs.Common.{◌≡◌, ℕ, ◌%◌, nat_lt, Bool, not, ◌&&◌, ◌||◌, List, [], ◌∷◌, ◌++◌, Option, Some, is_some, option_to_list, sym, ap, subst, ◌∙◌}
-use Rattle.store_core.specs.declared.fixed.Fixed.{Fixed}
+use Rattle.holders.specs.declared.fixed.Fixed.{Fixed}
 use Rattle.store_core.specs.declared.history.Event.{Event}
 use Rattle.store_core.specs.declared.micro.MicroStep.{MicroStep}
 use Rattle.store_core.specs.declared.micro.MicroStep.TheVariants.{Claim, Publish, GiveBack}

@@ -5,11 +5,11 @@ use Rattle.std.proofs.lemmas.Bool.Decides.{nat_tests}
 use Rattle.std.proofs.lemmas.Bool.{cases_Bool}
 use Rattle.std.proofs.lemmas.List.Sums.{sum_by-cons}
 use Rattle.bao_check.proofs.Lists.{Contains-head, Contains-tail}
-use Rattle.store_core.specs.declared.fixed.Fixed.{Fixed}
+use Rattle.holders.specs.declared.fixed.Fixed.{Fixed}
 use Rattle.store_core.specs.declared.history.Call.{Call}
 use Rattle.store_core.specs.declared.history.Call.TheVariants.{Commit, Settle}
 use Rattle.store_core.specs.declared.history.Event.{Event}
-use Rattle.store_core.specs.declared.history.Piece.{Piece}
+use Rattle.holders.specs.declared.piece.Piece.{Piece}
 use Rattle.store_core.specs.declared.history.Settling.{Settling}
 use Rattle.store_core.specs.declared.history.Settling.TheVariants.{Settled}
 use Rattle.store_core.specs.Events.{IsRightReply, after, after_call, recorded_after}
@@ -17,7 +17,7 @@ use Rattle.store_core.specs.Histories.{AreLegalFrom, run}
 use Rattle.store_core.specs.Laws.{CommittedOnce, HeldIsCommitted, IsCommitted, IsSettled, IsSound, RecordIsSettled, commits}
 use Rattle.store_core.specs.Masks.{in_mask}
 use Rattle.store_core.specs.Names.{Name}
-use Rattle.store_core.specs.Pieces.{holds_chunk, length_of}
+use Rattle.holders.specs.Pieces.{holds_chunk, length_of}
 use Rattle.store_core.specs.States.{State, empty, is_held}
 use Rattle.store_core.proofs.Tells.{claims-claimed, masked}
 use Rattle.store_core.proofs.Lasting.{committed-claimed, sound_call, sound_empty}

@@ -4,11 +4,11 @@ use Rattle.std.proofs.lemmas.Bool.Decides.{nat_tests}
 use Rattle.std.specs.Prelude.{Contains}
 use Rattle.std.proofs.lemmas.Bool.{cases_Bool}
 use Rattle.bao_check.proofs.Lists.{Contains-head, Contains-tail}
-use Rattle.store_core.specs.declared.fixed.Fixed.{Fixed}
+use Rattle.holders.specs.declared.fixed.Fixed.{Fixed}
 use Rattle.store_core.specs.declared.history.Call.{Call}
 use Rattle.store_core.specs.declared.history.Call.TheVariants.{Parents}
 use Rattle.store_core.specs.declared.history.Event.{Event}
-use Rattle.store_core.specs.declared.history.Piece.{Piece}
+use Rattle.holders.specs.declared.piece.Piece.{Piece}
 use Rattle.store_core.specs.declared.history.Storing.{Storing}
 use Rattle.store_core.specs.declared.history.Storing.TheVariants.{OtherLength, Stored}
 use Rattle.store_core.specs.Events.{IsRightReply, after, after_call, parents_after}
@@ -16,7 +16,7 @@ use Rattle.store_core.specs.Histories.{AreLegalFrom, run}
 use Rattle.store_core.specs.Laws.{ParentIsStored, ParentLasts}
 use Rattle.store_core.specs.Masks.{in_mask}
 use Rattle.store_core.specs.Names.{Name}
-use Rattle.store_core.specs.Pieces.{IsAcceptedPiece, length_of, parent_bytes}
+use Rattle.holders.specs.Pieces.{IsAcceptedPiece, length_of, parent_bytes}
 use Rattle.store_core.specs.States.{State, empty}
 use Rattle.store_core.proofs.Lasting.{legal-append, recorded_from, run-append}
 

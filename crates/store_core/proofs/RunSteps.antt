@@ -5,10 +5,10 @@ use Rattle.std.proofs.lemmas.Bool.{and_parts, cases_Bool}
 use Rattle.b3tree.specs.declared.values.Hash.{Hash as Digest}
 use Rattle.bao_check.specs.declared.checked.Checked.{Checked}
 use Rattle.bao_check.specs.Checked.{HoldsLast}
-use Rattle.store_core.specs.declared.fixed.Fixed.{Fixed}
+use Rattle.holders.specs.declared.fixed.Fixed.{Fixed}
 use Rattle.store_core.specs.declared.history.Call.TheVariants.{Take, Give, Commit}
 use Rattle.store_core.specs.declared.history.Event.{Event}
-use Rattle.store_core.specs.declared.history.Piece.{Piece}
+use Rattle.holders.specs.declared.piece.Piece.{Piece}
 use Rattle.store_core.specs.declared.micro.MicroStep.{MicroStep}
 use Rattle.store_core.specs.declared.micro.MicroStep.TheVariants.{Claim, Hash, Write, Publish, GiveBack, Settle}
 use Rattle.store_core.specs.declared.micro.Reply.{Reply}
@@ -17,9 +17,10 @@ use Rattle.store_core.specs.declared.schedule.Player.{Player}
 use Rattle.store_core.specs.declared.schedule.ScheduleRun.{ScheduleRun}
 use Rattle.store_core.specs.Events.{IsRightReply, after_call}
 use Rattle.store_core.specs.Histories.{AreLegalFrom, run}
-use Rattle.store_core.specs.Machine.{Machine, MachineSeat, current_holds, groups, seat_has, start, store_of}
+use Rattle.store_core.specs.Machine.{Machine, MachineSeat, current_holds, seat_has, start, store_of}
+use Rattle.holders.specs.Room.{groups}
 use Rattle.store_core.specs.Masks.{IsMaskOf, in_mask}
-use Rattle.store_core.specs.Pieces.{holds_chunk, piece_of}
+use Rattle.holders.specs.Pieces.{holds_chunk, piece_of}
 use Rattle.store_core.specs.Schedules.{HasTail, IsLegalStep, IsReply, TakesBytes, after_step, commit_by, step_events}
 use Rattle.store_core.specs.MachineInvariant.{IsSoundMachine}
 use Rattle.store_core.specs.Slots.{caller}

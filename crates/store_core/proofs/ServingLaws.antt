@@ -17,15 +17,16 @@ use Rattle.bao_check.specs.Pieces.{chunk_of}
 use Rattle.bao_check.proofs.BlobNodes.{chunk_of-node, parent_of-boundary}
 use Rattle.bao_check.proofs.Lists.{Contains-cons_cases, Contains-head, Contains-tail}
 use Rattle.bao_check.proofs.NodeBinding.{parent_binds}
-use Rattle.store_core.specs.declared.fixed.Fixed.{Fixed}
+use Rattle.holders.specs.declared.fixed.Fixed.{Fixed}
 use Rattle.store_core.specs.declared.history.Event.{Event}
-use Rattle.store_core.specs.declared.history.Piece.{Piece}
+use Rattle.holders.specs.declared.piece.Piece.{Piece}
 use Rattle.store_core.specs.declared.history.Serving.{Serving}
 use Rattle.store_core.specs.declared.history.Serving.TheVariants.{Text}
 use Rattle.store_core.specs.Histories.{IsLegal, state_after}
-use Rattle.store_core.specs.Laws.{CollidesWith, CollisionOf, IsBlob, IsServed, IsSettled, IsStored, IsUsed, ParentHeldBinds, ServedBinds}
+use Rattle.store_core.specs.Laws.{CollisionOf, IsServed, IsSettled, IsStored, IsUsed, ParentHeldBinds, ServedBinds}
+use Rattle.holders.specs.Blobs.{CollidesWith, IsBlob}
 use Rattle.store_core.specs.Laws.IsUsed.{of_chunk, of_length, of_parent}
-use Rattle.store_core.specs.Pieces.{length_of}
+use Rattle.holders.specs.Pieces.{length_of}
 use Rattle.store_core.specs.Serves.{after_bytes, node_and, node_held, served, serving_of}
 use Rattle.store_core.specs.States.{State}
 use Rattle.store_core.proofs.Bound.{held_binds, record_binds}

@@ -5,7 +5,7 @@ use Rattle.std.proofs.Common.{◌≡◌, ℕ, ◌+◌, ◌/◌, ◌%◌, ◌<◌
 use Rattle.std.proofs.Math.Logic.{∥∥₁_map}
 use Rattle.std.proofs.lemmas.List.{get_or_past}
 use Rattle.std.proofs.lemmas.Nat.Bits.{bit_at_ones}
-use Rattle.store_core.specs.declared.history.Piece.{Piece}
+use Rattle.holders.specs.declared.piece.Piece.{Piece}
 use Rattle.std.proofs.lemmas.Bool.{and_left, and_right, cases_Bool, le-ltb}
 use Rattle.b3tree.specs.declared.mode.Mode.{Mode}
 use Rattle.b3tree.specs.declared.values.Hash.{Hash}
@@ -14,16 +14,17 @@ use Rattle.bao_check.specs.declared.checked.Checked.{Checked}
 use Rattle.bao_check.specs.Accepted.{IsAccepted}
 use Rattle.bao_check.specs.Checked.{HoldsLast, piece_claimed, piece_mode, piece_nodes, piece_root, piece_text}
 use Rattle.store_core.specs.declared.history.Settling.TheVariants.{Settled}
-use Rattle.store_core.specs.Pieces.{IsAcceptedPiece, holds_chunk, piece_of}
+use Rattle.holders.specs.Pieces.{IsAcceptedPiece, holds_chunk, piece_of}
 use Rattle.store_core.specs.Stores.{IsOf}
-use Rattle.store_core.specs.declared.fixed.Fixed.{Fixed}
+use Rattle.holders.specs.declared.fixed.Fixed.{Fixed}
 use Rattle.store_core.specs.declared.history.Call.{Call}
 use Rattle.store_core.specs.declared.history.Call.TheVariants.{Give, Commit, Settle}
 use Rattle.store_core.specs.declared.history.Event.{Event}
 use Rattle.store_core.specs.declared.slot.Slot.{Slot}
 use Rattle.store_core.specs.declared.slot.Slot.TheVariants.{Free}
-use Rattle.store_core.specs.Events.{IsRightReply, after_call, has_room}
-use Rattle.store_core.specs.Machine.{groups}
+use Rattle.store_core.specs.Events.{IsRightReply, after_call}
+use Rattle.holders.specs.Room.{has_room}
+use Rattle.holders.specs.Room.{groups}
 use Rattle.store_core.specs.Masks.{IsMaskOf, has_bit, in_mask}
 use Rattle.store_core.specs.Names.{Name}
 use Rattle.store_core.specs.Reached.{IsReached}

@@ -3,16 +3,16 @@ use Rattle.std.proofs.lemmas.Bool.Decides.{nat_tests}
 use Rattle.std.proofs.Common.{arith, ◌≡◌, ℕ, ◌+◌, ◌/◌, ◌%◌, nat_lt, ◌==◌, Bool, true, false, not, ◌&&◌, ◌||◌, if◌then◌else◌, List, [], ◌∷◌, slice_get, Option, None, Some, is_some, option_map, refl, sym, ap, ◌∙◌, inl, inr, eqb-true}
 use Rattle.std.proofs.lemmas.Bool.{and_parts, cases_Bool}
 use Rattle.bao_check.specs.declared.checked.Checked.{Checked}
-use Rattle.store_core.specs.declared.fixed.Fixed.{Fixed}
+use Rattle.holders.specs.declared.fixed.Fixed.{Fixed}
 use Rattle.store_core.specs.declared.history.Call.TheVariants.{Take, Give, Commit}
-use Rattle.store_core.specs.declared.history.Piece.{Piece}
+use Rattle.holders.specs.declared.piece.Piece.{Piece}
 use Rattle.store_core.specs.declared.micro.MicroStep.TheVariants.{Claim, Hash, Write, Publish, GiveBack}
 use Rattle.store_core.specs.declared.micro.Reply.TheVariants.{Granted, Committed, Given}
 use Rattle.store_core.specs.Cells.{cell_bytes, cell_word}
 use Rattle.store_core.specs.Events.{IsRightReply}
 use Rattle.store_core.specs.Machine.{Machine, MachineSeat, bytes_or_none, current_bytes, current_holds, is_shown, seat_has, store_of, with_seat}
 use Rattle.store_core.specs.Masks.{IsMaskOf, has_bit, in_mask}
-use Rattle.store_core.specs.Pieces.{IsAcceptedPiece, chunk_bytes, holds_chunk, piece_of, places_in}
+use Rattle.holders.specs.Pieces.{IsAcceptedPiece, chunk_bytes, holds_chunk, piece_of, places_in}
 use Rattle.store_core.specs.Schedules.{HasPiece, IsWritten, TakesBytes, after_step, event_by}
 use Rattle.store_core.specs.Slots.{caller}
 use Rattle.store_core.specs.MachineInvariant.{IsSoundMachine}

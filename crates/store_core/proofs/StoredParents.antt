@@ -12,16 +12,16 @@ use Rattle.bao_check.proofs.Parenting.{parent_in-some}
 use Rattle.bao_check.specs.declared.checked.Checked.{Checked}
 use Rattle.store_core.specs.declared.fault.StoreFault.{StoreFault}
 use Rattle.store_core.specs.declared.fault.StoreFault.TheVariants.{Memory}
-use Rattle.store_core.specs.declared.fixed.Fixed.{Fixed}
+use Rattle.holders.specs.declared.fixed.Fixed.{Fixed}
 use Rattle.store_core.specs.declared.history.Call.TheVariants.{Parents}
-use Rattle.store_core.specs.declared.history.Piece.{Piece}
+use Rattle.holders.specs.declared.piece.Piece.{Piece}
 use Rattle.store_core.specs.declared.history.Storing.TheVariants.{Stored}
 use Rattle.store_core.specs.declared.slot.Slot.{Slot}
 use Rattle.store_core.specs.declared.store.Store.{Store}
-use Rattle.store_core.specs.Machine.{groups}
+use Rattle.holders.specs.Room.{groups}
 use Rattle.store_core.specs.Masks.{IsMaskOf, has_bit}
 use Rattle.store_core.specs.Names.{Name}
-use Rattle.store_core.specs.Pieces.{IsAcceptedPiece, holds_parent, length_of, piece_of}
+use Rattle.holders.specs.Pieces.{IsAcceptedPiece, holds_parent, length_of, piece_of}
 use Rattle.store_core.specs.Slots.{parent_among, state_in, with_parents}
 use Rattle.store_core.specs.States.{State}
 use Rattle.store_core.specs.Stores.{IsSame, IsUnstored, StoresParent, fixed_of, state_of}

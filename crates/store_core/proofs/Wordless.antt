@@ -3,9 +3,9 @@ use Rattle.std.proofs.lemmas.Bool.Decides.{nat_tests}
 use Rattle.std.proofs.Common.{arith, ◌≡◌, ℕ, ◌*◌, ◌/◌, ◌≤◌, nat_le, ◌==◌, Bool, ◌||◌, if◌then◌else◌, List, [], Option, None, Some, IfSome, option_map, sym, ap, ◌∙◌}
 use Rattle.bao_check.specs.declared.checked.Checked.{Checked}
 use Rattle.bao_check.specs.Checked.{HoldsLast}
-use Rattle.store_core.specs.declared.fixed.Fixed.{Fixed}
+use Rattle.holders.specs.declared.fixed.Fixed.{Fixed}
 use Rattle.store_core.specs.declared.history.Call.TheVariants.{Settle as SettleCall, Length as LengthCall}
-use Rattle.store_core.specs.declared.history.Piece.{Piece}
+use Rattle.holders.specs.declared.piece.Piece.{Piece}
 use Rattle.store_core.specs.declared.history.Settling.{Settling as Answer}
 use Rattle.store_core.specs.declared.history.Settling.TheVariants.{OtherRoot, TooLarge}
 use Rattle.store_core.specs.declared.micro.MicroStep.TheVariants.{Load, Settle, Length}
@@ -17,7 +17,7 @@ use Rattle.store_core.specs.declared.store.Store.{Store}
 use Rattle.store_core.specs.Events.{recorded_after, settling}
 use Rattle.store_core.specs.Machine.{Machine, ReadUnderWay, is_whole, position, read_of, store_of}
 use Rattle.store_core.specs.Names.{Name}
-use Rattle.store_core.specs.Pieces.{length_of, piece_of}
+use Rattle.holders.specs.Pieces.{length_of, piece_of}
 use Rattle.store_core.specs.Schedules.{IsLegalStep, current_length, end_reply, is_last_load, length_answer, read_after, read_before, settle_answer}
 use Rattle.store_core.specs.MachineInvariant.{IsSoundMachine}
 use Rattle.store_core.specs.ScheduleRuns.{IsPlayer, IsTakenPlayer, Stands, StandsFor, carried_on, player_in, reading_of}

@@ -1,27 +1,24 @@
 -- The events of a store: which reply to a call is right, and the state after it.
-use Rattle.std.specs.Prelude.{◌≡◌, ℕ, ◌*◌, ◌%◌, nat_le, nat_lt, ◌==◌, ◌≢◌, Bool, true, not, ◌&&◌, ◌||◌, if◌then◌else◌, List, Option, None, Some}
-use Rattle.store_core.specs.declared.fixed.Fixed.{Fixed}
+use Rattle.std.specs.Prelude.{◌≡◌, ℕ, ◌%◌, nat_lt, ◌==◌, ◌≢◌, Bool, true, not, ◌&&◌, ◌||◌, if◌then◌else◌, List, Option, None, Some}
+use Rattle.holders.specs.declared.fixed.Fixed.{Fixed}
 use Rattle.store_core.specs.declared.history.Call.{Call}
 use Rattle.store_core.specs.declared.history.Call.TheVariants.{Take, Give, Commit, Settle, Read, Length, Parents, Serve}
 use Rattle.store_core.specs.declared.history.Event.{Event}
-use Rattle.store_core.specs.declared.history.Piece.{Piece}
+use Rattle.holders.specs.declared.piece.Piece.{Piece}
 use Rattle.store_core.specs.declared.history.Settling.{Settling}
 use Rattle.store_core.specs.declared.history.Settling.TheVariants.{Settled, Known, Differs, OtherRoot, TooLarge}
 use Rattle.store_core.specs.declared.history.Storing.{Storing}
 use Rattle.store_core.specs.declared.history.Storing.TheVariants.{OtherLength, Stored}
 use Rattle.store_core.specs.Masks.{IsMaskOf, has_bit, in_mask}
 use Rattle.store_core.specs.Names.{Name, least_name}
-use Rattle.store_core.specs.Pieces.{EndsBlob, IsAcceptedPiece, chunk_bytes, holds_chunk, holds_parent, length_of, parent_bytes}
+use Rattle.holders.specs.Pieces.{EndsBlob, IsAcceptedPiece, chunk_bytes, holds_chunk, holds_parent, length_of, parent_bytes}
 use Rattle.store_core.specs.Serves.{serving}
 use Rattle.store_core.specs.States.{State, claims, is_claimed, is_held, read_bytes}
+use Rattle.holders.specs.Room.{has_room}
 
 -- whether a chunk may be granted: it is below the capacity, and neither held nor claimed
 abbrev pub is_free : Fixed → State → ℕ → Bool
 is_free fixed s c = nat_lt c fixed.capacity && not (is_held s c || is_claimed s c)
-
--- whether a blob of this length fits, from its first chunk on
-abbrev pub has_room : Fixed → ℕ → Bool
-has_room fixed l = (fixed.base == 0) && nat_le l (1024 * fixed.capacity)
 
 -- the result of settling a length
 abbrev pub settling : Option ℕ → ℕ → Settling
@@ -30,7 +27,8 @@ settling (Some m) l = if m == l then Known else Differs
 
 -- The result of storing an accepted slice's parents in a group: the recorded length isn't the one that the
 -- slice claims; or the mask is of boundaries whose parents the slice has and the store doesn't hold, though not
--- necessarily of all of them.
+-- necessarily of all of them. A tree of another length has other parents at the same boundaries, and a root
+-- certifies contents, not lengths.
 abbrev pub IsStoring : State → ℕ → Piece → Storing → Type 0
 IsStoring s group piece OtherLength = s.recorded ≢ Some (length_of piece)
 IsStoring s group piece (Stored mask) = (s.recorded ≡ Some (length_of piece))

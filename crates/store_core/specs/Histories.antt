@@ -1,6 +1,6 @@
 -- Histories: lists of events, each legal in the state after those before it.
 use Rattle.std.specs.Prelude.{◌≡◌, Bool, List, [], ◌∷◌, filter}
-use Rattle.store_core.specs.declared.fixed.Fixed.{Fixed}
+use Rattle.holders.specs.declared.fixed.Fixed.{Fixed}
 use Rattle.store_core.specs.declared.history.Event.{Event}
 use Rattle.store_core.specs.Names.{Name, share_name}
 use Rattle.store_core.specs.States.{State, empty}

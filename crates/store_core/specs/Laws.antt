@@ -1,11 +1,10 @@
 -- Lemmas about histories.
 use Rattle.std.specs.Prelude.{◌≡◌, ◌≢◌, ◌⊎◌, ℕ, ◌+◌, ◌*◌, ◌/◌, ◌%◌, ◌<◌, ◌≤◌, Bool, true, false, if◌then◌else◌, List, [], ◌++◌, length, Contains, count_by, count_ones, None, Some, slice_get, slice_index, ◌||◌}
 use Rattle.std.specs.List.{sum_by}
-use Rattle.b3tree.specs.Hashing.{hash}
 use Rattle.b3tree.specs.Tree.{parent_input}
-use Rattle.b3tree.specs.Valid.{AreBytes, IsKeyed}
+use Rattle.b3tree.specs.Valid.{IsKeyed}
 use Rattle.bao_check.specs.Accepted.{IsAccepted, part_value, slice_nodes}
-use Rattle.bao_check.specs.Inputs.{Names, NamesCollision, marked, text_inputs}
+use Rattle.bao_check.specs.Inputs.{Names, marked, text_inputs}
 use Rattle.bao_text.specs.declared.walk.Node.{Node}
 use Rattle.bao_text.specs.declared.walk.Node.TheVariants.{Chunk, Parent}
 use Rattle.bao_text.specs.NodeNames.{slice_names}
@@ -13,19 +12,20 @@ use Rattle.bao_text.specs.Nodes.{left, right}
 use Rattle.bao_text.specs.Texts.{slice_text}
 use Rattle.bao_check.specs.Parents.{parent_of}
 use Rattle.bao_check.specs.Pieces.{chunk_of}
-use Rattle.store_core.specs.declared.fixed.Fixed.{Fixed}
+use Rattle.holders.specs.declared.fixed.Fixed.{Fixed}
 use Rattle.store_core.specs.declared.history.Call.{Call}
 use Rattle.store_core.specs.declared.history.Call.TheVariants.{Take, Give, Commit, Settle, Read, Length, Parents, Serve}
 use Rattle.store_core.specs.declared.history.Event.{Event}
-use Rattle.store_core.specs.declared.history.Piece.{Piece}
+use Rattle.holders.specs.declared.piece.Piece.{Piece}
 use Rattle.store_core.specs.declared.history.Settling.TheVariants.{Settled}
 use Rattle.store_core.specs.declared.history.Serving.TheVariants.{NoLength, Text}
 use Rattle.store_core.specs.declared.history.Storing.TheVariants.{OtherLength, Stored}
-use Rattle.store_core.specs.Events.{IsRightReply, has_room}
+use Rattle.store_core.specs.Events.{IsRightReply}
+use Rattle.holders.specs.Room.{has_room}
 use Rattle.store_core.specs.Histories.{AreOfOthers, IsLegal, events_of, state_after}
 use Rattle.store_core.specs.Masks.{in_mask}
 use Rattle.store_core.specs.Names.{Name, has_name, share_name}
-use Rattle.store_core.specs.Pieces.{EndsBlob, IsAcceptedPiece, chunk_bytes, length_of, parent_bytes, places_in}
+use Rattle.holders.specs.Pieces.{EndsBlob, IsAcceptedPiece, chunk_bytes, length_of, parent_bytes, places_in}
 use Rattle.store_core.specs.Serves.{serving}
 use Rattle.bao_check.specs.declared.checked.Checked.{Checked}
 use Rattle.store_core.specs.declared.micro.MicroStep.{MicroStep}
@@ -35,6 +35,7 @@ use Rattle.store_core.specs.Schedules.{AreTexts, Runs}
 use Rattle.store_core.specs.declared.view.SeatView.{SeatView}
 use Rattle.store_core.specs.Views.{IsJoined, mine, names_of, seat_claims, split_first}
 use Rattle.store_core.specs.States.{State, byte_at, claims, held_count, is_claimed, is_held, read_bytes}
+use Rattle.holders.specs.Blobs.{IsBlob, CollidesWith}
 
 -- a call without its reply
 abbrev pub question : Call → Call
@@ -172,15 +173,6 @@ pub record IsStored (fixed : Fixed) (history : List Event) (m : ℕ) (bytes : Li
 abbrev pub ParentIsStored : Type 0
 ParentIsStored = (fixed : Fixed) (history : List Event) (m : ℕ) (bytes : List ℕ) → IsLegal fixed history
     → (state_after history).parents m ≡ Some bytes → IsStored fixed history m bytes
-
--- the hash of the bytes is the store's root
-pub record IsBlob (fixed : Fixed) (blob : List ℕ) : Type 0 where
-  pub bytes : AreBytes blob
-  pub root : hash fixed.mode blob ≡ fixed.root.0
-
--- the blob and the accepted slice have a collision: one input from each
-abbrev pub CollidesWith : Fixed → List ℕ → Piece → Type 0
-CollidesWith fixed blob piece = NamesCollision fixed.mode blob piece.text (places_in piece)
 
 -- For every blob with the root, each held chunk is the blob's chunk of that index, each held byte is the blob's
 -- byte at that offset (both counted from the store's first chunk), and a recorded length is the blob's; or a

@@ -1,6 +1,5 @@
 pub mod Masks
 pub mod Names
-pub mod Pieces
 pub mod States
 pub mod Events
 pub mod Histories

@@ -1,10 +1,10 @@
 -- The machine that schedules run on: words in place of chunks, and calls in steps.
 use Rattle.std.specs.Prelude.{ℕ, ◌+◌, ◌-◌, ◌*◌, ◌/◌, ◌%◌, zero, suc, nat_le, nat_lt, ◌==◌, Bool, false, ◌&&◌, ◌||◌, if◌then◌else◌, List, [], ◌∷◌, ◌++◌, length, Option, None, Some, is_none, option_map}
-use Rattle.store_core.specs.declared.fixed.Fixed.{Fixed}
-use Rattle.store_core.specs.declared.history.Piece.{Piece}
+use Rattle.holders.specs.declared.fixed.Fixed.{Fixed}
+use Rattle.holders.specs.declared.piece.Piece.{Piece}
 use Rattle.store_core.specs.Cells.{cell_byte, cell_bytes}
 use Rattle.store_core.specs.Masks.{has_bit}
-use Rattle.store_core.specs.Pieces.{chunk_bytes, holds_chunk}
+use Rattle.holders.specs.Pieces.{chunk_bytes, holds_chunk}
 use Rattle.store_core.specs.States.{State, byte_and}
 
 -- a read in progress: its first offset, its length, and the bytes copied so far
@@ -48,10 +48,6 @@ store_of m = record {
   recorded = m.recorded;
   parents = λ p. None;
 }
-
--- how many groups there are
-abbrev pub groups : Fixed → ℕ
-groups fixed = (fixed.capacity + 63) / 64
 
 -- the machine with the seat of this number replaced
 abbrev pub with_seat : Machine → ℕ → MachineSeat → Machine

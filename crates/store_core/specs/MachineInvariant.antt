@@ -1,11 +1,11 @@
 -- The invariant of the schedules' machine.
 use Rattle.std.specs.Prelude.{◌≡◌, ℕ, ◌+◌, ◌<◌, ◌≤◌, true, false, length, slice_index, Some}
-use Rattle.store_core.specs.declared.fixed.Fixed.{Fixed}
-use Rattle.store_core.specs.declared.history.Piece.{Piece}
+use Rattle.holders.specs.declared.fixed.Fixed.{Fixed}
+use Rattle.holders.specs.declared.piece.Piece.{Piece}
 use Rattle.store_core.specs.Cells.{cell_word}
 use Rattle.store_core.specs.Laws.{IsSound}
 use Rattle.store_core.specs.Machine.{Machine, ReadUnderWay, current_bytes, is_shown, seat_has, store_of}
-use Rattle.store_core.specs.Pieces.{IsAcceptedPiece}
+use Rattle.holders.specs.Pieces.{IsAcceptedPiece}
 use Rattle.store_core.specs.States.{State, byte_at}
 
 -- the bytes copied for a read are those at its offsets

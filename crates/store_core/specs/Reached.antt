@@ -1,6 +1,6 @@
 -- States that a history of a store reaches.
 use Rattle.std.specs.Prelude.{◌≡◌, List}
-use Rattle.store_core.specs.declared.fixed.Fixed.{Fixed}
+use Rattle.holders.specs.declared.fixed.Fixed.{Fixed}
 use Rattle.store_core.specs.declared.history.Event.{Event}
 use Rattle.store_core.specs.Histories.{IsLegal, state_after}
 use Rattle.store_core.specs.States.{State}

@@ -2,7 +2,7 @@
 -- step does.
 use Rattle.std.specs.Prelude.{◌≡◌, ℕ, ◌+◌, ◌-◌, ◌*◌, ◌/◌, ◌%◌, ◌<◌, min, nat_lt, ◌==◌, Bool, false, true, ◌&&◌, if◌then◌else◌, List, [], ◌∷◌, ◌++◌, length, Option, None, Some, option_map, option_to_list, slice_index_or}
 use Rattle.bao_check.specs.declared.checked.Checked.{Checked}
-use Rattle.store_core.specs.declared.fixed.Fixed.{Fixed}
+use Rattle.holders.specs.declared.fixed.Fixed.{Fixed}
 use Rattle.store_core.specs.declared.history.Event.{Event}
 use Rattle.store_core.specs.declared.micro.MicroStep.{MicroStep}
 use Rattle.store_core.specs.declared.micro.Reply.{Reply}
@@ -12,7 +12,7 @@ use Rattle.store_core.specs.declared.schedule.ScheduleRun.{ScheduleRun}
 use Rattle.store_core.specs.declared.store.Store.{Store}
 use Rattle.store_core.specs.Histories.{IsLegal, state_after}
 use Rattle.store_core.specs.Machine.{Machine, MachineSeat, ReadUnderWay, is_shown, position, seat_has, start, store_of}
-use Rattle.store_core.specs.Pieces.{holds_chunk, piece_of}
+use Rattle.holders.specs.Pieces.{holds_chunk, piece_of}
 use Rattle.store_core.specs.Schedules.{IsLegalStep, IsReply, Runs, after_step, step_events}
 use Rattle.store_core.specs.MachineInvariant.{IsSoundMachine}
 use Rattle.store_core.specs.Slots.{caller}

@@ -3,11 +3,11 @@ use Rattle.std.specs.Prelude.{◌≡◌, ℕ, ◌/◌, ◌%◌, ◌<◌, ◌≤�
 use Rattle.b3tree.specs.Valid.{AreBytes}
 use Rattle.bao_check.specs.declared.checked.Checked.{Checked}
 use Rattle.bao_check.specs.Checked.{piece_text}
-use Rattle.store_core.specs.declared.fixed.Fixed.{Fixed}
+use Rattle.holders.specs.declared.fixed.Fixed.{Fixed}
 use Rattle.store_core.specs.declared.history.Call.{Call}
 use Rattle.store_core.specs.declared.history.Call.TheVariants.{Take, Give, Commit, Read, Settle as SettleCall, Length as LengthCall}
 use Rattle.store_core.specs.declared.history.Event.{Event}
-use Rattle.store_core.specs.declared.history.Piece.{Piece}
+use Rattle.holders.specs.declared.piece.Piece.{Piece}
 use Rattle.store_core.specs.declared.history.Settling.{Settling as Answer}
 use Rattle.store_core.specs.declared.history.Settling.TheVariants.{TooLarge}
 use Rattle.store_core.specs.declared.micro.MicroStep.{MicroStep}
@@ -15,10 +15,12 @@ use Rattle.store_core.specs.declared.micro.MicroStep.TheVariants.{Claim, Hash, W
 use Rattle.store_core.specs.declared.micro.Reply.{Reply}
 use Rattle.store_core.specs.declared.micro.Reply.TheVariants.{Granted, Committed, Given, Bytes, NotHeld, Settling, LengthIs}
 use Rattle.store_core.specs.Cells.{cell_word}
-use Rattle.store_core.specs.Events.{has_room, recorded_after, settling}
-use Rattle.store_core.specs.Machine.{Machine, ReadUnderWay, current_bytes, current_holds, groups, is_over, is_shown, is_whole, loaded, loaded_group, position, read_of, seat_has, with_seat}
+use Rattle.store_core.specs.Events.{recorded_after, settling}
+use Rattle.holders.specs.Room.{has_room}
+use Rattle.store_core.specs.Machine.{Machine, ReadUnderWay, current_bytes, current_holds, is_over, is_shown, is_whole, loaded, loaded_group, position, read_of, seat_has, with_seat}
+use Rattle.holders.specs.Room.{groups}
 use Rattle.store_core.specs.Masks.{IsMaskOf, has_bit, in_mask}
-use Rattle.store_core.specs.Pieces.{EndsBlob, length_of, piece_of}
+use Rattle.holders.specs.Pieces.{EndsBlob, length_of, piece_of}
 
 -- the list has a slice with this index, of the store's root and mode
 pub record HasPiece (fixed : Fixed) (pieces : List Checked) (i : ℕ) : Type 0 where

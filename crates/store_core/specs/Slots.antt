@@ -7,7 +7,7 @@ use Rattle.store_core.specs.declared.slot.Slot.{Slot}
 use Rattle.store_core.specs.declared.slot.Slot.TheVariants.{Free, Claimed, Held}
 use Rattle.store_core.specs.Masks.{has_bit}
 use Rattle.store_core.specs.Names.{Name}
-use Rattle.store_core.specs.Pieces.{chunk_bytes, holds_chunk, piece_of}
+use Rattle.holders.specs.Pieces.{chunk_bytes, holds_chunk, piece_of}
 use Rattle.store_core.specs.States.{State}
 
 -- the names of the caller with a seat's number

@@ -1,6 +1,6 @@
 -- What a store represents, and what a call does to it.
 use Rattle.std.specs.Prelude.{◌≡◌, ℕ, ◌*◌, ◌/◌, ◌<◌, List, ◌+◌, ◌++◌, length, drop, Option, None, Some, Result, Ok, Err, ◌⊎◌, ◌-◌, slice_get, slice_index, Bool, true, false}
-use Rattle.store_core.specs.declared.fixed.Fixed.{Fixed}
+use Rattle.holders.specs.declared.fixed.Fixed.{Fixed}
 use Rattle.store_core.specs.declared.history.Call.{Call}
 use Rattle.store_core.specs.declared.history.Event.{Event}
 use Rattle.store_core.specs.declared.history.Call.TheVariants.{Parents, Read, Serve, Settle}
@@ -14,19 +14,21 @@ use Rattle.store_core.specs.declared.history.Storing.{Storing}
 use Rattle.store_core.specs.declared.history.Storing.TheVariants as storing
 use Rattle.store_core.specs.declared.history.Settling.{Settling}
 use Rattle.store_core.specs.declared.history.Settling.TheVariants.{Settled, Known, Differs, OtherRoot, TooLarge}
-use Rattle.store_core.specs.Pieces.{chunk_bytes, holds_parent, length_of, piece_of}
+use Rattle.holders.specs.Pieces.{chunk_bytes, holds_parent, length_of, piece_of}
 use Rattle.bao_check.specs.declared.checked.Checked.{Checked}
 use Rattle.store_core.specs.declared.fault.Missing.{Missing}
 use Rattle.store_core.specs.declared.store.Store.{Store}
-use Rattle.store_core.specs.Events.{IsRightReply, after_call, has_room}
-use Rattle.store_core.specs.Laws.{IsBlob, IsCommitted, IsServed, IsSettled, CollisionOf, CollidesWith, PiecesClash}
+use Rattle.store_core.specs.Events.{IsRightReply, after_call}
+use Rattle.holders.specs.Room.{has_room}
+use Rattle.store_core.specs.Laws.{IsCommitted, IsServed, IsSettled, CollisionOf, PiecesClash}
+use Rattle.holders.specs.Blobs.{IsBlob, CollidesWith}
 use Rattle.bao_text.specs.declared.walk.Node.TheVariants.{Parent}
 use Rattle.bao_text.specs.Texts.{slice_text}
 use Rattle.store_core.specs.Reached.{IsReached}
 use Rattle.bao_check.specs.Accepted.{IsAccepted, slice_nodes}
 use Rattle.bao_check.specs.Parents.{parent_of}
 use Rattle.bao_check.specs.Pieces.{chunk_of}
-use Rattle.store_core.specs.declared.history.Piece.{Piece}
+use Rattle.holders.specs.declared.piece.Piece.{Piece}
 use Rattle.store_core.specs.Masks.{in_mask}
 use Rattle.store_core.specs.Names.{Name}
 use Rattle.store_core.specs.Slots.{state_in, with_parents}

@@ -1,17 +1,8 @@
 use bao_text::Node;
+use holders::Piece;
 use std::collections::LinkedList;
 
 // The types of histories. Contracts and views speak of their values; no program makes one.
-
-/// An encoding and the slice (`start`, `len`) as which it is accepted under a store's root in its mode, with
-/// the index in the blob of the store's chunk 0.
-#[derive(Drop)]
-pub struct Piece {
-    pub base: u64,
-    pub start: u64,
-    pub len: u64,
-    pub text: LinkedList<u8>,
-}
 
 /// The result of settling the length. Only the first three are results of an event.
 #[derive(Clone, Copy, Debug, PartialEq, Eq)]

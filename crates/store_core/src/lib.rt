@@ -4,8 +4,8 @@
 pub use bao_check::GROUP_BYTES;
 pub use bytes::put_bytes;
 pub use fault::{BadCapacity, Missing, ReplayFault, ServeFault, StepFault, StoreFault};
-pub use fixed::Fixed;
-pub use history::{Call, Event, Piece, Serving, Settling, Storing};
+pub use history::{Call, Event, Serving, Settling, Storing};
+pub use holders::{Fixed, Piece};
 pub use law::{
     claims_apart, held_binds, held_is_committed, held_lasts, join_keeps, names_stay_in_order,
     parents_last, read_means, runs_are_legal, served_binds, state_determines,
@@ -18,7 +18,6 @@ pub use view::{Boundaries, Named, SeatView, StoredWord};
 
 mod bytes;
 mod fault;
-mod fixed;
 mod history;
 mod law;
 mod masks;

@@ -1,7 +1,7 @@
 ghost use Rattle.std.specs.Prelude.{◌≡◌, ℕ, ◌<◌, ◌≤◌, length, is_some, not, ◌&&◌, if◌then◌else◌, true, OnOk};
 ghost use Rattle.std.specs.Option.{option_copied};
 ghost use Rattle.store_core.specs.Masks.{IsMaskOf, in_mask};
-ghost use Rattle.store_core.specs.Pieces.{holds_parent, parent_bytes, piece_of};
+ghost use Rattle.holders.specs.Pieces.{holds_parent, parent_bytes, piece_of};
 ghost use Rattle.store_core.specs.Slots.{parent_among};
 
 use crate::masks::{GROUP_LEN, has_bit, with_bit};

@@ -2,7 +2,7 @@ ghost use Rattle.std.specs.Prelude.{◌≡◌, ◌≢◌, ◌⊎◌, ◌↔◌, 
 ghost use Rattle.bao_check.specs.declared.checked.Checked.{Checked};
 ghost use Rattle.store_core.specs.declared.fault.ReplayFault.TheVariants.{Capacity, Illegal, Memory};
 ghost use Rattle.store_core.specs.Machine.{current_holds};
-ghost use Rattle.store_core.specs.Pieces.{piece_of};
+ghost use Rattle.holders.specs.Pieces.{piece_of};
 ghost use Rattle.store_core.specs.Replays.{BeginsLegally, IsIllegalAt, IsReplayed, ReplayBinds};
 ghost use Rattle.store_core.specs.Stores.{fixed_of};
 ghost use Rattle.store_core.specs.ScheduleRuns.{IsAllMarked, IsTakenPlayer, player_in};
@@ -92,7 +92,7 @@ fn does_hold(store: &Store, player: &Player<'_>, chunk: u32) -> bool
 impl<'a> ScheduleRun<'a> {
     ghost use Rattle.store_core.specs.declared.micro.MicroStep.{MicroStep};
     ghost use Rattle.store_core.specs.declared.fault.StepFault.{StepFault};
-    ghost use Rattle.store_core.specs.declared.fixed.Fixed.{Fixed};
+    ghost use Rattle.holders.specs.declared.fixed.Fixed.{Fixed};
     ghost use Rattle.store_core.specs.Replays.{LeavesStore};
     ghost use Rattle.store_core.specs.ScheduleRuns.{DoesRefuse, DoesStep, IsFresh, IsLegalFor};
 

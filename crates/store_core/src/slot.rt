@@ -1,6 +1,6 @@
 ghost use Rattle.std.specs.Prelude.{◌≡◌, ℕ, ◌+◌, ◌^◌, ◌<◌, ◌≤◌, ◌%◌, max, is_some, IfOk, OnOk, length, true, nat_lt, ◌&&◌, if◌then◌else◌};
 ghost use Rattle.store_core.specs.Masks.{IsMaskOf, has_bit, in_mask};
-ghost use Rattle.store_core.specs.Pieces.{holds_chunk, piece_of};
+ghost use Rattle.holders.specs.Pieces.{holds_chunk, piece_of};
 ghost use Rattle.std.specs.Option.{option_copied};
 ghost use Rattle.store_core.specs.Slots.{AreCopies, IsSlotCopy, claimed_slot, held_in, is_of, picks, slot_at};
 

@@ -4,7 +4,6 @@ ghost use Rattle.store_core.specs.Reached.{IsReached};
 
 use crate::bytes::{bytes_from, put_bytes};
 use crate::fault::{BadCapacity, Missing, ServeFault, StoreFault};
-use crate::fixed::Fixed;
 use crate::history::Settling;
 use crate::masks::GROUP_LEN;
 use crate::parents::{held_parent, make_room, put_parents, wanted};
@@ -14,6 +13,7 @@ use crate::slot::{
 use b3tree::{CHUNK_LEN, Hash, Mode};
 use bao_check::{Checked, Tail};
 use bao_text::{Node, nodes};
+use holders::Fixed;
 use std::alloc::{AllocError, Global};
 
 /// The greatest capacity of a store, in chunks.
@@ -38,6 +38,7 @@ pub struct Store {
     ghost limit: { fixed.capacity ≤ 65536 },
     ghost low: { fixed.base ≤ 2 ^ 54 },
     ghost within: { length slots.items ≤ fixed.capacity },
+    // Some legal history leads to the state. Which one isn't kept, since a ghost field has one value at most: clauses speak of every one.
     ghost reached: { ∥ IsReached fixed (with_parents (state_in slots.items recorded) parents.items) ∥₁ },
 }
 
@@ -47,11 +48,11 @@ impl Store {
     ghost use Rattle.store_core.specs.declared.fault.ServeFault.TheVariants.{NoLength};
     ghost use Rattle.store_core.specs.declared.history.Settling.TheVariants.{OtherRoot as RootIsOther};
     ghost use Rattle.store_core.specs.declared.history.Storing.TheVariants.{Stored};
-    ghost use Rattle.store_core.specs.Machine.{groups};
+    ghost use Rattle.holders.specs.Room.{groups};
     ghost use Rattle.store_core.specs.Masks.{IsMaskOf};
     ghost use Rattle.bao_check.specs.Tail.{tail_piece};
     ghost use Rattle.store_core.specs.Names.{Name};
-    ghost use Rattle.store_core.specs.Pieces.{holds_parent, length_of, piece_of};
+    ghost use Rattle.holders.specs.Pieces.{holds_parent, length_of, piece_of};
     ghost use Rattle.store_core.specs.declared.history.Serving.TheVariants.{Text};
     ghost use Rattle.store_core.specs.Serves.{node_held};
     ghost use Rattle.store_core.specs.States.{claims, empty, held_count};

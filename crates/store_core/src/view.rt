@@ -1,5 +1,5 @@
-use crate::fixed::Fixed;
 use crate::history::Event;
+use holders::Fixed;
 use std::collections::LinkedList;
 
 /// A name of a seat, and how many seats were split off from it.

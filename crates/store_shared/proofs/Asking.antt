@@ -2,7 +2,7 @@
 use Rattle.std.proofs.lemmas.Bool.Decides.{nat_tests}
 use Rattle.std.proofs.Common.{arith, ◌≡◌, ℕ, ◌++◌, Option, sym, ap, ◌∙◌}
 use Rattle.bao_check.specs.declared.checked.Checked.{Checked}
-use Rattle.store_core.specs.declared.fixed.Fixed.{Fixed}
+use Rattle.holders.specs.declared.fixed.Fixed.{Fixed}
 use Rattle.store_core.specs.declared.history.Call.{Call}
 use Rattle.store_core.specs.declared.history.Call.TheVariants.{Length, Settle}
 use Rattle.store_core.specs.declared.history.Settling.{Settling}
@@ -10,12 +10,12 @@ use Rattle.store_core.specs.declared.history.Settling.TheVariants.{Settled, Know
 use Rattle.store_core.specs.declared.view.SeatView.{SeatView}
 use Rattle.store_core.specs.Events.{settling}
 use Rattle.store_core.specs.Histories.{state_after}
-use Rattle.store_core.specs.Pieces.{length_of, piece_of}
+use Rattle.holders.specs.Pieces.{length_of, piece_of}
 use Rattle.store_core.specs.States.{State}
 use Rattle.store_shared.specs.Seats.{Gripped}
 use Rattle.store_core.specs.Knowledge.{Called, Did}
 use Rattle.store_shared.specs.Calls.{MaySettle, SeatSettles}
-pub use Rattle.store_calls.proofs.Slices.{after_there, right_there, same_there}
+pub use Rattle.store_shared.proofs.Slices.{after_there, right_there, same_there}
 
 pub called : (call : Call) (old new : SeatView) → Did call old new → Called call old new
 called call old new did = record { between = did.between; goes_on = did.goes_on; claims_are = did.claims_are; storing_is = did.storing_is }

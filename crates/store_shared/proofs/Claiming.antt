@@ -4,12 +4,12 @@ use Rattle.std.proofs.lemmas.Bool.{both_ways, cases_eq, false_from_ne_true, and_
 use Rattle.std.proofs.lemmas.List.{get_or-replicate, length-replicate, length-set}
 use Rattle.std.specs.Int.{w64, bit_not}
 use Rattle.std.specs.Int.Bits.{bit_and, bit_or}
-use Rattle.store_core.specs.declared.fixed.Fixed.{Fixed}
+use Rattle.holders.specs.declared.fixed.Fixed.{Fixed}
 use Rattle.store_core.specs.declared.history.Call.TheVariants.{Take}
-use Rattle.store_core.specs.declared.history.Piece.{Piece}
+use Rattle.holders.specs.declared.piece.Piece.{Piece}
 use Rattle.store_core.specs.declared.view.Boundaries.{Boundaries}
 use Rattle.store_core.specs.declared.view.SeatView.{SeatView}
-use Rattle.store_core.specs.Machine.{groups}
+use Rattle.holders.specs.Room.{groups}
 use Rattle.store_core.specs.Masks.{IsMaskOf, has_bit, in_mask}
 use Rattle.store_core.specs.Histories.{state_after, IsLegal}
 use Rattle.store_core.specs.Names.{Name}
@@ -18,7 +18,7 @@ use Rattle.store_core.specs.Stores.{ChunksBind}
 use Rattle.store_core.specs.Views.{names_of, seat_claims, split_first, Continues}
 use Rattle.store_core.proofs.Joining.{claims_continued, join_keeps, split_keeps}
 use Rattle.store_core.proofs.Tells.{claims_apart}
-use Rattle.store_calls.specs.Grips.{AreClaimed}
+use Rattle.store_shared.specs.Grips.{AreClaimed}
 use Rattle.store_core.specs.Knowledge.{AreMet, ArePartsOf, Did, IsMerged, KeepsClaims, NoneIsClaimedByBoth, opening_view}
 use Rattle.store_core.proofs.Bits.{and_small, has_bit-and, has_bit-not, has_bit-or, has_bit-zero}
 use Rattle.std.proofs.lemmas.List.{get_or-set_other, get_or-set_same}

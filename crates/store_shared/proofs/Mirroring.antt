@@ -2,11 +2,11 @@
 use Rattle.std.proofs.lemmas.Bool.Decides.{nat_tests}
 use Rattle.std.proofs.Common.{◌≡◌, ℕ, ◌+◌, ◌-◌, ◌/◌, ◌%◌, ◌^◌, eqb-true, arith, zero, suc, nat_lt, ◌==◌, Bool, true, false, not, ◌&&◌, ◌||◌, if◌then◌else◌, List, [], ◌∷◌, map, Option, None, Some, is_some, option_map, refl, sym, ap, subst, ◌∙◌, inl, inr}
 use Rattle.std.proofs.lemmas.Bool.{and_from, and_parts, both_ways, cases_Bool, false_from_ne_true, false≢true, lt-ltb}
-use Rattle.store_core.specs.declared.fixed.Fixed.{Fixed}
+use Rattle.holders.specs.declared.fixed.Fixed.{Fixed}
 use Rattle.store_core.specs.declared.history.Call.{Call}
 use Rattle.store_core.specs.declared.history.Call.TheVariants.{Commit, Give, Length, Parents, Read, Serve, Settle, Take}
 use Rattle.store_core.specs.declared.history.Event.{Event}
-use Rattle.store_core.specs.declared.history.Piece.{Piece}
+use Rattle.holders.specs.declared.piece.Piece.{Piece}
 use Rattle.store_core.specs.declared.history.Serving.{Serving}
 use Rattle.store_core.specs.declared.history.Storing.{Storing}
 use Rattle.store_core.specs.declared.store.Store.{Store}
@@ -20,7 +20,7 @@ use Rattle.store_core.specs.Serves.{after_bytes, node_and, served, serving, serv
 use Rattle.store_core.specs.Histories.{AreLegalFrom}
 use Rattle.store_core.specs.Masks.{has_bit, in_mask}
 use Rattle.store_core.specs.Names.{Name, has_name, least_name}
-use Rattle.store_core.specs.Pieces.{holds_chunk}
+use Rattle.holders.specs.Pieces.{holds_chunk}
 use Rattle.store_core.specs.Slots.{caller}
 use Rattle.store_core.specs.States.{State, byte_and, byte_at, claims, empty, is_among, is_claimed, is_held, read_bytes}
 use Rattle.store_core.specs.Stores.{fixed_of, state_of}

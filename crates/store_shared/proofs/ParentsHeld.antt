@@ -4,17 +4,17 @@ use Rattle.std.proofs.Common.{arith, ◌≡◌, ℕ, ◌/◌, ◌%◌, Bool, tru
 use Rattle.std.proofs.lemmas.Bool.{cases_Bool}
 use Rattle.store_core.specs.declared.history.Call.{Call}
 use Rattle.store_core.specs.declared.history.Call.TheVariants.{Parents}
-use Rattle.store_core.specs.declared.history.Piece.{Piece}
+use Rattle.holders.specs.declared.piece.Piece.{Piece}
 use Rattle.store_core.specs.declared.history.Storing.TheVariants.{Stored}
 use Rattle.store_core.specs.declared.view.SeatView.{SeatView}
 use Rattle.store_core.specs.Histories.{state_after}
 use Rattle.store_core.specs.Knowledge.{Called}
 use Rattle.store_core.specs.Masks.{IsMaskOf, has_bit, in_mask}
-use Rattle.store_core.specs.Pieces.{holds_parent}
+use Rattle.holders.specs.Pieces.{holds_parent}
 use Rattle.store_core.specs.States.{State}
 use Rattle.store_core.proofs.ParentOrigins.{parent_lasts}
 use Rattle.store_shared.specs.Calls.{AreParentsHeld}
-use Rattle.store_calls.proofs.Slices.{after_there, legal_there}
+use Rattle.store_shared.proofs.Slices.{after_there, legal_there}
 
 -- a parent that isn't stored though the piece holds it, was held
 was_held : (hit holds was : Bool) → hit ≡ (holds && not was) → hit ≡ false → holds ≡ true → was ≡ true

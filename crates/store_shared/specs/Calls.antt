@@ -3,17 +3,18 @@ use Rattle.std.specs.Prelude.{◌≡◌, ◌⊎◌, ℕ, ◌/◌, false, true, L
 use Rattle.bao_text.specs.declared.walk.Node.{Node}
 use Rattle.bao_text.specs.NodeNames.{slice_names}
 use Rattle.bao_check.specs.declared.checked.Checked.{Checked}
-use Rattle.store_core.specs.declared.fixed.Fixed.{Fixed}
+use Rattle.holders.specs.declared.fixed.Fixed.{Fixed}
 use Rattle.store_core.specs.declared.history.Call.TheVariants.{Parents, Settle}
-use Rattle.store_core.specs.declared.history.Piece.{Piece}
+use Rattle.holders.specs.declared.piece.Piece.{Piece}
 use Rattle.store_core.specs.declared.history.Settling.{Settling}
 use Rattle.store_core.specs.declared.history.Settling.TheVariants.{Settled, Known, Differs, OtherRoot, TooLarge}
 use Rattle.store_core.specs.declared.history.Storing.TheVariants as storing
 use Rattle.store_core.specs.declared.view.SeatView.{SeatView}
-use Rattle.store_core.specs.Events.{has_room}
+use Rattle.holders.specs.Room.{has_room}
 use Rattle.store_core.specs.Histories.{state_after}
-use Rattle.store_core.specs.Laws.{CollidesWith, IsBlob, IsSettled}
-use Rattle.store_core.specs.Pieces.{holds_parent, length_of, piece_of}
+use Rattle.store_core.specs.Laws.{IsSettled}
+use Rattle.holders.specs.Blobs.{CollidesWith, IsBlob}
+use Rattle.holders.specs.Pieces.{holds_parent, length_of, piece_of}
 use Rattle.store_core.specs.Serves.{node_held}
 use Rattle.store_core.specs.Stores.{IsOf}
 use Rattle.store_shared.specs.declared.fault.ParentsFault.{ParentsFault}

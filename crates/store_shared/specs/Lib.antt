@@ -1,3 +1,10 @@
+pub mod Filled
+pub mod Reading
+pub mod Serving
+pub mod StoredCells
+pub mod Parents
+pub mod Grips
 pub mod Seats
 pub mod Calls
 pub mod Partner
+pub mod OneLine

@@ -1,6 +1,6 @@
 -- The single-threaded store as the model of a shared one.
 use Rattle.std.specs.Prelude.{◌≡◌, ◌≢◌, ℕ, zero, suc, ◌-◌, ◌/◌, ◌^◌, ◌==◌, true, ◌&&◌, ◌||◌, if◌then◌else◌, List, [], ◌∷◌, map, Some, option_map}
-use Rattle.store_core.specs.declared.fixed.Fixed.{Fixed}
+use Rattle.holders.specs.declared.fixed.Fixed.{Fixed}
 use Rattle.store_core.specs.declared.history.Call.{Call}
 use Rattle.store_core.specs.declared.history.Call.TheVariants.{Give, Take}
 use Rattle.store_core.specs.declared.history.Event.{Event}
@@ -8,7 +8,7 @@ use Rattle.store_core.specs.declared.store.Store.{Store}
 use Rattle.store_core.specs.Events.{after}
 use Rattle.store_core.specs.Histories.{IsLegal, state_after}
 use Rattle.store_core.specs.Laws.{is_partial, question}
-use Rattle.store_core.specs.Machine.{groups}
+use Rattle.holders.specs.Room.{groups}
 use Rattle.store_core.specs.Names.{Name, has_name, least_name}
 use Rattle.store_core.specs.Slots.{caller}
 use Rattle.store_core.specs.States.{State, empty}

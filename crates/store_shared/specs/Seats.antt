@@ -1,13 +1,13 @@
 -- Seats of a shared store: their masks of claims, and the store that they belong to.
 use Rattle.std.specs.Prelude.{◌≡◌, ℕ, ◌/◌, ◌%◌, ◌<◌, List, [], length, slice_index}
-use Rattle.store_core.specs.declared.fixed.Fixed.{Fixed}
+use Rattle.holders.specs.declared.fixed.Fixed.{Fixed}
 use Rattle.store_core.specs.declared.view.SeatView.{SeatView}
-use Rattle.store_core.specs.Machine.{groups}
+use Rattle.holders.specs.Room.{groups}
 use Rattle.store_core.specs.Masks.{has_bit}
 use Rattle.store_core.specs.Views.{seat_claims}
 use Rattle.store_shared.specs.declared.assembly.Assembly.{Assembly}
-pub use Rattle.store_calls.specs.Grips.{Gripped}
-use Rattle.store_calls.specs.Grips.{CoversGroup, IsGripOf, fixed_of as fixed_of_words}
+pub use Rattle.store_shared.specs.Grips.{Gripped}
+use Rattle.store_shared.specs.Grips.{CoversGroup, IsGripOf, fixed_of as fixed_of_words}
 
 -- one word for each group, with the bits of exactly the chunks that the seat claims; and the seat is storing no
 -- parents

@@ -1,13 +1,17 @@
 ghost use Rattle.std.specs.Prelude.{◌≡◌, ◌≢◌, ◌↔◌, ◌^◌, ◌<◌, ◌≤◌, ◌*◌, IfErr, IfOk, IfSome, IsOk, IsErrOf, OnErr, false, is_some, length, true};
 
+use crate::committing::commit;
 use crate::fault::{NoGroup, OtherRoot, ParentsFault, SplitFault};
 use crate::masks::put_masks;
+use crate::parents::commit_parents;
+use crate::reading::read;
 use crate::seat::Seat;
+use crate::serving::{has_parent, serve_slice};
 use b3tree::{Hash, Mode};
 use bao_check::{Checked, Tail};
 use std::alloc::Global;
-use store_calls::{NewFault, Words, commit, commit_parents, has_parent, read, serve_slice};
 use store_core::{GROUP_LEN, MAX_BASE, MAX_CAPACITY, Missing, ServeFault, Settling, Storing};
+use store_steps::{NewFault, Words};
 
 /// A store of one blob's chunks that threads share by reference: which chunks are held, which seat claims
 /// which, and the blob's length once it is recorded. All of it comes from encodings accepted under the store's
@@ -33,14 +37,15 @@ impl Assembly {
     ghost use Rattle.store_core.specs.declared.history.Serving.TheVariants.{Text};
     ghost use Rattle.store_core.specs.Histories.{state_after};
     ghost use Rattle.store_core.specs.declared.history.Storing.TheVariants.{Stored};
-    ghost use Rattle.store_calls.specs.Parents.{AreAllParents, SeatParentsBind};
-    ghost use Rattle.store_calls.specs.Serving.{SeatIsRefused, SeatSliceBinds, SeatSliceIsAccepted};
-    ghost use Rattle.store_core.specs.Machine.{groups};
-    ghost use Rattle.store_core.specs.Pieces.{piece_of};
+    ghost use Rattle.store_shared.specs.Parents.{AreAllParents, SeatParentsBind};
+    ghost use Rattle.store_shared.specs.Serving.{SeatIsRefused, SeatSliceBinds, SeatSliceIsAccepted};
+    ghost use Rattle.holders.specs.Room.{groups};
+    ghost use Rattle.holders.specs.Pieces.{piece_of};
     ghost use Rattle.store_core.specs.declared.history.Settling.TheVariants.{OtherRoot as RootIsOther};
     ghost use Rattle.store_core.specs.Stores.{ChunksBind, ClaimBinds, IsOf, filled_count, missing_in};
-    ghost use Rattle.store_calls.specs.Reading.{SeatDidRead, SeatReadBinds};
+    ghost use Rattle.store_shared.specs.Reading.{SeatDidRead, SeatReadBinds};
     ghost use Rattle.store_shared.specs.Calls.{AreParentsHeld, HasSliceHeld, SeatIsUnstored, SeatLengthBinds, SeatSettles};
+    ghost use Rattle.store_shared.specs.OneLine.{AreInOneLine};
     ghost use Rattle.store_shared.specs.Seats.{IsGroupOf, IsSeatOf, fixed_of};
     ghost use Rattle.store_core.specs.Knowledge.{AreAllNames, AreMet, ArePartsOf, Called, IsMerged, KeepsClaims, LooksRound, NoneIsClaimedByBoth, Sees, opening_view};
 
@@ -183,6 +188,10 @@ impl Assembly {
 
     /// Lets two seats meet: afterwards both have seen one history, which begins with what each had seen. Their
     /// calls and claims are unchanged, and no chunk is claimed by both. It doesn't allocate.
+    ///
+    /// Any two seats can meet at any moment. So of any two, also of such as never meet, what one has seen begins
+    /// what the other has seen at each moment, and a call that is made after another has ended comes after it in
+    /// the history (`calls_in_real_time`).
     pub fn meet(&self, first: &mut Seat, second: &mut Seat)
         requires first { IsSeatOf self.now first.old }
         requires second { IsSeatOf self.now second.old }
@@ -192,6 +201,7 @@ impl Assembly {
         ensures claims { KeepsClaims first.old.view first.new.view × KeepsClaims second.old.view second.new.view }
         ensures apart { NoneIsClaimedByBoth first.new.view second.new.view }
         ensures were_apart { NoneIsClaimedByBoth first.old.view second.old.view }
+        ensures one_line { AreInOneLine first.old.view second.old.view }
     {
         self.words.meet(&mut first.grip, &mut second.grip);
     }

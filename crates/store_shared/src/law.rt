@@ -1,3 +1,4 @@
+ghost use Rattle.store_shared.specs.OneLine.{AreInRealTime};
 ghost use Rattle.store_shared.specs.Partner.{JoinedCountsAsOne, OthersCountAsBefore, RepliesAreTheStores};
 
 /// Lemma: a new single-threaded store that gets the calls of a legal history in order gives the history's
@@ -11,4 +12,12 @@ pub fn replies_are_the_stores()
     ensures replies { RepliesAreTheStores }
     ensures joined { JoinedCountsAsOne }
     ensures others { OthersCountAsBefore }
+{}
+
+/// Lemma: a call comes, in the history that its seat has then seen, after all that any other seat had seen when the
+/// call began: calls that didn't overlap stand in the order of time, whether or not their seats ever meet.
+///
+/// What two seats have seen is in one line at any moment, as `meet` says of the moment before it. No effect at run time.
+pub fn calls_in_real_time()
+    ensures { AreInRealTime }
 {}

@@ -1,5 +1,5 @@
 use std::marker::Model;
-use store_calls::Grip;
+use store_steps::Grip;
 
 /// A seat of a shared store: one thread's token for its calls, with the mask of the chunks that it claims in
 /// each group.
@@ -13,7 +13,7 @@ pub struct Seat {
 
 impl Model for Seat {
     ghost use Rattle.store_shared.specs.Seats.{AreClaims};
-    ghost use Rattle.store_calls.specs.Grips.{Gripped};
+    ghost use Rattle.store_shared.specs.Grips.{Gripped};
 
     ghost Value = { Gripped };
 

@@ -5,16 +5,16 @@ use Rattle.std.proofs.lemmas.List.{set-get_or}
 use mathlib.Core.Option.{some}
 use lib.ListN.{get_elem?}
 use Rattle.atomic_table.specs.Table.{State as Table}
-use Rattle.store_core.specs.declared.fixed.Fixed.{Fixed}
+use Rattle.holders.specs.declared.fixed.Fixed.{Fixed}
 use Rattle.store_core.specs.declared.history.Call.TheVariants.{Commit, Give}
-use Rattle.store_core.specs.declared.history.Piece.{Piece}
+use Rattle.holders.specs.declared.piece.Piece.{Piece}
 use Rattle.store_core.specs.declared.view.SeatView.{SeatView}
 use Rattle.store_core.specs.Events.{after_call}
 use Rattle.store_core.specs.Histories.{state_after}
-use Rattle.store_core.specs.Machine.{groups}
+use Rattle.holders.specs.Room.{groups}
 use Rattle.store_core.specs.Masks.{in_mask}
 use Rattle.store_core.specs.Names.{Name}
-use Rattle.store_core.specs.Pieces.{IsAcceptedPiece, chunk_bytes, holds_chunk}
+use Rattle.holders.specs.Pieces.{IsAcceptedPiece, chunk_bytes, holds_chunk}
 use Rattle.store_core.specs.States.{State, claims, is_claimed}
 use Rattle.store_core.specs.Views.{names_of}
 use Rattle.store_core.proofs.Tells.{claims-claimed}

@@ -3,7 +3,7 @@ use Rattle.std.proofs.lemmas.Bool.Decides.{nat_tests}
 use Rattle.std.proofs.Common.{List, ◌≡◌, ◌≢◌, ℕ, ◌+◌, ◌*◌, ◌/◌, ◌%◌, ◌<◌, ◌==◌, Bool, true, false, not, ◌&&◌, ◌||◌, if◌then◌else◌, ◌∷◌, Option, None, Some, is_some, set, slice_index, refl, sym, ap, subst, ◌∙◌, arith, inl, inr, eq-eqb, eqb-true}
 use Rattle.std.specs.Int.Bits.{bit_or}
 use Rattle.std.proofs.lemmas.Bool.{and_from, and_parts, both_ways, cases_Bool, cases_eq, false_from_ne_true, ne_eqb}
-use Rattle.store_core.specs.declared.history.Piece.{Piece}
+use Rattle.holders.specs.declared.piece.Piece.{Piece}
 use Rattle.store_core.specs.declared.micro.MicroStep.{MicroStep}
 use Rattle.store_core.specs.declared.micro.MicroStep.TheVariants.{Publish, Write}
 use Rattle.store_core.specs.declared.micro.Reply.{Reply}
@@ -13,7 +13,7 @@ use Rattle.store_core.specs.declared.view.StoredWord.{StoredWord}
 use Rattle.store_core.specs.Cells.{cell_word}
 use Rattle.store_core.specs.Machine.{Machine, bytes_or_none, current_bytes, current_holds, is_shown, seat_has, is_number}
 use Rattle.store_core.specs.Masks.{has_bit, in_mask}
-use Rattle.store_core.specs.Pieces.{holds_chunk}
+use Rattle.holders.specs.Pieces.{holds_chunk}
 use Rattle.store_core.specs.Schedules.{IsLegalStep, IsReply, after_step}
 use Rattle.store_core.specs.Views.{seat_claims, stored}
 use Rattle.store_core.proofs.Running.{one_step}

@@ -1,7 +1,7 @@
 -- Settle and Length are the machine's.
 use Rattle.std.proofs.Common.{◌≡◌, ℕ, ◌+◌, ◌*◌, ◌/◌, ◌%◌, ◌==◌, if◌then◌else◌, List, Option, Some, refl, sym, ap, subst, ◌∙◌, arith}
 use prog.Atomic.{either}
-use Rattle.store_core.specs.declared.history.Piece.{Piece}
+use Rattle.holders.specs.declared.piece.Piece.{Piece}
 use Rattle.store_core.specs.declared.history.Settling.{Settling as Answer}
 use Rattle.store_core.specs.declared.history.Settling.TheVariants.{TooLarge}
 use Rattle.store_core.specs.declared.micro.MicroStep.{MicroStep}
@@ -12,7 +12,7 @@ use Rattle.store_core.specs.declared.view.StoredWord.{StoredWord}
 use Rattle.store_core.specs.Events.{recorded_after, settling}
 use Rattle.store_core.specs.Machine.{Machine}
 use Rattle.store_core.specs.Masks.{has_bit}
-use Rattle.store_core.specs.Pieces.{length_of}
+use Rattle.holders.specs.Pieces.{length_of}
 use Rattle.store_core.specs.Schedules.{HasTail, IsLegalStep, IsReply, after_step, current_length, length_answer, settle_answer}
 use Rattle.store_core.specs.Views.{stored}
 use Rattle.store_core.proofs.Running.{one_step}

@@ -5,7 +5,7 @@ use Rattle.std.proofs.lemmas.Bool.{both_ways, cases_Bool, cases_lt, le-leb, leb-
 use Rattle.std.proofs.lemmas.List.{get_or_append_left, set-get_or}
 use Rattle.atomic_table.specs.Table.{State as Table, keeps, stepped}
 use Rattle.bao_check.specs.declared.checked.Checked.{Checked}
-use Rattle.store_core.specs.declared.fixed.Fixed.{Fixed}
+use Rattle.holders.specs.declared.fixed.Fixed.{Fixed}
 use Rattle.store_core.specs.declared.history.Call.TheVariants.{Read}
 use Rattle.store_core.specs.declared.history.Event.{Event}
 use Rattle.store_core.specs.declared.micro.MicroStep.TheVariants.{Load}
@@ -14,9 +14,10 @@ use Rattle.store_core.specs.declared.view.StoredWord.{StoredWord}
 use Rattle.store_core.specs.Cells.{cell_bytes}
 use Rattle.store_core.specs.Histories.{IsLegal, state_after}
 use Rattle.store_core.specs.Laws.{IsCommitted, IsRead, IsSound}
-use Rattle.store_core.specs.Machine.{Machine, ReadUnderWay, copied, groups, is_shown, is_whole, loaded_group, position, read_of, shown_byte, store_of}
+use Rattle.store_core.specs.Machine.{Machine, ReadUnderWay, copied, is_shown, is_whole, loaded_group, position, read_of, shown_byte, store_of}
+use Rattle.holders.specs.Room.{groups}
 use Rattle.store_core.specs.Masks.{has_bit}
-use Rattle.store_core.specs.Pieces.{places_in}
+use Rattle.holders.specs.Pieces.{places_in}
 use Rattle.store_core.specs.Schedules.{after_step, is_last_load, read_after, read_before}
 use Rattle.store_core.specs.MachineInvariant.{IsReadSoFar}
 use Rattle.store_core.specs.ScheduleRuns.{carried_on}

@@ -4,13 +4,13 @@ use Rattle.std.proofs.Common.{◌++◌, ◌≡◌, ℕ, ◌+◌, ◌*◌, ◌-�
 use mathlib.Core.Option.{some}
 use lib.ListN.{get_elem?}
 use Rattle.atomic_table.specs.Table.{State as Table}
-use Rattle.store_core.specs.declared.fixed.Fixed.{Fixed}
+use Rattle.holders.specs.declared.fixed.Fixed.{Fixed}
 use Rattle.store_core.specs.declared.history.Call.{Call}
 use Rattle.store_core.specs.declared.history.Call.TheVariants.{Length, Read, Parents, Serve}
 use Rattle.store_core.specs.declared.history.Event.{Event}
 use Rattle.store_core.specs.declared.view.SeatView.{SeatView}
 use Rattle.store_core.specs.Histories.{IsLegal, run, state_after}
-use Rattle.store_core.specs.Machine.{groups}
+use Rattle.holders.specs.Room.{groups}
 use Rattle.store_core.specs.Masks.{has_bit, in_mask}
 use Rattle.store_core.specs.Names.{Name}
 use Rattle.store_core.specs.States.{State, is_held, read_bytes}
@@ -26,10 +26,10 @@ use Rattle.store_steps.proofs.StepViews.{AreIdle, Steps, look_step, still, still
 use Rattle.std.proofs.lemmas.Bool.{both_ways}
 use Rattle.bao_text.specs.declared.walk.Node.{Node}
 use Rattle.bao_text.specs.declared.walk.Node.TheVariants.{Chunk, Parent}
-use Rattle.store_core.specs.declared.history.Piece.{Piece}
+use Rattle.holders.specs.declared.piece.Piece.{Piece}
 use Rattle.store_core.specs.declared.history.Storing.TheVariants.{OtherLength, Stored}
 use Rattle.store_core.specs.Events.{IsRightReply, after_call, parents_after}
-use Rattle.store_core.specs.Pieces.{IsAcceptedPiece, length_of, parent_bytes}
+use Rattle.holders.specs.Pieces.{IsAcceptedPiece, length_of, parent_bytes}
 use Rattle.store_core.specs.Serves.{node_held, serving}
 use Rattle.store_core.proofs.ParentOrigins.{parent_lasts}
 use Rattle.store_steps.specs.Slices.{is_recorded, node_events, node_number, node_place, unserved_events, unstored_events}

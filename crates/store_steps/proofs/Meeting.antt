@@ -8,7 +8,7 @@ use mathlib.Core.Option.{some}
 use lib.ListN.{get_elem?}
 use Rattle.atomic_table.specs.declared.shared.Seat.{Seat}
 use Rattle.atomic_table.specs.Table.{Allows, State as Table, keeps, stepped}
-use Rattle.store_core.specs.declared.fixed.Fixed.{Fixed}
+use Rattle.holders.specs.declared.fixed.Fixed.{Fixed}
 use Rattle.store_core.specs.declared.view.SeatView.{SeatView}
 use Rattle.store_core.specs.declared.view.StoredWord.{StoredWord}
 use Rattle.store_core.specs.Histories.{IsLegal, state_after}

@@ -3,11 +3,11 @@ use Rattle.std.proofs.Common.{◌≡◌, ℕ, ◌≤◌, List, [], ◌∷◌, �
 use mathlib.Core.Option.{some}
 use lib.ListN.{get_elem?}
 use Rattle.atomic_table.specs.Table.{State as Table, keeps, stepped}
-use Rattle.store_core.specs.declared.fixed.Fixed.{Fixed}
+use Rattle.holders.specs.declared.fixed.Fixed.{Fixed}
 use Rattle.store_core.specs.declared.history.Call.{Call}
 use Rattle.store_core.specs.declared.history.Call.TheVariants.{Parents}
 use Rattle.store_core.specs.declared.history.Event.{Event}
-use Rattle.store_core.specs.declared.history.Piece.{Piece}
+use Rattle.holders.specs.declared.piece.Piece.{Piece}
 use Rattle.store_core.specs.declared.history.Storing.{Storing}
 use Rattle.store_core.specs.declared.view.Boundaries.{Boundaries}
 use Rattle.store_core.specs.declared.view.SeatView.{SeatView}

@@ -7,17 +7,17 @@ use Rattle.std.proofs.lemmas.List.{length-set}
 use mathlib.Core.Option.{some}
 use lib.ListN.{get_elem?}
 use Rattle.atomic_table.specs.Table.{State as Table}
-use Rattle.store_core.specs.declared.fixed.Fixed.{Fixed}
+use Rattle.holders.specs.declared.fixed.Fixed.{Fixed}
 use Rattle.store_core.specs.declared.history.Call.TheVariants.{Commit, Parents}
-use Rattle.store_core.specs.declared.history.Piece.{Piece}
+use Rattle.holders.specs.declared.piece.Piece.{Piece}
 use Rattle.store_core.specs.declared.view.SeatView.{SeatView}
 use Rattle.store_core.specs.Cells.{cell_word}
 use Rattle.store_core.specs.Events.{after_call, IsRightReply}
 use Rattle.store_core.specs.Histories.{state_after}
-use Rattle.store_core.specs.Machine.{groups}
+use Rattle.holders.specs.Room.{groups}
 use Rattle.store_core.specs.Masks.{IsMaskOf, in_mask}
 use Rattle.store_core.specs.Names.{Name}
-use Rattle.store_core.specs.Pieces.{IsAcceptedPiece, chunk_bytes, holds_chunk, length_of, parent_bytes}
+use Rattle.holders.specs.Pieces.{IsAcceptedPiece, chunk_bytes, holds_chunk, length_of, parent_bytes}
 use Rattle.store_core.specs.States.{State, claims, is_claimed, is_held}
 use Rattle.store_core.specs.Views.{names_of, is_boundary, is_storing}
 use Rattle.store_core.proofs.Tells.{claims-claimed, masked}

@@ -5,14 +5,15 @@ use prog.Atomic.{either}
 use mathlib.Core.Option.{some}
 use lib.ListN.{get_elem?}
 use Rattle.atomic_table.specs.Table.{State as Table}
-use Rattle.store_core.specs.declared.fixed.Fixed.{Fixed}
+use Rattle.holders.specs.declared.fixed.Fixed.{Fixed}
 use Rattle.store_core.specs.declared.history.Call.TheVariants.{Settle}
-use Rattle.store_core.specs.declared.history.Piece.{Piece}
+use Rattle.holders.specs.declared.piece.Piece.{Piece}
 use Rattle.store_core.specs.declared.history.Settling.{Settling}
 use Rattle.store_core.specs.declared.view.SeatView.{SeatView}
-use Rattle.store_core.specs.Events.{has_room, recorded_after, settling}
+use Rattle.store_core.specs.Events.{recorded_after, settling}
+use Rattle.holders.specs.Room.{has_room}
 use Rattle.store_core.specs.Histories.{state_after}
-use Rattle.store_core.specs.Pieces.{EndsBlob, IsAcceptedPiece, length_of}
+use Rattle.holders.specs.Pieces.{EndsBlob, IsAcceptedPiece, length_of}
 use Rattle.store_core.specs.States.{State}
 use Rattle.store_steps.specs.Layout.{length_code, length_place}
 use Rattle.store_steps.specs.Plays.{SettlesLength, length_in}

@@ -4,11 +4,12 @@ use Rattle.std.proofs.lemmas.Bool.{both_ways, cases_Bool, cases_eq, false_from_n
 use Rattle.std.proofs.lemmas.List.{set-get_or}
 use Rattle.atomic_table.specs.Table.{State as Table, keeps, stepped}
 use Rattle.bao_check.specs.declared.checked.Checked.{Checked}
-use Rattle.store_core.specs.declared.fixed.Fixed.{Fixed}
+use Rattle.holders.specs.declared.fixed.Fixed.{Fixed}
 use Rattle.store_core.specs.declared.history.Event.{Event}
 use Rattle.store_core.specs.declared.view.SeatView.{SeatView}
 use Rattle.store_core.specs.Histories.{IsLegal, state_after}
-use Rattle.store_core.specs.Machine.{Machine, ReadUnderWay, groups, is_number, is_shown, seat_has}
+use Rattle.store_core.specs.Machine.{Machine, ReadUnderWay, is_number, is_shown, seat_has}
+use Rattle.holders.specs.Room.{groups}
 use Rattle.store_core.specs.Masks.{has_bit}
 use Rattle.store_core.specs.MachineInvariant.{IsSoundMachine}
 use Rattle.store_core.specs.States.{State, byte_at, empty}

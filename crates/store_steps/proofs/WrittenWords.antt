@@ -6,10 +6,10 @@ use Rattle.std.proofs.lemmas.Bool.Decides.{nat_tests}
 use Rattle.std.proofs.Math.Bool.{and_assoc}
 use Rattle.std.proofs.lemmas.Bool.{and_left, and_right, both_ways, cases_Bool, cases_eq}
 use Rattle.std.proofs.lemmas.List.{get_or-set_other, get_or-set_same, length-set}
-use Rattle.store_core.specs.declared.fixed.Fixed.{Fixed}
+use Rattle.holders.specs.declared.fixed.Fixed.{Fixed}
 use Rattle.store_core.specs.declared.view.StoredWord.{StoredWord}
 use Rattle.store_core.specs.Laws.{IsSound}
-use Rattle.store_core.specs.Machine.{groups}
+use Rattle.holders.specs.Room.{groups}
 use Rattle.store_core.specs.Masks.{has_bit, in_mask, IsMaskOf}
 use Rattle.store_core.specs.Names.{Name}
 use Rattle.store_core.specs.States.{State, is_claimed, is_held}

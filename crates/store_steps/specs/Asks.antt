@@ -1,9 +1,9 @@
 -- What steps require of their caller.
 use Rattle.std.specs.Prelude.{◌≡◌, ℕ, ◌+◌, ◌*◌, ◌%◌, ◌<◌, true, ◌&&◌, List, [], ◌∷◌, Some}
-use Rattle.store_core.specs.declared.history.Piece.{Piece}
+use Rattle.holders.specs.declared.piece.Piece.{Piece}
 use Rattle.store_core.specs.declared.view.SeatView.{SeatView}
 use Rattle.store_core.specs.Masks.{IsMaskOf, has_bit, in_mask}
-use Rattle.store_core.specs.Pieces.{holds_chunk, holds_parent}
+use Rattle.holders.specs.Pieces.{holds_chunk, holds_parent}
 use Rattle.store_core.specs.Views.{seat_claims, stored}
 use Rattle.store_steps.specs.Kinds.{Kind, bytes_in, parent_kind, width, word_of, words_of}
 

@@ -1,11 +1,11 @@
 -- The kinds of items that are stored word by word, and whose stored words a view counts.
 use Rattle.std.specs.Prelude.{◌≡◌, ℕ, ◌<◌, true, List, Option}
-use Rattle.store_core.specs.declared.fixed.Fixed.{Fixed}
-use Rattle.store_core.specs.declared.history.Piece.{Piece}
+use Rattle.holders.specs.declared.fixed.Fixed.{Fixed}
+use Rattle.holders.specs.declared.piece.Piece.{Piece}
 use Rattle.store_core.specs.declared.view.SeatView.{SeatView}
 use Rattle.store_core.specs.declared.view.StoredWord.{StoredWord}
 use Rattle.store_core.specs.Cells.{cell_word}
-use Rattle.store_core.specs.Pieces.{chunk_bytes, parent_bytes}
+use Rattle.holders.specs.Pieces.{chunk_bytes, parent_bytes}
 use Rattle.store_core.specs.States.{State}
 use Rattle.store_core.specs.Views.{is_storing, seat_claims}
 use Rattle.store_steps.specs.Layout.{cell_place, parent_word, parent_word_place}

@@ -3,8 +3,8 @@
 -- cells.
 use Rattle.std.specs.Prelude.{ℕ, ◌+◌, ◌*◌, List, Option, None, Some, slice_index, take, drop}
 use Rattle.std.specs.Int.{w64, from_le_bytes}
-use Rattle.store_core.specs.declared.fixed.Fixed.{Fixed}
-use Rattle.store_core.specs.Machine.{groups}
+use Rattle.holders.specs.declared.fixed.Fixed.{Fixed}
+use Rattle.holders.specs.Room.{groups}
 
 abbrev pub claim_place : Fixed → ℕ → ℕ
 claim_place fixed group = groups fixed + group

@@ -5,13 +5,13 @@ use Rattle.std.specs.Int.{w64, bit_not}
 use Rattle.atomic_table.specs.Table.{Me}
 use Rattle.bao_text.specs.declared.walk.Node.{Node}
 use Rattle.store_core.specs.declared.history.Call.TheVariants.{Commit, Give, Length, Parents, Settle, Take}
-use Rattle.store_core.specs.declared.history.Piece.{Piece}
+use Rattle.holders.specs.declared.piece.Piece.{Piece}
 use Rattle.store_core.specs.declared.history.Storing.TheVariants.{Stored}
 use Rattle.store_core.specs.declared.view.SeatView.{SeatView}
 use Rattle.store_core.specs.Events.{settling}
 use Rattle.store_core.specs.Histories.{state_after}
 use Rattle.store_core.specs.Masks.{has_bit}
-use Rattle.store_core.specs.Pieces.{length_of}
+use Rattle.holders.specs.Pieces.{length_of}
 use Rattle.store_core.specs.Serves.{node_held}
 use Rattle.store_core.specs.Views.{mine, split_first, split_second}
 use Rattle.store_core.specs.Knowledge.{AreAllNames, AreMet, ArePartsOf, Did, EndsStoring, IsMerged, Looked}

@@ -5,21 +5,23 @@ use Rattle.std.specs.Int.{bit_not, w64}
 use prog.Atomic.{either}
 use Rattle.atomic_table.specs.Table.{State as Table, keeps, opening, stepped}
 use Rattle.bao_check.specs.declared.checked.Checked.{Checked}
-use Rattle.store_core.specs.declared.fixed.Fixed.{Fixed}
+use Rattle.holders.specs.declared.fixed.Fixed.{Fixed}
 use Rattle.store_core.specs.declared.history.Call.TheVariants.{Read}
 use Rattle.store_core.specs.declared.history.Event.{Event}
-use Rattle.store_core.specs.declared.history.Piece.{Piece}
+use Rattle.holders.specs.declared.piece.Piece.{Piece}
 use Rattle.store_core.specs.declared.history.Settling.TheVariants.{TooLarge}
 use Rattle.store_core.specs.declared.micro.MicroStep.TheVariants.{Claim, GiveBack, Hash, Length, Publish, Settle, Write}
 use Rattle.store_core.specs.declared.micro.Reply.{Reply}
 use Rattle.store_core.specs.declared.micro.Reply.TheVariants.{Committed, Given, Granted, LengthIs, Settling}
 use Rattle.store_core.specs.declared.view.SeatView.{SeatView}
 use Rattle.store_core.specs.Cells.{cell_word}
-use Rattle.store_core.specs.Events.{has_room, settling}
+use Rattle.store_core.specs.Events.{settling}
+use Rattle.holders.specs.Room.{has_room}
 use Rattle.store_core.specs.Histories.{state_after}
-use Rattle.store_core.specs.Machine.{Machine, current_bytes, current_holds, groups, loaded_group, start}
+use Rattle.store_core.specs.Machine.{Machine, current_bytes, current_holds, loaded_group, start}
+use Rattle.holders.specs.Room.{groups}
 use Rattle.store_core.specs.Masks.{IsMaskOf, has_bit}
-use Rattle.store_core.specs.Pieces.{EndsBlob, length_of}
+use Rattle.holders.specs.Pieces.{EndsBlob, length_of}
 use Rattle.store_core.specs.Schedules.{AreTexts, IsLegalStep, IsWritten, after_step, end_reply, is_last_load, read_after, read_before}
 use Rattle.store_core.specs.States.{State}
 use Rattle.store_core.specs.Views.{seat_claims, split_first, split_second}

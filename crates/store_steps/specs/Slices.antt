@@ -2,14 +2,14 @@
 use Rattle.std.specs.Prelude.{ℕ, ◌/◌, nat_lt, ◌==◌, Bool, false, ◌||◌, if◌then◌else◌, List, [], ◌∷◌, Option, None, Some, is_none}
 use Rattle.bao_text.specs.declared.walk.Node.{Node}
 use Rattle.bao_text.specs.declared.walk.Node.TheVariants.{Chunk, Parent}
-use Rattle.store_core.specs.declared.fixed.Fixed.{Fixed}
+use Rattle.holders.specs.declared.fixed.Fixed.{Fixed}
 use Rattle.store_core.specs.declared.history.Call.TheVariants.{Parents, Serve}
 use Rattle.store_core.specs.declared.history.Event.{Event}
-use Rattle.store_core.specs.declared.history.Piece.{Piece}
+use Rattle.holders.specs.declared.piece.Piece.{Piece}
 use Rattle.store_core.specs.declared.history.Storing.TheVariants.{OtherLength, Stored}
 use Rattle.store_core.specs.declared.view.SeatView.{SeatView}
-use Rattle.store_core.specs.Machine.{groups}
-use Rattle.store_core.specs.Pieces.{length_of}
+use Rattle.holders.specs.Room.{groups}
+use Rattle.holders.specs.Pieces.{length_of}
 use Rattle.store_core.specs.Serves.{node_held, serving}
 use Rattle.store_core.specs.States.{State}
 use Rattle.store_steps.specs.Layout.{parent_held_place}

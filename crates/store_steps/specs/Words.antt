@@ -1,8 +1,8 @@
 -- Which grips belong to which words.
 use Rattle.std.specs.Prelude.{◌≡◌, ℕ, ◌<◌}
-use Rattle.store_core.specs.declared.fixed.Fixed.{Fixed}
+use Rattle.holders.specs.declared.fixed.Fixed.{Fixed}
 use Rattle.store_core.specs.Knowledge.{IsViewOf}
-use Rattle.store_core.specs.Machine.{groups}
+use Rattle.holders.specs.Room.{groups}
 use Rattle.store_steps.specs.declared.words.Words.{Words}
 use Rattle.store_steps.specs.Grips.{Gripped}
 

@@ -1,5 +1,5 @@
 ghost use Rattle.std.specs.Prelude.{◌≡◌, ◌+◌, ◌*◌, ◌<◌, ◌≤◌, ◌^◌};
-ghost use Rattle.store_core.specs.Machine.{groups};
+ghost use Rattle.holders.specs.Room.{groups};
 ghost use Rattle.store_steps.specs.Kinds.{width, word_place};
 ghost use Rattle.store_steps.specs.Layout.{word_count};
 

@@ -1,5 +1,5 @@
 ghost use Rattle.std.specs.Prelude.{◌≡◌, ◌+◌, ◌*◌, ◌<◌, ◌≤◌, ◌^◌, ◌%◌};
-ghost use Rattle.store_core.specs.Machine.{groups};
+ghost use Rattle.holders.specs.Room.{groups};
 ghost use Rattle.store_core.specs.Masks.{has_bit};
 ghost use Rattle.store_steps.specs.Layout.{claim_place, length_place, parent_claim_place, parent_held_place, word_count};
 ghost use Rattle.store_steps.specs.Slices.{node_number, node_place};

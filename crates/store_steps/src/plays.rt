@@ -1,6 +1,6 @@
 ghost use Rattle.std.specs.Prelude.{ℕ, Bool};
 ghost use Rattle.bao_text.specs.declared.walk.Node.{Node};
-ghost use Rattle.store_core.specs.declared.history.Piece.{Piece};
+ghost use Rattle.holders.specs.declared.piece.Piece.{Piece};
 
 use crate::items::Item;
 use atomic_table::Play;
@@ -12,7 +12,7 @@ use store_core::SeatView;
 // arguments.
 pub(crate) trait Arguments {
     ghost use Rattle.std.specs.Prelude.{ℕ};
-    ghost use Rattle.store_core.specs.declared.history.Piece.{Piece};
+    ghost use Rattle.holders.specs.declared.piece.Piece.{Piece};
 
     ghost group: { ℕ };
 

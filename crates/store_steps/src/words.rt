@@ -1,5 +1,5 @@
 ghost use Rattle.std.specs.Prelude.{◌≡◌, [], Some, is_some, ◌+◌, ◌*◌, ◌/◌, ◌%◌, ◌^◌, ◌<◌, ◌≤◌, ℕ, nat_lt, not, ◌&&◌, true, IfErr, IfOk, IsErrOf, IsOk, OnErr};
-ghost use Rattle.store_core.specs.Machine.{groups};
+ghost use Rattle.holders.specs.Room.{groups};
 ghost use Rattle.store_steps.specs.Layout.{word_count};
 
 use crate::fault::NewFault;
@@ -53,8 +53,8 @@ impl Words {
     ghost use Rattle.bao_check.specs.Checked.{piece_claimed};
     ghost use Rattle.bao_check.specs.Tail.{tail_piece};
     ghost use Rattle.store_core.specs.declared.history.Call.TheVariants.{Commit, Give, Length, Parents, Settle, Take};
-    ghost use Rattle.store_core.specs.Events.{has_room};
-    ghost use Rattle.store_core.specs.Pieces.{length_of, piece_of};
+    ghost use Rattle.holders.specs.Room.{has_room};
+    ghost use Rattle.holders.specs.Pieces.{length_of, piece_of};
     ghost use Rattle.store_core.specs.Stores.{IsOf};
     ghost use Rattle.store_core.specs.Views.{mine};
     ghost use Rattle.store_core.specs.declared.history.Storing.TheVariants.{Stored};

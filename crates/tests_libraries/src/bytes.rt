@@ -1,4 +1,4 @@
-use bao_read::Source;
+use b3par::Source;
 use std::alloc::Global;
 use std::io;
 use std::io::{ErrorKind, Write};

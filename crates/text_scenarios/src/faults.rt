@@ -1,8 +1,8 @@
 use anyhow::Result;
+use b3par::{ParFault, ReadFault};
 use b3tree::TooLong;
 use bao_bind::AuditFault;
 use bao_check::CheckFault;
-use bao_read::{ParFault, ReadFault};
 use bao_text::{Memory, WriteFault};
 use std::alloc::Global;
 use std::fmt::Display;

@@ -1,6 +1,6 @@
 use anyhow::{Result, bail};
+use b3par::{ReadFault, Source, combined_source, hash_source, outboard_source};
 use b3tree::{Hash, Mode};
-use bao_read::{ReadFault, Source, combined_source, hash_source, outboard_source};
 use bao_text::write_texts;
 use std::alloc::Global;
 use std::io;

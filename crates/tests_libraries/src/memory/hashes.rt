@@ -1,6 +1,6 @@
 use crate::bytes::{InPieces, blob};
+use b3par::{Open, combined_source, hash_join, hash_pool, hash_source, outboard_source};
 use b3tree::{Hasher, Mode};
-use bao_read::{Open, combined_source, hash_join, hash_pool, hash_source, outboard_source};
 use std::test::Fail;
 
 // The hash of the bytes i mod 251, 102,400 of them: by `b3sum` 1.2.0.

@@ -1,6 +1,6 @@
 use crate::bytes::{blob, failing};
+use b3par::{ReadFault, outboard_source};
 use b3tree::Mode;
-use bao_read::{ReadFault, outboard_source};
 use bao_text::{WriteFault, combined, write_combined};
 use std::io;
 use std::io::{ErrorKind, Write};

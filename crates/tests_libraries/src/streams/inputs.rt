@@ -1,7 +1,7 @@
 use crate::bytes::{Broken, blob, taking};
+use b3par::Source;
 use b3tree::{Hash, Mode};
 use bao_files::{FileFault, encode_input};
-use bao_read::Source;
 use bao_text::{Encoding, combined, outboard, slice};
 use std::alloc::Global;
 use std::io;

@@ -1,4 +1,4 @@
-use bao_read::Gate;
+use b3par::Gate;
 use std::sync::atomic::{AtomicU64, Ordering};
 use std::thread;
 

@@ -2,8 +2,8 @@ ghost use Rattle.std.specs.Prelude.{◌≤◌};
 
 use crate::bytes::blob;
 use crate::threads::meeting::Meeting;
+use b3par::{Open, ParFault, hash_join, hash_pool, hash_pooled};
 use b3tree::{Hash, Mode, hash};
-use bao_read::{Open, ParFault, hash_join, hash_pool, hash_pooled};
 use std::test::Fail;
 use std::thread::Threads;
 

@@ -2,7 +2,7 @@ use Rattle.std.proofs.Common.{◌≡◌, ◌<◌, ℕ, ◌+◌, ◌-◌, ◌/◌
 use Rattle.std.proofs.lemmas.List.{take-append-drop, take_all}
 use Rattle.std.proofs.lemmas.Result.{err_from_is_err_and}
 use Rattle.bao_check.specs.declared.asked.Asked.{Asked}
-use Rattle.bao_check.specs.Subtree.{PassesIn}
+use Rattle.bao_check.specs.Walk.{PassesIn}
 use Rattle.bao_check.proofs.Subtrees.{both_pass, far_part_stops, near_part_stops, pass_chunk, pass_unwanted, pass_without, stop_chunk, stop_parent}
 use Rattle.bao_check.proofs.walk.+check_subtree.Goals as goal
 

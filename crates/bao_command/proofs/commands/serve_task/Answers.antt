@@ -9,15 +9,15 @@ use Rattle.bao_command.specs.declared.fault.Fault.{Fault}
 use Rattle.bao_command.specs.Effects.{IsRelisted, Writes, list_of}
 use Rattle.bao_command.specs.Gaps.{LeavesList, LeavesListOf}
 use Rattle.bao_command.specs.Printed.{CommandPrints, OnPrinted}
-use Rattle.gather.specs.declared.grain.Grain.{Grain}
-use Rattle.gather.specs.declared.grain.Grain.TheVariants.{Group as ByGroup, Chunk as ByChunk}
+use Rattle.holders.specs.declared.grain.Grain.{Grain}
+use Rattle.holders.specs.declared.grain.Grain.TheVariants.{Group as ByGroup, Chunk as ByChunk}
 use Rattle.bao_command.specs.Refused.{IsBlobOf, IsEachBlob, IsRefused, IsRefusedGathering, IsRefusedReplay, OfRoot}
 use Rattle.bao_command.specs.Status.{status_of}
 use Rattle.bao_command.specs.Tasks.{Decodes, Gathers, HasBadLine, HasBadScript, HasManyFiles, HasNoCapacity, HasRoot, IfPassed, IsNoCapacity, IsPastOutput, IsReplay, IsRight, LeavesFiles, Replays, line_of}
 use Rattle.bao_command.specs.Works.{CopiesRight, CutsRight, DecodesRight, EncodesRight, Leaves, LeavesGathered}
 use Rattle.bao_command.proofs.Due.{decode_due, file_due, gather_due, hash_due, lists_none, replay_due}
 use Rattle.bao_command.proofs.Listing.{no_list, no_list_kept}
-use Rattle.bao_command.proofs.Telling.{always_passed, both_printed, few_passed, no_refusal, no_usage, on_ok, on_printed, range_passed, usage_keeps}
+use Rattle.bao_command.proofs.Telling.{always_passed, both_printed, few_passed, no_refusal, on_ok, on_printed, range_passed, usage_keeps}
 use Rattle.bao_command.proofs.commands.serve_task.Goals as goal
 
 -- what a task's fault leaves, where it has no list

@@ -1,6 +1,6 @@
-use Rattle.std.proofs.Common.{◌≡◌, ◌≢◌, ◌≤◌, ◌⊎◌, ℕ, List, [], Option, None, Some, length, Result, Ok, Err, Bor, IfErr, IfOk, IsErrAnd, OnErr, OnOk, IsErrOf, inl, inr, ap, arith, refl, subst, sym, ◌∙◌}
+use Rattle.std.proofs.Common.{◌≡◌, ◌≢◌, ◌≤◌, ◌⊎◌, ℕ, List, [], Option, None, Some, length, Result, Ok, Err, Bor, IfErr, IfOk, IsErrAnd, OnErr, OnOk, inl, inr, ap, arith, refl, subst, sym, ◌∙◌}
 use Rattle.b3tree.specs.declared.mode.Mode.{Mode}
-use Rattle.gather.specs.declared.fault.GatherFault.TheVariants as gather
+use Rattle.bao_windows.specs.declared.fault.GatherFault.TheVariants as gather
 use Rattle.std.specs.Io.KnownBytes.{Appends}
 use Rattle.bao_text.specs.Texts.{combined_text}
 use Rattle.bao_files.specs.Disks.{FileState, IsKnown, KeepsFiles, Puts}
@@ -26,8 +26,7 @@ use Rattle.bao_command.specs.Status.{gathered_status_of}
 use Rattle.bao_command.specs.Tasks.{IsBeside, IsOfFile}
 use Rattle.bao_command.specs.Works.{IsRightBlob, LeavesGathered}
 use Rattle.bao_command.proofs.Listing.{list_of_file, not_looked}
-use Rattle.bao_command.proofs.Telling.{file_is_no_usage, file_refuses_none, no_refusal, no_usage, not_relisted, of_file_or, on_line, on_printed, told_prints}
-use Rattle.bao_command.proofs.Refusals.{check_is_no_usage}
+use Rattle.bao_command.proofs.Telling.{file_refuses_none, no_refusal, no_usage, not_relisted, of_file_or, on_line, on_printed, told_prints}
 use Rattle.bao_command.proofs.gathering.gather.Goals as goal
 use Rattle.bao_command.proofs.gathering.gather.Goals.{in-None, in-Some}
 

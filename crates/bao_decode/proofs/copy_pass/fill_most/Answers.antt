@@ -1,7 +1,7 @@
 use Rattle.std.proofs.Common.{rules, ◌≡◌, ℕ, ◌-◌, ◌≤◌, List, length, take, sym, arith}
 use Rattle.std.proofs.lemmas.List.{length-take-le}
-use Rattle.bao_read.specs.Given.{GivenAt}
-use Rattle.bao_read.proofs.Parts.{GivenAt-more}
+use Rattle.b3par.specs.Given.{GivenAt}
+use Rattle.b3par.proofs.Parts.{GivenAt-more}
 use borrow.Rule.Slice.PartMut.{put_mid}
 use Rattle.bao_decode.proofs.Forwards.{reaches_more}
 use Rattle.bao_decode.proofs.copy_pass.fill_most.Goals as goal

@@ -1,5 +1,5 @@
 use Rattle.std.proofs.Common.{◌≡◌, length, ◌-◌, ◌≤◌, take}
-use Rattle.bao_read.specs.Given.{GivenAt}
+use Rattle.b3par.specs.Given.{GivenAt}
 use Rattle.bao_decode.specs.Forward.{Reaches}
 use Rattle.bao_decode.proofs.copy_pass.fill_most.Given as goal
 

@@ -1,7 +1,7 @@
 use Rattle.std.proofs.Common.{◌≡◌, ◌+◌, ◌*◌, ℕ, List, ◌++◌, length, take, drop, inl, refl, sym, ap, subst, ◌∙◌, arith, rules}
 use Rattle.std.proofs.lemmas.List.{length-take-le, take-append-le}
 use Rattle.bao_check.specs.Outline.{outline_claimed}
-use Rattle.bao_read.specs.Given.{GivenAt}
+use Rattle.b3par.specs.Given.{GivenAt}
 use Rattle.bao_text.specs.Choice.{chunk_count}
 use Rattle.bao_decode.proofs.CopyPasses.{ends_known, fault_known}
 use Rattle.bao_decode.proofs.copy_pass.read_piece.Goals as goal

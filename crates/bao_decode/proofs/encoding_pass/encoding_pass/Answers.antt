@@ -7,7 +7,7 @@ use Rattle.b3tree.proofs.BlockWords.{AreBytes-take}
 use Rattle.bao_check.specs.Checking.{HasDecodedAs}
 use Rattle.bao_check.specs.declared.checking.Decoded.{Decoded}
 use Rattle.bao_check.proofs.ChunkBytes.{some_of}
-use Rattle.bao_read.specs.Given.{GivenAt}
+use Rattle.b3par.specs.Given.{GivenAt}
 use Rattle.bao_text.specs.Faults.{WroteOnly}
 use Rattle.bao_decode.specs.TextPass.{EncodingStops, task_of_part}
 use Rattle.bao_decode.proofs.EncodingPasses.{copied_all, copied_more, copied_stops, more_output}

@@ -2,7 +2,7 @@ use Rattle.std.proofs.Common.{◌≡◌, ℕ, List, [], length, take, subst, ari
 use Rattle.std.proofs.lemmas.List.{take_all}
 use Rattle.bao_check.specs.Checking.{HasDecodedAs, IsNodeFault}
 use Rattle.bao_check.specs.Waiting.{CheckTask}
-use Rattle.bao_read.specs.Given.{GivenAt}
+use Rattle.b3par.specs.Given.{GivenAt}
 use Rattle.bao_decode.specs.TextPass.{task_of_part}
 use Rattle.bao_decode.proofs.Forwards.{reaches_first}
 use Rattle.bao_decode.proofs.TextPasses.{node_stops}

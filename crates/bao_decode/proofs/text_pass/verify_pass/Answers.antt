@@ -5,7 +5,7 @@ use Rattle.b3tree.proofs.BlockWords.{AreBytes-take}
 use Rattle.bao_check.specs.Checking.{HasDecodedAs}
 use Rattle.bao_check.specs.declared.checking.Decoded.{Decoded}
 use Rattle.bao_check.proofs.ChunkBytes.{some_of}
-use Rattle.bao_read.specs.Given.{GivenAt}
+use Rattle.b3par.specs.Given.{GivenAt}
 use Rattle.bao_text.specs.Cut.{claimed}
 use Rattle.bao_decode.specs.Ranges.{first_written, last_written}
 use Rattle.bao_decode.specs.TextPass.{StopsAs, task_of_part}

@@ -1,7 +1,7 @@
 use Rattle.std.proofs.Common.{◌≡◌, ◌∙◌, ℕ, List, [], ap, map, sym, subst, string_bytes}
 use Rattle.b3tree.specs.declared.mode.Mode.{Mode}
 use Rattle.bao_check.specs.declared.checked.Checked.{Checked}
-use Rattle.store_core.specs.declared.fixed.Fixed.{Fixed}
+use Rattle.holders.specs.declared.fixed.Fixed.{Fixed}
 use Rattle.store_core.specs.Machine.{start}
 use Rattle.bao_script.proofs.Exits.{passed_on, same_error}
 use Rattle.bao_script.proofs.Running.{printed}
@@ -49,7 +49,7 @@ returns-clause-printed c =
     let over_script = subst (λ (all : List NumberedLine). RanLines fixed c.as_slice-2.result.now start all (string_bytes c.new-text.result) (string_bytes c.run_lines.new.out) c.run_lines.new.run) lines over_lines in
     let ran = subst (λ (text : List ℕ). RanLines fixed c.as_slice-2.result.now start c.args.script.now text (string_bytes c.run_lines.new.out) c.run_lines.new.run) c.new-text.ensures.bytes over_script in
     printed fixed files c.args.script.now c.as_slice-2.result.now c.run_lines.new.run c.into_store.result c.held_count.result (string_bytes c.run_lines.new.out) c.into_bytes.result.items
-    pieces ran c.into_store.ensures.left (c.into_store.ensures.binds fixed c.as_slice-2.result.now) c.held_count.ensures
+    pieces ran c.into_store.ensures.left c.held_count.ensures
     (ap (λ v. v.items) c.into_bytes.ensures.value ∙ c.in_ok-push_held.ensures)
 
 pub returns-in_err-run_lines-clause-illegal : goal.returns-in_err-run_lines-clause-illegal

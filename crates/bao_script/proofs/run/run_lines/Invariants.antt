@@ -1,5 +1,5 @@
 use Rattle.std.proofs.Common.{◌≡◌, ◌≤◌, take, string_bytes}
-use Rattle.store_core.specs.declared.fixed.Fixed.{Fixed}
+use Rattle.holders.specs.declared.fixed.Fixed.{Fixed}
 use Rattle.store_core.specs.Machine.{Machine}
 use Rattle.bao_script.specs.ScriptRuns.{RanLines, StandsAt}
 use Rattle.bao_script.specs.Steps.{pieces_among}

@@ -1,13 +1,13 @@
 use Rattle.std.proofs.Common.{◌≡◌, ◌∙◌, ◌<◌, ℕ, List, length, Option, is_some, Result, true, arith, subst, inl, inr}
 use Rattle.std.proofs.lemmas.Option.{slice_get_within}
 use Rattle.std.specs.Io.KnownBytes.{Appends}
-use Rattle.gather.specs.declared.fault.GatherFault.{GatherFault}
-use Rattle.gather.specs.Large.{fixed_as}
-use Rattle.gather.specs.Lists.{IsFromSource}
+use Rattle.bao_windows.specs.declared.fault.GatherFault.{GatherFault}
+use Rattle.holders.specs.Blobs.{fixed_as}
+use Rattle.holders.specs.Lists.{IsFromSource}
 use Rattle.bao_tasks.specs.declared.gathered_fault.GatheredFault.{GatheredFault}
 use Rattle.bao_tasks.specs.TakenFiles.{HasSound, IsRightOf, open_fault}
 use Rattle.bao_tasks.specs.Gathered.{gathered_text}
-use Rattle.bao_tasks.specs.Givens.{watched_contents, watched_faultless}
+use Rattle.bao_tasks.specs.Givens.{shown_contents, shown_faultless}
 use Rattle.bao_tasks.proofs.FromFiles.{open_starved}
 use Rattle.bao_tasks.proofs.Lists.{all_of_draft}
 use Rattle.bao_tasks.proofs.Together.{one_of}
@@ -16,7 +16,7 @@ use Rattle.bao_tasks.proofs.gathering.attempt.Goals as goal
 pub returns-in-Ok-ended-clause-right : goal.returns-in-Ok-ended-clause-right
 returns-in-Ok-ended-clause-right g c = λ known blob is.
     let wanted = c.args.wanted.now in
-    let handed = IsFromSource wanted.form.now (watched_contents g.S.Source.contents) (watched_faultless g.S.Source.faultless) c.args.taken.now.givens.items in
+    let handed = IsFromSource wanted.form.now (shown_contents g.S.Source.contents) (shown_faultless g.S.Source.faultless) c.args.taken.now.givens.items in
     let before : Option (List ℕ) = g.D.Draft.Write.contents c.in-Ok.out in
     let after : Option (List ℕ) = g.D.Draft.Write.contents c.write_taken-ended.new.out in
     let text : List ℕ = gathered_text wanted.how.encode wanted.mode.now blob in
@@ -30,8 +30,8 @@ returns-in-Ok-ended-clause-right g c = λ known blob is.
 pub returns-then-count-tried-clause-left : goal.returns-then-count-tried-clause-left
 returns-then-count-tried-clause-left g c = λ is known blob enough before.
     let wanted = c.args.wanted.now in
-    let given = watched_contents {P = g.row.P.Denot} g.S.Source.contents in
-    let sound = watched_faultless {P = g.row.P.Denot} g.S.Source.faultless in
+    let given = shown_contents {P = g.row.P.Denot} g.S.Source.contents in
+    let sound = shown_faultless {P = g.row.P.Denot} g.S.Source.faultless in
     let items = c.args.taken.now.givens.items in
     elim before [
       | inl none ↦
@@ -45,7 +45,7 @@ pub returns-then-is_some-clause-left : goal.returns-then-is_some-clause-left
 returns-then-is_some-clause-left g c = λ is known blob enough before.
     let wanted = c.args.wanted.now in
     let fixed = fixed_as wanted.root.now wanted.mode.now wanted.how.capacity in
-    let handed = IsFromSource wanted.form.now (watched_contents {P = g.row.P.Denot} g.S.Source.contents) (watched_faultless {P = g.row.P.Denot} g.S.Source.faultless) c.args.taken.now.givens.items in
+    let handed = IsFromSource wanted.form.now (shown_contents {P = g.row.P.Denot} g.S.Source.contents) (shown_faultless {P = g.row.P.Denot} g.S.Source.faultless) c.args.taken.now.givens.items in
     let met : c.unfinished_by-tried.result ≡ open_fault c.write_taken-ended.result = c.unfinished_by-tried.ensures in
     let some : is_some c.unfinished_by-tried.result ≡ true = cc in
     let helps : is_some (open_fault c.write_taken-ended.result) ≡ true = subst (λ (f : Option GatherFault). is_some f ≡ true) met some in

@@ -1,10 +1,10 @@
 use Rattle.std.proofs.Common.{Err, true, subst, sym}
 use Rattle.std.proofs.lemmas.Result.{err_from_is_err_and}
 use Rattle.bao_files.specs.Disks.{IsKnown}
-use Rattle.gather.specs.Large.{fixed_as}
-use Rattle.gather.specs.Lists.{IsFromSource}
+use Rattle.holders.specs.Blobs.{fixed_as}
+use Rattle.holders.specs.Lists.{IsFromSource}
 use Rattle.bao_tasks.specs.declared.gathered_fault.GatheredFault.{GatheredFault}
-use Rattle.bao_tasks.specs.Givens.{watched_contents, watched_faultless}
+use Rattle.bao_tasks.specs.Givens.{shown_contents, shown_faultless}
 use Rattle.bao_tasks.specs.TakenFiles.{HasSound, IsGatheredFrom}
 use Rattle.std.specs.Bool.{⊤}
 use Rattle.bao_tasks.proofs.Rewritten.{encoded_of, not_written, rewritten}
@@ -14,8 +14,8 @@ pub returns-in_err-count-clause-gathered : goal.returns-in_err-count-clause-gath
 returns-in_err-count-clause-gathered g c =
     let wanted = c.args.wanted.now in
     let fixed = fixed_as wanted.root.now wanted.mode.now wanted.how.capacity in
-    let contents = watched_contents {P = g.row.P.Denot} g.S.Source.contents in
-    let faultless = watched_faultless {P = g.row.P.Denot} g.S.Source.faultless in
+    let contents = shown_contents {P = g.row.P.Denot} g.S.Source.contents in
+    let faultless = shown_faultless {P = g.row.P.Denot} g.S.Source.faultless in
     let items = c.args.taken.now.givens.items in
     let handed = IsFromSource wanted.form.now contents faultless items in
     let known : Type 0 = IsKnown (g.D.Disk.at c.args.disk.now c.args.path.now) in
@@ -28,8 +28,8 @@ returns-in_err-count-clause-gathered g c =
 pub returns-in-Ok-encode_input-clause-gathered : goal.returns-in-Ok-encode_input-clause-gathered
 returns-in-Ok-encode_input-clause-gathered g c =
     let wanted = c.args.wanted.now in
-    let contents = watched_contents {P = g.row.P.Denot} g.S.Source.contents in
-    let faultless = watched_faultless {P = g.row.P.Denot} g.S.Source.faultless in
+    let contents = shown_contents {P = g.row.P.Denot} g.S.Source.contents in
+    let faultless = shown_faultless {P = g.row.P.Denot} g.S.Source.faultless in
     let items = c.args.taken.now.givens.items in
     let draft = g.D.Draft.Write.contents c.gather_into.new.out in
     let old = g.D.Draft.Write.contents c.args.out.now in

@@ -4,11 +4,11 @@ use Rattle.std.proofs.lemmas.Result.{err_from_is_err_and}
 use Rattle.b3tree.specs.Valid.{AreBytes}
 use Rattle.bao_decode.specs.Copies.{IsEnoughOf}
 use Rattle.bao_files.specs.Disks.{FileState}
-use Rattle.gather.specs.declared.fault.GatherFault.TheVariants.{Unfinished}
-use Rattle.gather.specs.declared.form.Form.TheVariants.{Bare}
-use Rattle.gather.specs.Large.{fixed_as}
+use Rattle.bao_windows.specs.declared.fault.GatherFault.TheVariants.{Unfinished}
+use Rattle.holders.specs.declared.form.Form.TheVariants.{Bare}
+use Rattle.holders.specs.Blobs.{fixed_as}
 use Rattle.bao_tasks.specs.FromFiles.{CollidesBeside, IsPutAt, IsRightAt}
-use Rattle.store_core.specs.declared.fixed.Fixed.{Fixed}
+use Rattle.holders.specs.declared.fixed.Fixed.{Fixed}
 use Rattle.bao_tasks.specs.Gathered.{HasOutlineIn}
 use Rattle.bao_tasks.proofs.Beside.{are_of, beside_of, outlined_of, outline_in, own_faultless, own_outline, where_ok}
 use Rattle.bao_tasks.specs.declared.gathered_fault.GatheredFault.{GatheredFault}

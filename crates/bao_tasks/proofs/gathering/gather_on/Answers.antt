@@ -4,7 +4,7 @@ use Rattle.bao_files.specs.declared.fault.FileFault.{FileFault}
 use Rattle.bao_files.specs.declared.fault.FileFault.TheVariants.{Memory, Read, Write}
 use Rattle.bao_files.specs.Disks.{Puts}
 use Rattle.std.proofs.lemmas.Result.{err_from_is_err_and}
-use Rattle.gather.specs.declared.fault.GatherFault.TheVariants.{NotTheRoot, TooLarge, Unfinished}
+use Rattle.bao_windows.specs.declared.fault.GatherFault.TheVariants.{NotTheRoot, TooLarge, Unfinished}
 use Rattle.bao_tasks.specs.declared.gathered_fault.GatheredFault.{GatheredFault}
 use Rattle.bao_tasks.specs.declared.gathered_fault.GatheredFault.TheVariants.{File, Gather}
 use Rattle.bao_tasks.specs.FromFiles.{IsExcusedGathering}

@@ -1,16 +1,16 @@
 use Rattle.std.proofs.Common.{List, inr, subst}
 use Rattle.bao_windows.specs.declared.wanted.Wanted.{Wanted}
-use Rattle.bao_tasks.specs.Givens.{watched_contents, watched_faultless}
+use Rattle.bao_tasks.specs.Givens.{shown_contents, shown_faultless}
 use Rattle.bao_tasks.specs.Missing.{IsLackOf}
-use Rattle.bao_tasks.specs.declared.watched.Watched.{Watched}
+use Rattle.bao_files.specs.declared.shown.Shown.{Shown}
 use Rattle.bao_tasks.proofs.gathering.lack_left.Goals as goal
 
 pub returns-in-Some-Unfinished-clause-lack : goal.returns-in-Some-Unfinished-clause-lack
 returns-in-Some-Unfinished-clause-lack g c = λ met starved.
-    let contents = watched_contents {P = g.row.P.Denot} g.S.Source.contents in
-    let faultless = watched_faultless {P = g.row.P.Denot} g.S.Source.faultless in
+    let contents = shown_contents {P = g.row.P.Denot} g.S.Source.contents in
+    let faultless = shown_faultless {P = g.row.P.Denot} g.S.Source.faultless in
     let parts = c.args.wanted.now.how.parts in
     inr
     (subst (λ (wanted : Wanted). IsLackOf contents faultless wanted c.args.taken.now.givens.items parts c.lack_of.result) c.windows-windows.ensures.all
-    (subst (λ (sources : List (Watched g.row.S.Denot g.row.P.Denot)). IsLackOf contents faultless c.windows-windows.result sources parts c.lack_of.result) c.as_slice.ensures.value
+    (subst (λ (sources : List (Shown g.row.S.Denot g.row.P.Denot)). IsLackOf contents faultless c.windows-windows.result sources parts c.lack_of.result) c.as_slice.ensures.value
     c.lack_of.ensures))

@@ -1,7 +1,7 @@
 use Rattle.std.proofs.Common.{◌≡◌, ℕ, List, Option, Some, IfSome, ap, ◌∙◌, inl, inr}
 use Rattle.bao_tasks.specs.FromFiles.{taken_bytes}
 use Rattle.bao_tasks.specs.Givens.{given_contents, most_bytes}
-use Rattle.bao_tasks.proofs.Taking.{watched_known, watched_sure}
+use Rattle.bao_tasks.proofs.Taking.{shown_known, shown_sure}
 use Rattle.bao_tasks.proofs.gathering.take.Goals as goal
 use Rattle.bao_tasks.proofs.gathering.take.Goals.{in-Ok-push, in-Err-push}
 
@@ -14,11 +14,11 @@ returns-after-push-clause-taken g c = elim c.match-push.branch [
       let items = ap (λ t. t.givens.items) w.taken-is in
       let known : IfSome bytes (λ s. given_contents g.D.Input.Source.contents c.in-Ok.given ≡ Some s) = c.in-Ok.ensures.bytes in
       inr (record {
-        source = c.new.result;
+        source = c.over.result;
         is = items ∙ pushed;
         of = record {
-          known = watched_known g.D.Input.Source.contents bytes c.in-Ok.given c.new.result c.new.ensures known;
-          sound = watched_sure g.D.Input.Source.faultless (g.D.Disk.faultless c.args.disk.now) c.in-Ok.given c.new.result c.new.ensures c.in-Ok.ensures.sure;
+          known = shown_known g.D.Input.Source.contents bytes c.in-Ok.given c.over.result c.over.ensures known;
+          sound = shown_sure g.D.Input.Source.faultless (g.D.Disk.faultless c.args.disk.now) c.in-Ok.given c.over.result c.over.ensures c.in-Ok.ensures.sure;
         };
       })
   | in-Err-push w ↦
@@ -39,11 +39,11 @@ returns-after-push-clause-there g c = elim c.match-push.branch [
       let items = ap (λ t. t.givens.items) w.taken-is in
       let known : IfSome bytes (λ s. given_contents g.D.Input.Source.contents c.in-Ok.given ≡ Some s) = c.in-Ok.ensures.bytes in
       inr (record {
-        source = c.new.result;
+        source = c.over.result;
         is = items ∙ pushed;
         of = record {
-          known = watched_known g.D.Input.Source.contents bytes c.in-Ok.given c.new.result c.new.ensures known;
-          sound = watched_sure g.D.Input.Source.faultless (g.D.Disk.faultless c.args.disk.now) c.in-Ok.given c.new.result c.new.ensures c.in-Ok.ensures.sure;
+          known = shown_known g.D.Input.Source.contents bytes c.in-Ok.given c.over.result c.over.ensures known;
+          sound = shown_sure g.D.Input.Source.faultless (g.D.Disk.faultless c.args.disk.now) c.in-Ok.given c.over.result c.over.ensures c.in-Ok.ensures.sure;
         };
       })
   | in-Err-push w ↦ λ yes sure stored. inl (ap (λ t. t.starved) w.taken-is)

@@ -1,7 +1,7 @@
 use Rattle.std.specs.Borrow.{Bor}
 use Rattle.std.proofs.Common.{◌≡◌, ◌<◌, ℕ, List, [], Bool, false, Some, ◌∙◌, get_or, length, arith, ap}
 use Rattle.std.proofs.lemmas.Option.{slice_get-get_or, slice_get_within}
-use Rattle.bao_tasks.specs.Givens.{given_contents, is_given_faultless, most_bytes, watched_contents, watched_faultless}
+use Rattle.bao_tasks.specs.Givens.{given_contents, is_given_faultless, most_bytes, shown_contents, shown_faultless}
 use Rattle.bao_tasks.proofs.Taking.{same_kind, taking_more}
 use Rattle.bao_tasks.proofs.gathering.take_files.Goals as goal
 
@@ -15,7 +15,7 @@ loop-place-preserved g c =
     let within_kinds : n < length c.args.kinds.now = omega arith in
     let none : Bor (List ℕ) = record { ref_ptr = (0, 0); now = [] } in
     let kind : get_or kinds n false ≡ c.args.regular = same_kind (get_or kinds n false) c.args.regular c.if-kinds-place.false in
-    taking_more (watched_contents (given_contents g.D.Input.Source.contents)) (watched_faultless (is_given_faultless g.D.Input.Source.faultless)) (g.D.Disk.faultless c.args.disk.now)
+    taking_more (shown_contents (given_contents g.D.Input.Source.contents)) (shown_faultless (is_given_faultless g.D.Input.Source.faultless)) (g.D.Disk.faultless c.args.disk.now)
     (most_bytes c.args.wanted.now.form.now c.args.wanted.now.how.capacity) at paths c.args.regular c.args.taken.now.starved c.args.taken.now.givens.items kinds n c.loop-place.taken.starved
     c.take-fate.new.taken.starved c.loop-place.taken.givens.items c.take-fate.new.taken.givens.items (get_or paths n none) c.requires.kinds
     (slice_get-get_or kinds n false within_kinds ∙ ap (λ (b : Bool). Some b) kind) (slice_get-get_or paths n none within) c.take-fate.ensures.starved c.take-fate.ensures.absent c.take-fate.ensures.taken

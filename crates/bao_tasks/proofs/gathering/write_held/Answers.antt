@@ -3,10 +3,10 @@ use Rattle.std.proofs.lemmas.Option.{same_Some}
 use Rattle.std.proofs.lemmas.Result.{err_from_is_err_and}
 use Rattle.std.specs.Bool.{⊤}
 use Rattle.std.specs.Io.KnownBytes.{Appends}
-use Rattle.gather.specs.Large.{fixed_as}
-use Rattle.gather.specs.Lists.{IsFromSource}
+use Rattle.holders.specs.Blobs.{fixed_as}
+use Rattle.holders.specs.Lists.{IsFromSource}
 use Rattle.bao_tasks.specs.Gathered.{IsExcusedWrite, gathered_text}
-use Rattle.bao_tasks.specs.Givens.{watched_contents, watched_faultless}
+use Rattle.bao_tasks.specs.Givens.{shown_contents, shown_faultless}
 use Rattle.bao_tasks.specs.TakenFiles.{HasSound}
 use Rattle.bao_tasks.proofs.Rewritten.{excused, rewritten}
 use Rattle.bao_tasks.proofs.gathering.write_held.Goals as goal
@@ -14,8 +14,8 @@ use Rattle.bao_tasks.proofs.gathering.write_held.Goals as goal
 pub returns-in_err-write_whole-clause-gathered : goal.returns-in_err-write_whole-clause-gathered
 returns-in_err-write_whole-clause-gathered g c =
     let wanted = c.args.wanted.now in
-    let contents = watched_contents {P = g.row.P.Denot} g.S.Source.contents in
-    let faultless = watched_faultless {P = g.row.P.Denot} g.S.Source.faultless in
+    let contents = shown_contents {P = g.row.P.Denot} g.S.Source.contents in
+    let faultless = shown_faultless {P = g.row.P.Denot} g.S.Source.faultless in
     let items = c.args.taken.now.givens.items in
     let old = g.W.Write.contents c.args.out.now in
     let new = g.W.Write.contents c.write_whole.new.out in
@@ -26,8 +26,8 @@ returns-in_err-write_whole-clause-gathered g c =
 pub returns-clause-gathered : goal.returns-clause-gathered
 returns-clause-gathered g c =
     let wanted = c.args.wanted.now in
-    let contents = watched_contents {P = g.row.P.Denot} g.S.Source.contents in
-    let faultless = watched_faultless {P = g.row.P.Denot} g.S.Source.faultless in
+    let contents = shown_contents {P = g.row.P.Denot} g.S.Source.contents in
+    let faultless = shown_faultless {P = g.row.P.Denot} g.S.Source.faultless in
     let items = c.args.taken.now.givens.items in
     let old = g.W.Write.contents c.args.out.now in
     let new = g.W.Write.contents c.write_whole.new.out in

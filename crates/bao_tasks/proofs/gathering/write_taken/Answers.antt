@@ -1,7 +1,7 @@
 use Rattle.bao_files.specs.Disks.{IsKnown}
-use Rattle.gather.specs.Large.{fixed_as}
-use Rattle.gather.specs.Lists.{IsFromSource}
-use Rattle.bao_tasks.specs.Givens.{watched_contents, watched_faultless}
+use Rattle.holders.specs.Blobs.{fixed_as}
+use Rattle.holders.specs.Lists.{IsFromSource}
+use Rattle.bao_tasks.specs.Givens.{shown_contents, shown_faultless}
 use Rattle.bao_tasks.specs.TakenFiles.{HasSound}
 use Rattle.bao_tasks.proofs.Rewritten.{as_it_is, if_sure}
 use Rattle.bao_tasks.proofs.gathering.write_taken.Goals as goal
@@ -9,8 +9,8 @@ use Rattle.bao_tasks.proofs.gathering.write_taken.Goals as goal
 pub returns-else-is_replaced-clause-gathered : goal.returns-else-is_replaced-clause-gathered
 returns-else-is_replaced-clause-gathered g c =
     let wanted = c.args.wanted.now in
-    let contents = watched_contents {P = g.row.P.Denot} g.S.Source.contents in
-    let faultless = watched_faultless {P = g.row.P.Denot} g.S.Source.faultless in
+    let contents = shown_contents {P = g.row.P.Denot} g.S.Source.contents in
+    let faultless = shown_faultless {P = g.row.P.Denot} g.S.Source.faultless in
     let items = c.args.taken.now.givens.items in
     if_sure (IsFromSource wanted.form.now contents faultless items) wanted.form.now (fixed_as wanted.root.now wanted.mode.now wanted.how.capacity) wanted.how (HasSound contents faultless items)
     (IsKnown (g.D.Disk.at c.args.disk.now c.args.path.now)) wanted.how.encode (g.D.Draft.Write.contents c.args.out.now) (g.D.Draft.Write.contents c.write_held.new.out) c.write_held.result c.write_held.ensures.gathered
@@ -18,8 +18,8 @@ returns-else-is_replaced-clause-gathered g c =
 pub returns-then-is_replaced-2-clause-gathered : goal.returns-then-is_replaced-2-clause-gathered
 returns-then-is_replaced-2-clause-gathered g c =
     let wanted = c.args.wanted.now in
-    let contents = watched_contents {P = g.row.P.Denot} g.S.Source.contents in
-    let faultless = watched_faultless {P = g.row.P.Denot} g.S.Source.faultless in
+    let contents = shown_contents {P = g.row.P.Denot} g.S.Source.contents in
+    let faultless = shown_faultless {P = g.row.P.Denot} g.S.Source.faultless in
     let items = c.args.taken.now.givens.items in
     as_it_is (IsFromSource wanted.form.now contents faultless items) wanted.form.now (fixed_as wanted.root.now wanted.mode.now wanted.how.capacity) wanted.how (HasSound contents faultless items)
     (IsKnown (g.D.Disk.at c.args.disk.now c.args.path.now)) wanted.how.encode (g.D.Draft.Write.contents c.args.out.now) (g.D.Draft.Write.contents c.gather_into.new.out) c.gather_into.result c.if-encode.false c.gather_into.ensures.gathered
@@ -27,8 +27,8 @@ returns-then-is_replaced-2-clause-gathered g c =
 pub returns-else-is_replaced-2-clause-gathered : goal.returns-else-is_replaced-2-clause-gathered
 returns-else-is_replaced-2-clause-gathered g c =
     let wanted = c.args.wanted.now in
-    let contents = watched_contents {P = g.row.P.Denot} g.S.Source.contents in
-    let faultless = watched_faultless {P = g.row.P.Denot} g.S.Source.faultless in
+    let contents = shown_contents {P = g.row.P.Denot} g.S.Source.contents in
+    let faultless = shown_faultless {P = g.row.P.Denot} g.S.Source.faultless in
     let items = c.args.taken.now.givens.items in
     if_sure (IsFromSource wanted.form.now contents faultless items) wanted.form.now (fixed_as wanted.root.now wanted.mode.now wanted.how.capacity) wanted.how (HasSound contents faultless items)
     (IsKnown (g.D.Disk.at c.args.disk.now c.args.path.now)) wanted.how.encode (g.D.Draft.Write.contents c.args.out.now) (g.D.Draft.Write.contents c.write_held-else-is_replaced-2.new.out) c.write_held-else-is_replaced-2.result c.write_held-else-is_replaced-2.ensures.gathered

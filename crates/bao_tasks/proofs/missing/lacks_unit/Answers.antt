@@ -1,6 +1,6 @@
 use Rattle.std.proofs.Common.{◌≡◌, ℕ, ◌*◌, IfOk, ap, subst, arith}
-use Rattle.bao_tasks.specs.Missing.{HasChunks, unit_chunks}
-use Rattle.bao_tasks.specs.Worth.{IsSaidOf, JudgesGroup}
+use Rattle.bao_tasks.specs.Missing.{unit_chunks}
+use Rattle.bao_tasks.specs.Worth.{HasChunks, IsSaidOf, JudgesGroup}
 use Rattle.bao_tasks.proofs.missing.lacks_unit.Goals as goal
 
 pub overflow_mul-most : goal.overflow_mul-most

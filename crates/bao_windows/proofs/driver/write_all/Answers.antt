@@ -1,5 +1,5 @@
 use Rattle.std.proofs.Common.{Vec, Global, List, ap, ◌≡◌, ℕ, ◌+◌, ◌-◌, ◌*◌, [], length, arith, refl, subst, sym, ◌∙◌, inl, inr}
-use Rattle.gather.proofs.Finishing.{alike, differs}
+use Rattle.holders.proofs.Same.{alike, differs}
 use Rattle.b3tree.specs.Hashing.{hash}
 use Rattle.bao_windows.proofs.Bytes.{place_of}
 use Rattle.bao_windows.proofs.Finishing.{none_is}

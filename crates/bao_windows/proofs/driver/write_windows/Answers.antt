@@ -1,8 +1,8 @@
 use Rattle.std.proofs.Common.{◌≡◌, ◌≤◌, length, Err, Ok, ap, arith, inl, inr, sym}
 use Rattle.std.proofs.KnownBytes.{Appends-kept}
 use Rattle.bao_text.specs.Choice.{chunk_count}
-use Rattle.gather.specs.declared.fault.GatherFault.{GatherFault}
-use Rattle.gather.specs.declared.fault.GatherFault.TheVariants.{TooLarge, Unfinished}
+use Rattle.bao_windows.specs.declared.fault.GatherFault.{GatherFault}
+use Rattle.bao_windows.specs.declared.fault.GatherFault.TheVariants.{TooLarge, Unfinished}
 use Rattle.bao_windows.proofs.Answering.{answered_by, answered_length, answered_written, available_by, beside_by, copied_by, covered_by, longer}
 use Rattle.bao_windows.proofs.Finishing.{the_blob}
 use Rattle.bao_windows.specs.declared.fault.WindowsFault.{WindowsFault}

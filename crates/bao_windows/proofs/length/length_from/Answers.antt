@@ -1,17 +1,28 @@
-use Rattle.std.proofs.Common.{◌≡◌, ℕ, refl, subst, sym}
-use Rattle.bao_check.specs.Outline.{outline_claimed}
-use Rattle.gather.specs.declared.form.Form.{Form}
-use Rattle.gather.specs.Forms.{AreSlices, IsLengthOf}
-use Rattle.bao_windows.proofs.Asking.{length_beside, length_slices}
-use Rattle.bao_windows.proofs.Parts.{all_found, if_found}
-use Rattle.bao_windows.specs.Windows.{IsBeside}
+use Rattle.std.proofs.Common.{◌≡◌, false, true, refl}
+use Rattle.bao_windows.proofs.Parts.{end_each, end_found, end_lacks, end_none, end_of, there_at}
 use Rattle.bao_windows.proofs.length.length_from.Goals as goal
 
-pub returns-in-Slices-clause-of : goal.returns-in-Slices-clause-of
-returns-in-Slices-clause-of g c =
-    all_found c.length_by_slice.result (λ (l : ℕ). IsLengthOf c.args.wanted.now.form l) (λ l. length_slices c.args.wanted.now.form l (subst (λ (form : Form). AreSlices form) (sym c.in-Slices.is) tt))
+pub returns-in-Some-tail-clause-each : goal.returns-in-Some-tail-clause-each
+returns-in-Some-tail-clause-each g c =
+    end_each g.S.Source.contents g.S.Source.faultless c.args.wanted.now c.args.sources.now c.args.place c.index-sources-place.result c.args.start c.in_ok-piece.field-0 c.requires.fitting
+    (there_at c.args.sources.now c.args.place c.index-sources-place.result c.requires.place c.index-sources-place.is) c.requires.start c.in_ok-piece.ensures c.in-Some.piece c.in-Some-tail.tail c.length.result c.in-Some.is c.in-Some-tail.ensures.piece c.length.ensures.binds
 
-pub returns-in-Bare-clause-of : goal.returns-in-Bare-clause-of
-returns-in-Bare-clause-of g c =
-    if_found c.length_by_copy.result (λ (l : ℕ). l ≡ outline_claimed c.in-Bare.outline.now) (λ (l : ℕ). IsLengthOf c.args.wanted.now.form l)
-    (λ l is. length_beside c.args.wanted.now.form c.in-Bare.outline.now l (subst (λ (form : Form). IsBeside form c.in-Bare.outline.now) (sym c.in-Bare.is) refl) is) c.length_by_copy.ensures.claims
+pub returns-in-Some-tail-clause-of : goal.returns-in-Some-tail-clause-of
+returns-in-Some-tail-clause-of g c =
+    end_of g.S.Source.contents g.S.Source.faultless c.args.wanted.now c.args.sources.now c.args.place c.index-sources-place.result c.args.start c.in_ok-piece.field-0 c.requires.fitting
+    (there_at c.args.sources.now c.args.place c.index-sources-place.result c.requires.place c.index-sources-place.is) c.requires.start c.in_ok-piece.ensures c.in-Some.piece c.in-Some-tail.tail c.length.result c.in-Some.is c.in-Some-tail.ensures.piece c.length.ensures.value
+
+pub returns-in-Some-tail-clause-certified : goal.returns-in-Some-tail-clause-certified
+returns-in-Some-tail-clause-certified g c =
+    end_found g.S.Source.contents g.S.Source.faultless c.args.wanted.now c.args.sources.now c.args.place c.index-sources-place.result c.args.start c.in_ok-piece.field-0 c.requires.fitting
+    (there_at c.args.sources.now c.args.place c.index-sources-place.result c.requires.place c.index-sources-place.is) c.requires.start c.in_ok-piece.ensures c.in-Some.piece c.in-Some-tail.tail c.length.result c.in-Some.is (c.in-Some-tail.ensures.there.0 refl) c.in-Some-tail.ensures.piece c.length.ensures.value
+
+pub returns-in-None-tail-clause-refused : goal.returns-in-None-tail-clause-refused
+returns-in-None-tail-clause-refused g c = λ _.
+    end_lacks g.S.Source.contents g.S.Source.faultless c.args.wanted.now c.args.sources.now c.args.place c.index-sources-place.result c.args.start c.in_ok-piece.field-0 c.requires.fitting
+    (there_at c.args.sources.now c.args.place c.index-sources-place.result c.requires.place c.index-sources-place.is) c.requires.start c.in_ok-piece.ensures c.in-Some.piece c.in-Some.is (λ holds. let wrong : false ≡ true = c.in-None-tail.ensures.there.1 holds in cc)
+
+pub returns-in-None-clause-refused : goal.returns-in-None-clause-refused
+returns-in-None-clause-refused g c = λ _.
+    end_none g.S.Source.contents g.S.Source.faultless c.args.wanted.now c.args.sources.now c.args.place c.index-sources-place.result c.args.start c.in_ok-piece.field-0 c.requires.fitting
+    (there_at c.args.sources.now c.args.place c.index-sources-place.result c.requires.place c.index-sources-place.is) c.requires.start c.in_ok-piece.ensures c.in-None.is

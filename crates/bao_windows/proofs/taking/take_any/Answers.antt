@@ -1,39 +1,23 @@
-use Rattle.std.proofs.Common.{Vec, Global, ap, ◌≡◌, ◌<◌, ℕ, Bool, List, false, length, subst, arith, ◌∙◌}
+use Rattle.std.proofs.Common.{◌≡◌, ◌<◌, ℕ, Bool, List, false, length, subst, arith, ◌∙◌}
 use Rattle.bao_windows.proofs.Turns.{each_turn, next_turn}
 use Rattle.bao_windows.specs.Available.{Refuses}
 use Rattle.bao_windows.specs.Windows.{IsFrom, Takes, fixed_for}
 use Rattle.bao_windows.proofs.taking.take_any.Goals as goal
-use Rattle.bao_windows.proofs.taking.take_any.Goals.{in-Slices+in_ok-take_slice-in-Slices+else-branch, in-Bare+in_ok-take_bare-in-Bare+else-branch-2}
 
 pub loop-turn-preserved : goal.loop-turn-preserved
 loop-turn-preserved g c =
     let wanted = c.args.wanted.now in
     let sources = c.args.sources.now in
     let mid : List ℕ = c.loop-turn.into.items in
-    elim c.match-wanted.branch [
-      | in-Slices+in_ok-take_slice-in-Slices+else-branch w ↦
-          let new : List ℕ = w.take_slice.new.into.items in
-          let none : w.in_ok-take_slice-in-Slices.field-0 ≡ false = w.if-branch.false in
-          let kept : new ≡ mid =
-          subst (λ (took : Bool). Takes took (IsFrom wanted g.S.Source.contents g.S.Source.faultless sources) (fixed_for wanted) c.args.part.start c.args.part.len mid new) none w.in_ok-take_slice-in-Slices.ensures.took in
-          record {
-            same = ap (λ (v : Vec ℕ Global). v.items) w.into-is ∙ kept ∙ c.loop-turn.invariant.same;
-            refused = next_turn (λ (p : ℕ). Refuses g.S.Source.contents g.S.Source.faultless wanted sources c.args.part.start c.args.part.len c.args.span p) c.min-first.result (length sources) c.loop-turn.turn
-                c.in_turn-place.result c.loop-turn.invariant.refused c.in_turn-place.ensures.turn
-                (w.in_ok-take_slice-in-Slices.ensures.refused none);
-          }
-      | in-Bare+in_ok-take_bare-in-Bare+else-branch-2 w ↦
-          let new : List ℕ = w.take_bare.new.into.items in
-          let none : w.in_ok-take_bare-in-Bare.field-0 ≡ false = w.if-branch-2.false in
-          let kept : new ≡ mid =
-          subst (λ (took : Bool). Takes took (IsFrom wanted g.S.Source.contents g.S.Source.faultless sources) (fixed_for wanted) c.args.part.start c.args.part.len mid new) none w.in_ok-take_bare-in-Bare.ensures.took in
-          record {
-            same = ap (λ (v : Vec ℕ Global). v.items) w.into-is ∙ kept ∙ c.loop-turn.invariant.same;
-            refused = next_turn (λ (p : ℕ). Refuses g.S.Source.contents g.S.Source.faultless wanted sources c.args.part.start c.args.part.len c.args.span p) c.min-first.result (length sources) c.loop-turn.turn
-                c.in_turn-place.result c.loop-turn.invariant.refused c.in_turn-place.ensures.turn
-                (w.in_ok-take_bare-in-Bare.ensures.refused none c.args.span);
-          }
-    ]
+    let new : List ℕ = c.take_part.new.into.items in
+    let none : c.in_ok-take_part.field-0 ≡ false = c.if-branch.false in
+    let kept : new ≡ mid =
+    subst (λ (took : Bool). Takes took (IsFrom wanted g.S.Source.contents g.S.Source.faultless sources) (fixed_for wanted) c.args.part.start c.args.part.len mid new) none c.in_ok-take_part.ensures.took in
+    record {
+      same = kept ∙ c.loop-turn.invariant.same;
+      refused = next_turn (λ (p : ℕ). Refuses g.S.Source.contents g.S.Source.faultless wanted sources c.args.part.start c.args.part.len c.args.span p) c.min-first.result (length sources) c.loop-turn.turn
+          c.in_turn-place.result c.loop-turn.invariant.refused c.in_turn-place.ensures.turn (c.in_ok-take_part.ensures.refused none);
+    }
 
 pub returns-clause-refused : goal.returns-clause-refused
 returns-clause-refused g c = λ _ place below.

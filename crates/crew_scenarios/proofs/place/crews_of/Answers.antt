@@ -2,7 +2,7 @@ use Rattle.std.proofs.Common.{◌≡◌, ◌++◌, [], ◌∷◌, List, sym, sub
 use Rattle.std.proofs.lemmas.List.Elements.{All-push}
 use Rattle.std.specs.List.{All}
 use Rattle.crew_scenarios.proofs.place.crews_of.Goals as goal
-use Rattle.crews.specs.declared.crew.Crew.{Crew}
+use Rattle.gather.specs.declared.crew.Crew.{Crew}
 use Rattle.store_shared.specs.Seats.{Gripped, IsSeatOf}
 
 pub loop-holders-preserved : goal.loop-holders-preserved

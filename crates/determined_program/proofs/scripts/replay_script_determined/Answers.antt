@@ -1,6 +1,6 @@
 use Rattle.std.proofs.Common.{map}
-use Rattle.store_core.specs.declared.fixed.Fixed.{Fixed}
-use Rattle.determined_program.proofs.Reruns.{runs_agree}
+use Rattle.holders.specs.declared.fixed.Fixed.{Fixed}
+use Rattle.determined_program.proofs.ScriptRuns.{runs_agree}
 use Rattle.determined_program.proofs.scripts.replay_script_determined.Goals as goal
 
 pub returns : goal.returns

@@ -1,8 +1,9 @@
 use Rattle.gather.proofs.Common.{◌≡◌, ◌==◌, ℕ, Fixed, both_ways, cases_Bool, eq-eqb, eqb-true, inl, inr, length, subst, sym}
-use Rattle.gather.specs.declared.grain.Grain.TheVariants.{Group as ByGroup}
-use Rattle.gather.specs.Available.{IsFilled, IsServed}
-use Rattle.gather.specs.Forms.{made_of}
-use Rattle.gather.specs.Parts.{HaveParts, IsFor}
+use Rattle.holders.specs.declared.grain.Grain.TheVariants.{Group as ByGroup}
+use Rattle.gather.specs.Filled.{IsFilled}
+use Rattle.holders.specs.Available.{IsServed}
+use Rattle.holders.specs.Forms.{made_of}
+use Rattle.holders.specs.Parts.{HaveParts, IsFor}
 use Rattle.gather.proofs.Forming.{later_parts}
 use Rattle.gather.proofs.Gaining.{among_onward}
 use Rattle.gather.proofs.Reporting.{later_then, onward}

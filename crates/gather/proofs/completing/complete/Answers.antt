@@ -1,12 +1,13 @@
 use Rattle.gather.proofs.Gaining.{among_onward}
 use Rattle.gather.proofs.Reporting.{counted_none, later_none, later_then, onward, still_gained}
 use Rattle.gather.proofs.Common.{None, Some, ap, ◌∙◌, ◌*◌, ◌≡◌, ◌<◌, ◌≤◌, ◌/◌, ℕ, length, refl, sym, subst, arith, inl, inr, cases_lt, chunk_count, Fixed}
-use Rattle.gather.specs.declared.grain.Grain.TheVariants.{Group as ByGroup}
-use Rattle.gather.specs.Available.{IsServed}
-use Rattle.gather.specs.Holders.{IsNone}
+use Rattle.holders.specs.declared.grain.Grain.TheVariants.{Group as ByGroup}
+use Rattle.holders.specs.Available.{IsServed}
+use Rattle.holders.specs.Holders.{IsNone}
 use Rattle.gather.proofs.Serving.{fails_from, fails_until}
-use Rattle.gather.specs.Forms.{checked_len, made_of}
-use Rattle.gather.specs.Parts.{HaveParts, IsAskedIn, IsFor}
+use Rattle.holders.specs.Forms.{made_of}
+use Rattle.gather.specs.Asked.{checked_len}
+use Rattle.holders.specs.Parts.{HaveParts, IsAskedIn, IsFor}
 use Rattle.gather.proofs.Forming.{asked_reaches, group_checked, later_parts, length_for as of_length}
 use Rattle.gather.proofs.completing.complete.Goals as goal
 

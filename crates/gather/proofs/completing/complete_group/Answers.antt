@@ -1,13 +1,14 @@
 use Rattle.gather.proofs.Common.{refl, ◌<◌, ◌≡◌, ◌≤◌, ◌∙◌, ℕ, true, get_or, length, inl, inr, sym, subst, arith, sum_by, set-get_or, slice_get_within, both_ways, cases_lt, Fixed}
 use Rattle.gather.specs.Counts.{Reports}
-use Rattle.gather.specs.Holders.{IsHanded, IsNone}
+use Rattle.holders.specs.Holders.{IsHanded, IsNone}
 use Rattle.gather.proofs.Bits.{in_mask_zero}
 use Rattle.gather.proofs.Reporting.{among_holders, counted_none, later_none, later_one, later_then, onward, onward_none, still_gained}
-use Rattle.gather.specs.Available.{GivesSlice, IsServed, slice_of}
+use Rattle.holders.specs.Available.{GivesSlice, IsServed, slice_of}
 use Rattle.gather.proofs.Serving.{fails_from, fails_until, get_set_after, slice_here}
-use Rattle.gather.specs.Forms.{checked_len, made_of}
-use Rattle.gather.specs.Parts.{IsFor}
-use Rattle.store_core.specs.Pieces.{holds_parent}
+use Rattle.holders.specs.Forms.{made_of}
+use Rattle.gather.specs.Asked.{checked_len}
+use Rattle.holders.specs.Parts.{IsFor}
+use Rattle.holders.specs.Pieces.{holds_parent}
 use Rattle.gather.proofs.completing.complete_group.Goals as goal
 
 pub loop-holder-init : goal.loop-holder-init

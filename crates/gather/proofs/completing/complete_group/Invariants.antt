@@ -1,12 +1,13 @@
-use Rattle.gather.specs.Forms.{checked_len, made_of}
-use Rattle.gather.specs.Parts.{IsFor}
+use Rattle.holders.specs.Forms.{made_of}
+use Rattle.gather.specs.Asked.{checked_len}
+use Rattle.holders.specs.Parts.{IsFor}
 use Rattle.gather.specs.Claims.{Among}
 use Rattle.gather.proofs.Common.{sum_by, ◌≡◌, ◌⊎◌, ℕ, ◌/◌, ◌<◌, ◌≤◌, List, length, slice_get, true}
 use Rattle.gather.specs.Counts.{HasFailedSince, Reports}
-use Rattle.gather.specs.Holders.{AreLater, IsHanded}
+use Rattle.holders.specs.Holders.{AreLater, IsHanded}
 use Rattle.gather.proofs.completing.complete_group.Given as goal
-use Rattle.gather.specs.Available.{HasSlice, IsServed, slice_of}
-use Rattle.store_core.specs.Pieces.{holds_parent}
+use Rattle.holders.specs.Available.{HasSlice, IsServed, slice_of}
+use Rattle.holders.specs.Pieces.{holds_parent}
 
 abbrev pub invariant-loop-holder : goal.invariant-loop-holder
 invariant-loop-holder g l = g.S.Shelf.has l.shelf l.seat

@@ -1,5 +1,5 @@
 use Rattle.gather.proofs.Common.{◌≤◌, ℕ, Fixed, arith, cases_lt, inl, inr, subst, sym}
-use Rattle.gather.specs.Holders.{IsNone}
+use Rattle.holders.specs.Holders.{IsNone}
 use Rattle.gather.proofs.completing.has_parents.Goals as goal
 
 pub loop-boundary-init : goal.loop-boundary-init

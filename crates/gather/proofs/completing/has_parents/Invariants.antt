@@ -1,6 +1,6 @@
 use Rattle.gather.proofs.Common.{◌≡◌, ℕ, ◌/◌, ◌<◌, ◌≤◌}
 use Rattle.gather.specs.Counts.{Still}
-use Rattle.gather.specs.Holders.{IsNone}
+use Rattle.holders.specs.Holders.{IsNone}
 use Rattle.gather.proofs.completing.has_parents.Given as goal
 
 abbrev pub invariant-loop-boundary : goal.invariant-loop-boundary

@@ -1,5 +1,5 @@
 use Rattle.gather.proofs.Common.{◌≡◌, ◌∙◌, ℕ, IsTrue, Some, false, subst, sym, true}
-use Rattle.gather.specs.Forms.{IsLengthOf}
+use Rattle.holders.specs.Forms.{IsLengthOf}
 use Rattle.gather.proofs.completing.length_for.Goals as goal
 
 pub returns-in-Some-clause-known : goal.returns-in-Some-clause-known

@@ -6,12 +6,12 @@ use Rattle.gather.proofs.Binding.{adds_blobs, are_longer}
 use Rattle.gather.proofs.Certifying.{work_certified}
 use Rattle.gather.proofs.Forming.{later_parts, slices_parts}
 use Rattle.gather.proofs.Reporting.{large_wider, onward}
-use Rattle.gather.specs.Available.{IsServed}
-use Rattle.gather.specs.declared.form.Form.TheVariants.{Slices}
-use Rattle.gather.specs.declared.grain.Grain.TheVariants.{Group as ByGroup}
-use Rattle.gather.specs.Holders.{IsHanded}
-use Rattle.gather.specs.Large.{IsTooLarge}
-use Rattle.gather.specs.Parts.{HaveParts}
+use Rattle.holders.specs.Available.{IsServed}
+use Rattle.holders.specs.declared.form.Form.TheVariants.{Slices}
+use Rattle.holders.specs.declared.grain.Grain.TheVariants.{Group as ByGroup}
+use Rattle.holders.specs.Holders.{IsHanded}
+use Rattle.holders.specs.Blobs.{IsTooLarge}
+use Rattle.holders.specs.Parts.{HaveParts}
 use Rattle.gather.specs.Lasting.{lasts_work}
 use Rattle.gather.proofs.Served.{served}
 use Rattle.gather.proofs.Serving.{failed_since, fails_until}

@@ -1,12 +1,12 @@
 use Rattle.gather.proofs.Common.{◌≡◌, ◌∙◌, ◌⊎◌, ◌/◌, false, true, ap, inl, inr, refl, both_ways, cases_lt, IsOf, length_of, ℕ, sym, subst, arith, Fixed, piece_of}
 use Rattle.gather.specs.declared.report.Report.{Report}
 use Rattle.gather.specs.Counts.{Fits, HasFailedSince, Reports}
-use Rattle.gather.specs.Holders.{IsIt}
+use Rattle.holders.specs.Holders.{IsIt}
 use Rattle.gather.proofs.Gaining.{among_onward}
-use Rattle.gather.specs.Available.{IsOfOtherLength}
+use Rattle.gather.specs.Filled.{IsOfOtherLength}
 use Rattle.gather.proofs.Grouping.{held_below, parent_marked}
 use Rattle.gather.proofs.Serving.{fails_from, fails_until, memory_counts}
-use Rattle.store_core.specs.Pieces.{holds_parent}
+use Rattle.holders.specs.Pieces.{holds_parent}
 use Rattle.gather.proofs.Reporting.{counted_none, none_gained, onward, starved, stored_some}
 use Rattle.gather.proofs.parents.store_parents.Goals.{in-Ok, in-Err+then-eq, in-Err+else-eq}
 use Rattle.gather.proofs.parents.store_parents.Goals as goal

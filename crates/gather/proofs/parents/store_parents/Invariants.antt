@@ -1,9 +1,9 @@
 use Rattle.gather.proofs.Common.{◌≡◌, ◌⊎◌, ℕ, ◌-◌, ◌/◌, ◌<◌, true, IsOf, length_of, piece_of}
-use Rattle.store_core.specs.Pieces.{holds_parent}
-use Rattle.gather.specs.Available.{Keeps}
+use Rattle.holders.specs.Pieces.{holds_parent}
+use Rattle.gather.specs.Filled.{Keeps}
 use Rattle.gather.specs.Claims.{Among}
 use Rattle.gather.specs.Counts.{HasFailedSince, Reports}
-use Rattle.gather.specs.Holders.{IsIt}
+use Rattle.holders.specs.Holders.{IsIt}
 use Rattle.gather.proofs.parents.store_parents.Given as goal
 
 abbrev pub invariant-loop-group : goal.invariant-loop-group

@@ -1,12 +1,13 @@
 use Rattle.gather.proofs.Gaining.{among_onward}
 use Rattle.gather.proofs.Reporting.{later_then, onward}
 use Rattle.gather.proofs.Common.{None, Some, true, ◌∙◌, ◌%◌, ◌≡◌, ◌<◌, ◌==◌, ℕ, length, sym, subst, arith, inl, inr, eqb-true, eq-eqb, both_ways, cases_Bool, cases_lt, chunk_count, has_bit, holds_chunk, Fixed}
-use Rattle.gather.specs.declared.grain.Grain.TheVariants.{Chunk as ByChunk}
-use Rattle.gather.specs.Available.{IsServed, slice_of}
+use Rattle.holders.specs.declared.grain.Grain.TheVariants.{Chunk as ByChunk}
+use Rattle.holders.specs.Available.{IsServed, slice_of}
 use Rattle.gather.proofs.Forming.{asked_reaches, chunk_checked, end_at, later_parts, length_for, slices_for, slices_parts}
 use Rattle.gather.proofs.Serving.{fails_from, fails_until, wanted_one}
-use Rattle.gather.specs.Forms.{checked_len, made_of}
-use Rattle.gather.specs.Parts.{HaveParts, IsFor}
+use Rattle.holders.specs.Forms.{made_of}
+use Rattle.gather.specs.Asked.{checked_len}
+use Rattle.holders.specs.Parts.{HaveParts, IsFor}
 use Rattle.gather.proofs.salvaging.salvage.Goals as goal
 
 pub returns-in_default-clause-parts : goal.returns-in_default-clause-parts

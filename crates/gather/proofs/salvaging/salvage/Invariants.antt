@@ -1,11 +1,11 @@
-use Rattle.gather.specs.Forms.{made_of}
-use Rattle.gather.specs.Parts.{HaveParts, IsFor}
+use Rattle.holders.specs.Forms.{made_of}
+use Rattle.holders.specs.Parts.{HaveParts, IsFor}
 use Rattle.gather.specs.Claims.{Among}
 use Rattle.gather.proofs.Common.{sum_by, ◌≡◌, ◌⊎◌, ℕ, ◌<◌, List, length, chunk_count}
 use Rattle.gather.specs.Counts.{HasFailedSince, Reports}
-use Rattle.gather.specs.Holders.{AreLater, IsHanded}
-use Rattle.gather.specs.declared.grain.Grain.TheVariants.{Chunk as ByChunk}
-use Rattle.gather.specs.Available.{IsServed}
+use Rattle.holders.specs.Holders.{AreLater, IsHanded}
+use Rattle.holders.specs.declared.grain.Grain.TheVariants.{Chunk as ByChunk}
+use Rattle.holders.specs.Available.{IsServed}
 use Rattle.gather.proofs.salvaging.salvage.Given as goal
 
 abbrev pub invariant-loop-chunk : goal.invariant-loop-chunk

@@ -1,13 +1,13 @@
 use Rattle.gather.proofs.Common.{◌≡◌, ◌⊎◌, ◌∙◌, ◌<◌, ℕ, Option, IfSome, IsSome, IsTrue, false, true, ap, get_or, length, slice_get, sum_by, refl, sym, subst, arith, inl, inr, cases_lt, set-get_or, slice_get_within, Fixed}
-use Rattle.gather.specs.Available.{GivesSlice, IsServed}
+use Rattle.holders.specs.Available.{GivesSlice, IsServed}
 use Rattle.gather.specs.Counts.{Reports}
-use Rattle.gather.specs.Holders.{AreLater, IsHanded}
-use Rattle.gather.specs.Large.{IsTooLarge}
+use Rattle.holders.specs.Holders.{AreLater, IsHanded}
+use Rattle.holders.specs.Blobs.{IsTooLarge}
 use Rattle.gather.proofs.Gaining.{among_onward}
 use Rattle.gather.proofs.Reporting.{among_holders, handed_here, large_wider, later_one, later_then, onward, onward_none}
 use Rattle.gather.proofs.Serving.{fails_from, fails_until, get_set_after, known_some, slice_here}
-use Rattle.gather.specs.Forms.{made_of}
-use Rattle.gather.specs.Parts.{IsFor}
+use Rattle.holders.specs.Forms.{made_of}
+use Rattle.holders.specs.Parts.{IsFor}
 use Rattle.gather.proofs.worker.agree.Goals.{then-is_some-via-else-is_some+then-too_large, then-is_some-via-then-is_some}
 use Rattle.gather.proofs.worker.agree.Goals as goal
 

@@ -1,11 +1,11 @@
-use Rattle.gather.specs.Forms.{made_of}
-use Rattle.gather.specs.Parts.{IsEndIn, IsFor}
+use Rattle.holders.specs.Forms.{made_of}
+use Rattle.holders.specs.Parts.{IsEndIn, IsFor}
 use Rattle.gather.specs.Claims.{Among}
 use Rattle.gather.proofs.Common.{sum_by, ◌≡◌, ◌⊎◌, ℕ, ◌<◌, ◌≤◌, List, IfSome, IsSome, IsTrue, slice_get}
 use Rattle.gather.specs.Counts.{IsToldTooLarge, Reports}
-use Rattle.gather.specs.Holders.{AreLater, IsHanded}
+use Rattle.holders.specs.Holders.{AreLater, IsHanded}
 use Rattle.gather.proofs.worker.agree.Given as goal
-use Rattle.gather.specs.Available.{HasSlice, IsServed}
+use Rattle.holders.specs.Available.{HasSlice, IsServed}
 use Rattle.gather.specs.Counts.{HasFailedSince}
 
 abbrev pub invariant-loop-holder : goal.invariant-loop-holder

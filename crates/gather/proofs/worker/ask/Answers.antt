@@ -1,16 +1,17 @@
 use Rattle.gather.proofs.Common.{Err, ℕ, Fixed, IsOf, ap, length, length_of, refl, sym, subst, arith, piece_of, ◌≡◌, ◌∙◌, ◌/◌, ◌%◌, ◌==◌, false, true, inl, inr, eqb-true, and_parts, both_ways, cases_Bool, Piece, has_bit, in_mask, holds_chunk}
-use Rattle.gather.specs.declared.holder.HolderFault.{HolderFault}
+use Rattle.holders.specs.declared.holder.HolderFault.{HolderFault}
 use Rattle.gather.specs.declared.report.Report.{Report}
 use Rattle.gather.specs.Counts.{Fits, Reports}
-use Rattle.gather.specs.Holders.{IsGiven}
+use Rattle.holders.specs.Holders.{IsGiven}
 use Rattle.gather.proofs.Gaining.{among_and_onward, among_committed}
 use Rattle.gather.proofs.Appending.{appended_all}
 use Rattle.gather.proofs.Reporting.{starved, beside, fetch_fault, fetch_some, lost_or_failed, it_gained, narrowed, none_gained, onward, refused_done, stored_some}
-use Rattle.gather.specs.Available.{slice_of}
+use Rattle.holders.specs.Available.{slice_of}
 use Rattle.gather.proofs.Bits.{in_without}
 use Rattle.gather.proofs.Serving.{fails_from, memory_counts, rest_parts}
-use Rattle.gather.specs.Forms.{checked_len, made_of}
-use Rattle.store_core.specs.Pieces.{holds_parent}
+use Rattle.holders.specs.Forms.{made_of}
+use Rattle.gather.specs.Asked.{checked_len}
+use Rattle.holders.specs.Pieces.{holds_parent}
 use Rattle.gather.proofs.Forming.{made_given, made_no_more, slice_given, slice_lost, slice_made, slice_of_store, slice_refused}
 use Rattle.gather.proofs.worker.ask.Goals as goal
 

@@ -1,12 +1,12 @@
 use Rattle.gather.proofs.Common.{Err, ◌∙◌, ◌≡◌, false, true, ap, inl, inr, refl, sym, subst, Checked, piece_of, IsOf}
-use Rattle.gather.specs.declared.holder.HolderFault.{HolderFault}
-use Rattle.gather.specs.Holders.{IsGiven}
+use Rattle.holders.specs.declared.holder.HolderFault.{HolderFault}
+use Rattle.holders.specs.Holders.{IsGiven}
 use Rattle.gather.proofs.Gaining.{among_onward}
 use Rattle.gather.proofs.Appending.{appended_all}
 use Rattle.gather.proofs.Reporting.{beside, fetch_fault, fetch_large, fetch_some, it_gained, lost_or_failed, narrowed, none_gained, onward, refused_done}
-use Rattle.gather.specs.Available.{slice_of}
+use Rattle.holders.specs.Available.{slice_of}
 use Rattle.gather.proofs.Serving.{holds_last, never_large}
-use Rattle.gather.specs.Forms.{made_of}
+use Rattle.holders.specs.Forms.{made_of}
 use Rattle.gather.proofs.Forming.{end_checked, end_reaches, end_slice, made_given, made_no_more, slice_given, slice_lost, slice_made, slice_of_store, slice_refused}
 use Rattle.gather.proofs.worker.ask_end.Goals as goal
 

@@ -1,11 +1,12 @@
 use Rattle.gather.proofs.Gaining.{among_onward}
 use Rattle.gather.proofs.Reporting.{later_then, onward}
 use Rattle.gather.proofs.Common.{None, Some, ap, ◌∙◌, ◌+◌, ◌*◌, ◌%◌, ◌≡◌, ◌<◌, ◌/◌, ◌==◌, ℕ, length, sym, subst, arith, inl, inr, eqb-true, eq-eqb, mod-lt, both_ways, cases_Bool, cases_lt, chunk_count, Fixed}
-use Rattle.gather.specs.declared.grain.Grain.TheVariants.{Group as ByGroup}
-use Rattle.gather.specs.Available.{IsServed}
+use Rattle.holders.specs.declared.grain.Grain.TheVariants.{Group as ByGroup}
+use Rattle.holders.specs.Available.{IsServed}
 use Rattle.gather.proofs.Serving.{begins_within, fails_from, fails_until, round_meets, wanted_below, wanted_there}
-use Rattle.gather.specs.Forms.{checked_len, made_of}
-use Rattle.gather.specs.Parts.{HaveParts, IsAskedIn, IsFor}
+use Rattle.holders.specs.Forms.{made_of}
+use Rattle.gather.specs.Asked.{checked_len}
+use Rattle.holders.specs.Parts.{HaveParts, IsAskedIn, IsFor}
 use Rattle.gather.proofs.Forming.{asked_reaches, end_at, group_checked, later_parts, length_for, slices_for, slices_parts}
 use Rattle.gather.proofs.worker.work_as.Goals as goal
 

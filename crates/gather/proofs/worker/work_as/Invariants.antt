@@ -1,12 +1,12 @@
-use Rattle.gather.specs.Forms.{made_of}
-use Rattle.gather.specs.Parts.{HaveParts, IsFor}
+use Rattle.holders.specs.Forms.{made_of}
+use Rattle.holders.specs.Parts.{HaveParts, IsFor}
 use Rattle.gather.specs.Claims.{Among}
 use Rattle.gather.proofs.Common.{sum_by, ◌≡◌, ◌⊎◌, ℕ, ◌+◌, ◌/◌, ◌%◌, ◌<◌, List, length, chunk_count}
 use Rattle.gather.specs.Counts.{Reports}
-use Rattle.gather.specs.Holders.{AreLater, IsHanded}
+use Rattle.holders.specs.Holders.{AreLater, IsHanded}
 use Rattle.gather.proofs.worker.work_as.Given as goal
-use Rattle.gather.specs.declared.grain.Grain.TheVariants.{Group as ByGroup}
-use Rattle.gather.specs.Available.{IsServed}
+use Rattle.holders.specs.declared.grain.Grain.TheVariants.{Group as ByGroup}
+use Rattle.holders.specs.Available.{IsServed}
 use Rattle.gather.specs.Counts.{HasFailedSince}
 
 abbrev pub invariant-loop-step : goal.invariant-loop-step

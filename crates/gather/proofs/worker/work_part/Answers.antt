@@ -1,16 +1,17 @@
 use Rattle.gather.proofs.Common.{false, true, refl, ◌<◌, get_or, length, inl, inr, ℕ, ◌≡◌, sym, subst, ◌∙◌, arith, sum_by, set-get_or, slice_get_within, both_ways, cases_Bool, cases_lt, Fixed, in_mask, holds_chunk}
 use Rattle.gather.specs.declared.report.Report.{Report}
 use Rattle.gather.specs.Counts.{Reports}
-use Rattle.gather.specs.Holders.{AreLater, IsHanded}
+use Rattle.holders.specs.Holders.{AreLater, IsHanded}
 use Rattle.gather.specs.Claims.{AmongAnd}
 use Rattle.gather.proofs.Gaining.{among_and_none, among_given}
 use Rattle.gather.proofs.Bits.{in_mask_zero}
 use Rattle.gather.proofs.Reporting.{counted_none, starved, still_gained, later_none, among_holders, later_one, later_then, onward, onward_none}
 use Rattle.gather.proofs.worker.work_part.Goals.{else-loop-holder-test, then-loop-holder-test+then-left-eq0}
-use Rattle.gather.specs.Available.{GivesSlice, IsServed, slice_of}
+use Rattle.holders.specs.Available.{GivesSlice, IsServed, slice_of}
 use Rattle.gather.proofs.Serving.{fails_from, fails_until, memory_counts, get_set_after, slice_here}
-use Rattle.gather.specs.Forms.{checked_len, made_of}
-use Rattle.gather.specs.Parts.{IsFor}
+use Rattle.holders.specs.Forms.{made_of}
+use Rattle.gather.specs.Asked.{checked_len}
+use Rattle.holders.specs.Parts.{IsFor}
 use Rattle.gather.proofs.worker.work_part.Goals as goal
 
 pub loop-holder-preserved : goal.loop-holder-preserved

@@ -1,11 +1,13 @@
-use Rattle.gather.specs.Forms.{checked_len, made_of}
-use Rattle.gather.specs.Parts.{IsFor}
+use Rattle.holders.specs.Forms.{made_of}
+use Rattle.gather.specs.Asked.{checked_len}
+use Rattle.holders.specs.Parts.{IsFor}
 use Rattle.gather.specs.Claims.{AmongAnd}
 use Rattle.gather.proofs.Common.{sum_by, ◌≡◌, ◌⊎◌, ℕ, ◌<◌, ◌≤◌, List, true, false, slice_get, holds_chunk, in_mask}
 use Rattle.gather.specs.Counts.{Reports}
-use Rattle.gather.specs.Holders.{AreLater, IsHanded}
+use Rattle.holders.specs.Holders.{AreLater, IsHanded}
 use Rattle.gather.proofs.worker.work_part.Given as goal
-use Rattle.gather.specs.Available.{HasSlice, IsServed, IsWanted, slice_of}
+use Rattle.gather.specs.Filled.{IsWanted}
+use Rattle.holders.specs.Available.{HasSlice, IsServed, slice_of}
 use Rattle.gather.specs.Counts.{HasFailedSince}
 
 abbrev pub invariant-loop-holder : goal.invariant-loop-holder

@@ -1,6 +1,6 @@
 use Rattle.std.proofs.Common.{ℕ, subst}
 use Rattle.store_core.specs.Masks.{IsMaskOf}
-use Rattle.store_core.specs.Pieces.{holds_parent, piece_of}
+use Rattle.holders.specs.Pieces.{holds_parent, piece_of}
 use Rattle.store_core.proofs.Choosing.{parents_marked}
 use Rattle.store_core.proofs.parents.held_in.Goals as goal
 

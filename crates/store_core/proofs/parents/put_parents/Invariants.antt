@@ -1,5 +1,5 @@
 use Rattle.std.proofs.Common.{ℕ, ◌+◌, ◌*◌, List, Option, None}
-use Rattle.store_core.specs.Pieces.{parent_bytes, piece_of}
+use Rattle.holders.specs.Pieces.{parent_bytes, piece_of}
 use Rattle.store_core.proofs.Putting.{IsPutBelow}
 use Rattle.store_core.proofs.parents.put_parents.Given as goal
 

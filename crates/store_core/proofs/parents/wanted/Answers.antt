@@ -1,6 +1,6 @@
 use Rattle.std.proofs.lemmas.Bool.Decides.{nat_tests}
 use Rattle.std.proofs.Common.{arith}
-use Rattle.store_core.specs.Pieces.{holds_parent, piece_of}
+use Rattle.holders.specs.Pieces.{holds_parent, piece_of}
 use Rattle.store_core.proofs.Choosing.{bit_of, up_to_none}
 use Rattle.store_core.proofs.parents.wanted.Goals as goal
 

@@ -1,5 +1,5 @@
 use Rattle.std.proofs.Common.{is_some, not, ◌&&◌}
-use Rattle.store_core.specs.Pieces.{holds_parent, piece_of}
+use Rattle.holders.specs.Pieces.{holds_parent, piece_of}
 use Rattle.store_core.specs.Slots.{parent_among}
 use Rattle.store_core.proofs.Choosing.{IsMaskUpTo}
 use Rattle.store_core.proofs.parents.wanted.Given as goal

@@ -1,7 +1,7 @@
 use Rattle.std.proofs.lemmas.Bool.Decides.{nat_tests}
 use Rattle.std.proofs.Common.{◌≡◌, ◌≤◌, ◌<◌, ◌+◌, ℕ, List, Option, IsSome, is_some, false, min, nat_lt, ◌∙◌, arith}
 use Rattle.std.proofs.lemmas.Bool.{lt-leb}
-use Rattle.store_core.specs.Pieces.{chunk_bytes, piece_of}
+use Rattle.holders.specs.Pieces.{chunk_bytes, piece_of}
 use Rattle.store_core.proofs.slot.is_in.Goals as goal
 
 -- a number that doesn't fit in 64 bits is after all chunks, and so is the greatest that does

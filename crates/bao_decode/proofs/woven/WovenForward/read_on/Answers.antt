@@ -1,6 +1,6 @@
 use Rattle.std.proofs.Common.{rules, ◌≡◌, ℕ, List, ◌++◌, Bool, if◌then◌else◌, length, drop, min, sym, subst, arith, length-append, length-drop}
 use Rattle.std.proofs.lemmas.Result.{IfOk-weaker}
-use Rattle.bao_read.specs.Given.{ReadsAt}
+use Rattle.b3par.specs.Given.{ReadsAt}
 use Rattle.bao_decode.proofs.Cuttings.{paired}
 use Rattle.bao_decode.proofs.Weavings.{woven_end, woven_read}
 use Rattle.bao_decode.proofs.woven.WovenForward.read_on.Goals as goal

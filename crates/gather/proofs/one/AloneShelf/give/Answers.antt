@@ -1,5 +1,5 @@
 use Rattle.gather.proofs.Common.{Give}
-use Rattle.gather.specs.Holders.{IsNone}
+use Rattle.holders.specs.Holders.{IsNone}
 use Rattle.gather.proofs.Alone.{given, worked_one}
 use Rattle.gather.proofs.one.AloneShelf.give.Goals as goal
 

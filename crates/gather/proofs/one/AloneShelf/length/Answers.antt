@@ -1,5 +1,5 @@
 use Rattle.gather.proofs.Common.{Length, ◌∙◌}
-use Rattle.gather.specs.Holders.{IsNone}
+use Rattle.holders.specs.Holders.{IsNone}
 use Rattle.gather.proofs.Alone.{worked_one}
 use Rattle.gather.proofs.Knowing.{length_records}
 use Rattle.gather.proofs.one.AloneShelf.length.Goals as goal

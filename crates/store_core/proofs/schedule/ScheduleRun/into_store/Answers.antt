@@ -1,7 +1,7 @@
 use Rattle.std.proofs.Common.{subst, ap, ◌∙◌}
 use Rattle.b3tree.specs.Valid.{IsKeyed}
 use Rattle.b3tree.specs.declared.mode.Mode.{Mode}
-use Rattle.store_core.specs.declared.fixed.Fixed.{Fixed}
+use Rattle.holders.specs.declared.fixed.Fixed.{Fixed}
 use Rattle.store_core.proofs.Listed.{replay_binds}
 use Rattle.store_core.proofs.Replaying.{run_done}
 use Rattle.store_core.proofs.schedule.ScheduleRun.into_store.Goals as goal

@@ -1,5 +1,5 @@
 use Rattle.std.proofs.Common.{◌≡◌, ℕ, ◌+◌, ◌*◌, ◌<◌, true}
-use Rattle.store_core.specs.Pieces.{holds_chunk, piece_of}
+use Rattle.holders.specs.Pieces.{holds_chunk, piece_of}
 use Rattle.store_core.specs.Slots.{caller}
 use Rattle.store_core.specs.ScheduleRuns.{is_marked}
 use Rattle.store_core.specs.States.{claims}

@@ -3,7 +3,7 @@ use Rattle.std.proofs.Common.{refl, arith}
 use Rattle.std.specs.Vec.{with_items}
 use Rattle.std.proofs.lemmas.List.{with_items_is}
 use Rattle.store_core.specs.declared.history.Call.TheVariants.{Commit}
-use Rattle.store_core.specs.Pieces.{IsAcceptedPiece, piece_of}
+use Rattle.holders.specs.Pieces.{IsAcceptedPiece, piece_of}
 use Rattle.store_core.specs.Slots.{caller, state_in, with_parents}
 use Rattle.store_core.proofs.BoundStore.{piece_binds}
 use Rattle.store_core.proofs.SlotStates.{IsDone, accepted_piece, commit_done, commit_none, is_of_piece, reached_by}

@@ -4,9 +4,9 @@ use Rattle.std.specs.Vec.{with_items}
 use Rattle.std.proofs.lemmas.List.{with_items_is}
 use Rattle.store_core.specs.declared.history.Call.TheVariants.{Parents}
 use Rattle.store_core.specs.declared.history.Storing.TheVariants.{Stored}
-use Rattle.store_core.specs.Machine.{groups}
+use Rattle.holders.specs.Room.{groups}
 use Rattle.store_core.specs.Names.{Name}
-use Rattle.store_core.specs.Pieces.{IsAcceptedPiece, length_of, piece_of}
+use Rattle.holders.specs.Pieces.{IsAcceptedPiece, length_of, piece_of}
 use Rattle.store_core.specs.Slots.{state_in, with_parents}
 use Rattle.store_core.proofs.BoundStore.{parents_bind}
 use Rattle.store_core.proofs.SlotStates.{IsDone, accepted_piece, reached_by}

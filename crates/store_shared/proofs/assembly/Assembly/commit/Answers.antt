@@ -1,8 +1,8 @@
 use Rattle.std.proofs.Common.{◌<◌, ap, sym, subst, ◌∙◌, arith}
 use Rattle.std.proofs.lemmas.List.{get_or_default}
-use Rattle.store_core.specs.declared.fixed.Fixed.{Fixed}
-use Rattle.store_core.specs.Machine.{groups}
-use Rattle.store_core.specs.Pieces.{piece_of}
+use Rattle.holders.specs.declared.fixed.Fixed.{Fixed}
+use Rattle.holders.specs.Room.{groups}
+use Rattle.holders.specs.Pieces.{piece_of}
 use Rattle.store_shared.specs.Seats.{Gripped}
 use Rattle.store_shared.proofs.Claiming.{claims_ended, none_bind}
 use Rattle.store_shared.proofs.assembly.Assembly.commit.Goals as goal

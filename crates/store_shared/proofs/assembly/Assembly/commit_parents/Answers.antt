@@ -1,7 +1,7 @@
 use Rattle.std.proofs.Common.{sym, subst}
-use Rattle.store_core.specs.declared.history.Piece.{Piece}
+use Rattle.holders.specs.declared.piece.Piece.{Piece}
 use Rattle.store_core.specs.Knowledge.{AreAllNames}
-use Rattle.store_core.specs.Pieces.{piece_of}
+use Rattle.holders.specs.Pieces.{piece_of}
 use Rattle.store_shared.specs.Seats.{Gripped}
 use Rattle.store_shared.proofs.ParentsHeld.{parents_held}
 use Rattle.store_shared.proofs.assembly.Assembly.commit_parents.Goals.{in-Stored, in-OtherLength}

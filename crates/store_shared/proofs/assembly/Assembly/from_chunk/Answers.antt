@@ -1,5 +1,5 @@
 use Rattle.std.proofs.Common.{ap, ◌∙◌, arith}
-use Rattle.store_core.specs.declared.fixed.Fixed.{Fixed}
+use Rattle.holders.specs.declared.fixed.Fixed.{Fixed}
 use Rattle.store_core.specs.Knowledge.{opening_view}
 use Rattle.store_shared.proofs.Claiming.{opening_claims}
 use Rattle.store_shared.proofs.assembly.Assembly.from_chunk.Goals as goal

@@ -1,6 +1,7 @@
 use Rattle.std.proofs.Common.{subst}
 use Rattle.store_shared.specs.Seats.{Gripped}
 use Rattle.store_core.specs.Knowledge.{AreMet}
+use Rattle.store_shared.proofs.OneLine.{one_line}
 use Rattle.store_shared.proofs.Claiming.{met_apart, were_apart, met_claims, met_keeps}
 use Rattle.store_shared.proofs.assembly.Assembly.meet.Goals as goal
 
@@ -27,3 +28,6 @@ returns-clause-apart c = met_apart c.args.first.now.view c.args.second.now.view 
 
 pub returns-clause-were_apart : goal.returns-clause-were_apart
 returns-clause-were_apart c = were_apart c.args.first.now.view c.args.second.now.view c.meet.new.first.view c.meet.new.second.view (returns-clause-met c)
+
+pub returns-clause-one_line : goal.returns-clause-one_line
+returns-clause-one_line c = one_line c.args.first.now.view c.args.second.now.view c.meet.new.first.view c.meet.new.second.view (returns-clause-met c)

@@ -1,7 +1,7 @@
 use Rattle.std.proofs.Common.{subst, sym}
 use Rattle.store_shared.specs.Seats.{Gripped}
 use Rattle.store_shared.specs.Calls.{HasSliceHeld}
-use Rattle.store_shared.proofs.Serving.{held_is_served}
+use Rattle.store_shared.proofs.ServedSlices.{held_is_served}
 use Rattle.store_shared.proofs.assembly.Assembly.serve_slice.Goals as goal
 
 pub returns-clause-held : goal.returns-clause-held

@@ -1,8 +1,8 @@
 use Rattle.std.proofs.Common.{◌≡◌, ◌∙◌, ℕ, true, subst, sym}
 use Rattle.bao_check.specs.declared.checked.Checked.{Checked}
 use Rattle.bao_check.specs.Tail.{tail_piece}
-use Rattle.store_core.specs.declared.fixed.Fixed.{Fixed}
-use Rattle.store_core.specs.Events.{has_room}
+use Rattle.holders.specs.declared.fixed.Fixed.{Fixed}
+use Rattle.holders.specs.Room.{has_room}
 use Rattle.store_core.proofs.SlotStates.{is_of_piece}
 use Rattle.store_shared.specs.Seats.{Gripped}
 use Rattle.store_shared.specs.Calls.{MaySettle, SeatSettles}

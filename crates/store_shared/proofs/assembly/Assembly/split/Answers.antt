@@ -1,6 +1,6 @@
 use Rattle.std.proofs.Common.{ap, sym, ◌∙◌}
-use Rattle.store_core.specs.declared.fixed.Fixed.{Fixed}
-use Rattle.store_core.specs.Machine.{groups}
+use Rattle.holders.specs.declared.fixed.Fixed.{Fixed}
+use Rattle.holders.specs.Room.{groups}
 use Rattle.store_shared.specs.Seats.{Gripped}
 use Rattle.store_shared.proofs.Claiming.{part_second}
 use Rattle.store_shared.proofs.assembly.Assembly.split.Goals as goal

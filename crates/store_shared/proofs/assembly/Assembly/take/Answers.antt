@@ -1,7 +1,7 @@
 use Rattle.std.proofs.Common.{◌<◌, ap, sym, subst, ◌∙◌, arith}
 use Rattle.std.proofs.lemmas.List.{get_or_default}
-use Rattle.store_core.specs.declared.fixed.Fixed.{Fixed}
-use Rattle.store_core.specs.Machine.{groups}
+use Rattle.holders.specs.declared.fixed.Fixed.{Fixed}
+use Rattle.holders.specs.Room.{groups}
 use Rattle.store_shared.specs.Seats.{Gripped}
 use Rattle.store_shared.proofs.Claiming.{claims_took}
 use Rattle.store_shared.proofs.assembly.Assembly.take.Goals as goal

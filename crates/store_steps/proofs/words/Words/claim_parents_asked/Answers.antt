@@ -1,7 +1,7 @@
 use Rattle.std.proofs.Common.{[], ap, arith, bit_or, ltb-true, subst, sym, is_some, nat_lt, not, true, ◌&&◌, ℕ, ◌%◌, ◌-◌, ◌/◌, ◌<◌, ◌∙◌, ◌≡◌}
 use Rattle.std.proofs.lemmas.Bool.{and_parts}
 use Rattle.std.specs.Int.Bits.{bit_and}
-use Rattle.store_core.specs.declared.fixed.Fixed.{Fixed}
+use Rattle.holders.specs.declared.fixed.Fixed.{Fixed}
 use Rattle.store_core.specs.declared.view.SeatView.{SeatView}
 use Rattle.store_core.specs.Histories.{state_after}
 use Rattle.store_core.specs.Knowledge.{AreAllNames}

@@ -1,4 +1,4 @@
-use Rattle.store_core.specs.Pieces.{piece_of}
+use Rattle.holders.specs.Pieces.{piece_of}
 use Rattle.store_steps.proofs.words.Words.length_to_store.Given as goal
 
 abbrev pub ghosts-length_to_store_asked : goal.ghosts-length_to_store_asked

@@ -1,6 +1,6 @@
 use Rattle.std.proofs.Common.{sym, subst}
-use Rattle.store_core.specs.declared.history.Piece.{Piece}
-use Rattle.store_core.specs.Pieces.{IsAcceptedPiece}
+use Rattle.holders.specs.declared.piece.Piece.{Piece}
+use Rattle.holders.specs.Pieces.{IsAcceptedPiece}
 use Rattle.store_core.proofs.SlotStates.{accepted_piece}
 use Rattle.store_steps.specs.Plays.{LoadsToStore}
 use Rattle.store_steps.proofs.Looking.{length_to_store_steps}

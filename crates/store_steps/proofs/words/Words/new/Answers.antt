@@ -1,6 +1,6 @@
 use Rattle.std.proofs.Common.{◌≡◌, List, [], ◌∷◌, replicate, ℕ, sym, ap, subst, ◌∙◌}
 use Rattle.atomic_table.specs.Table.{opening}
-use Rattle.store_core.specs.declared.fixed.Fixed.{Fixed}
+use Rattle.holders.specs.declared.fixed.Fixed.{Fixed}
 use Rattle.store_core.specs.Knowledge.{opening_view}
 use Rattle.store_steps.specs.Layout.{word_count}
 use Rattle.store_steps.specs.Rule.{RuleHolds}

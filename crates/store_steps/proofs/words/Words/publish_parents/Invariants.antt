@@ -1,4 +1,4 @@
-use Rattle.store_core.specs.Pieces.{piece_of}
+use Rattle.holders.specs.Pieces.{piece_of}
 use Rattle.store_steps.proofs.words.Words.publish_parents.Given as goal
 
 abbrev pub ghosts-publish_parents_asked : goal.ghosts-publish_parents_asked

@@ -1,8 +1,8 @@
 use Rattle.std.proofs.Common.{◌≡◌, ℕ, Some, slice_index, sym, subst}
 use Rattle.std.specs.Int.Bits.{bit_or}
-use Rattle.store_core.specs.declared.history.Piece.{Piece}
+use Rattle.holders.specs.declared.piece.Piece.{Piece}
 use Rattle.store_core.specs.Histories.{state_after}
-use Rattle.store_core.specs.Pieces.{length_of, piece_of}
+use Rattle.holders.specs.Pieces.{length_of, piece_of}
 use Rattle.store_core.proofs.SlotStates.{accepted_piece}
 use Rattle.store_steps.specs.Asks.{AreParentsWritten}
 use Rattle.store_steps.specs.Grips.{Gripped, first_of}

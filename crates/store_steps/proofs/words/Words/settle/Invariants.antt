@@ -1,4 +1,4 @@
-use Rattle.store_core.specs.Pieces.{piece_of}
+use Rattle.holders.specs.Pieces.{piece_of}
 use Rattle.bao_check.specs.Tail.{tail_piece}
 use Rattle.store_steps.proofs.words.Words.settle.Given as goal
 

@@ -1,8 +1,8 @@
 use Rattle.std.proofs.Common.{slice_index, ◌+◌, ◌==◌, ℕ, sym, subst}
 use prog.Atomic.{either}
 use Rattle.bao_check.specs.Tail.{tail_piece}
-use Rattle.store_core.specs.declared.history.Piece.{Piece}
-use Rattle.store_core.specs.Pieces.{piece_of}
+use Rattle.holders.specs.declared.piece.Piece.{Piece}
+use Rattle.holders.specs.Pieces.{piece_of}
 use Rattle.store_core.proofs.SlotStates.{accepted_piece}
 use Rattle.store_steps.specs.Grips.{first_of}
 use Rattle.store_steps.specs.Layout.{length_place}

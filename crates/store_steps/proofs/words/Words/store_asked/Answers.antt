@@ -1,5 +1,5 @@
 use Rattle.std.proofs.Common.{◌<◌, ◌+◌, ◌*◌, ℕ, sym, subst, ◌∙◌}
-use Rattle.store_core.specs.declared.fixed.Fixed.{Fixed}
+use Rattle.holders.specs.declared.fixed.Fixed.{Fixed}
 use Rattle.store_steps.specs.Grips.{Gripped}
 use Rattle.store_steps.specs.Kinds.{Kind, Owns, width, word_place}
 use Rattle.store_steps.specs.Tells.{Stores}

@@ -1,0 +1,8 @@
+use Rattle.bao_text.specs.Choice.{of_outboard}
+use Rattle.b3par.proofs.encodings.outboard_source.Goals as goal
+
+pub returns-clause-all : goal.returns-clause-all
+returns-clause-all g c = c.chosen_source.ensures.all of_outboard c.of_outboard-choice.ensures
+
+pub returns-clause-some : goal.returns-clause-some
+returns-clause-some g c = c.chosen_source.ensures.some of_outboard c.of_outboard-choice.ensures

@@ -1,4 +1,0 @@
-use Rattle.bao_read.proofs.tree.+trees.Given as goal
-
-abbrev pub decreases-tree_over : goal.decreases-tree_over
-decreases-tree_over g l = l.len

@@ -1,9 +1,0 @@
-pub mod Common
-pub mod Summing
-pub mod Sharing
-pub mod Knowing
-pub mod Finishing
-pub mod Alone
-pub mod HandedOver
-pub mod Giving
-pub mod InTurn

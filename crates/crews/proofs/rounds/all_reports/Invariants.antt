@@ -1,6 +1,0 @@
-use Rattle.crews.proofs.Common.{◌≡◌, take}
-use Rattle.crews.specs.Crews.{all_of}
-use Rattle.crews.proofs.rounds.all_reports.Given as goal
-
-abbrev pub invariant-loop-crew : goal.invariant-loop-crew
-invariant-loop-crew g l = l.all ≡ all_of (take l.crew-index l.crews)

@@ -1,6 +1,0 @@
-use Rattle.bao_check.specs.Waiting.{IsAcceptedAs}
-use Rattle.determined_check.proofs.Fed.{one_flag}
-use Rattle.determined_check.proofs.feeding.is_done_determined.Goals as goal
-
-pub returns : goal.returns
-returns c task taken a b = one_flag c.is_done.result c.is_done-2.result (IsAcceptedAs task taken) (c.is_done.ensures task taken a) (c.is_done-2.ensures task taken b)

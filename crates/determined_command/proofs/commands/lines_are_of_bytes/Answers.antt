@@ -1,5 +1,0 @@
-use Rattle.determined_command.proofs.Below.{right_bytes}
-use Rattle.determined_command.proofs.commands.lines_are_of_bytes.Goals as goal
-
-pub returns : goal.returns
-returns c = right_bytes

@@ -1,4 +1,0 @@
-//! That the contracts of `bao_command` determine what its functions answer, as far as they do.
-#![tactic(auto)]
-
-mod commands;

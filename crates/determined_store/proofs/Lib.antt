@@ -1,5 +1,0 @@
-pub mod Agreeing
-pub mod Bits
-pub mod Replayed
-pub mod Running
-pub mod Clashing

@@ -1,5 +1,0 @@
-use Rattle.determined_store.proofs.Clashing.{one_is_accepted}
-use Rattle.determined_store.proofs.pieces.one_piece_is_accepted.Goals as goal
-
-pub returns : goal.returns
-returns c = one_is_accepted c.served_binds.ensures.accepted

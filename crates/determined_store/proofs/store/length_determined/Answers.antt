@@ -1,5 +1,0 @@
-use Rattle.determined_store.proofs.Agreeing.{lengths_agree}
-use Rattle.determined_store.proofs.store.length_determined.Goals as goal
-
-pub returns : goal.returns
-returns c = lengths_agree c.args.a.now c.args.b.now c.length.result c.length-2.result c.requires c.length.ensures.event c.length-2.ensures.event

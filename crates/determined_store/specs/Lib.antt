@@ -1,3 +1,0 @@
-pub mod Agreeing
-pub mod Runs
-pub mod OnePiece

@@ -1,0 +1,4 @@
+pub mod Runs
+pub mod OnePiece
+pub mod Alone
+pub mod Serves

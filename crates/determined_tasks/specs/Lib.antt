@@ -1,4 +1,0 @@
-pub mod Blobs
-pub mod Copies
-pub mod Replays
-pub mod Lacks

@@ -1,0 +1,13 @@
+pub mod Values
+pub mod Sent
+pub mod SameHashers
+pub mod OneFault
+pub mod Spans
+pub mod OneText
+pub mod Fed
+pub mod Decoding
+pub mod Same
+pub mod Offsets
+pub mod Left
+pub mod Audited
+pub mod Pushed

@@ -1,0 +1,13 @@
+//! That the contracts of `b3word`, `b3tree`, `bao_text`, `bao_check` and `bao_bind` determine what their functions
+//! answer: each function here asks one of theirs twice, of the same, and what it ensures is that both answers are equal.
+#![tactic(auto)]
+
+mod audits;
+mod checks;
+mod feeding;
+mod outboards;
+mod pieces;
+mod streams;
+mod tree;
+mod words;
+mod writing;

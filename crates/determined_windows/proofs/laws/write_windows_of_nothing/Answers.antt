@@ -1,8 +1,0 @@
-use Rattle.bao_windows.specs.Windows.{IsFrom, fixed_for}
-use Rattle.determined_windows.proofs.Blobs.{nothing_written}
-use Rattle.determined_windows.proofs.laws.write_windows_of_nothing.Goals as goal
-
-pub returns : goal.returns
-returns g c =
-    nothing_written (IsFrom c.args.wanted.now g.S.Source.contents g.S.Source.faultless c.args.sources.now) (fixed_for c.args.wanted.now) 0 (g.W.Write.contents c.args.out.now)
-    (g.W.Write.contents c.write_windows.new.out) c.requires c.write_windows.ensures.begun

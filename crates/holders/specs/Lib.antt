@@ -1,0 +1,13 @@
+pub mod Room
+pub mod Pieces
+pub mod Blobs
+pub mod Holders
+pub mod Given
+pub mod Encodings
+pub mod Forms
+pub mod Plains
+pub mod Places
+pub mod Reads
+pub mod Available
+pub mod Lists
+pub mod Parts
