@@ -10,8 +10,8 @@
  *   - A pointer to non-const is passed to one parameter of one call at a time. What is passed as
  *     const may be shared.
  *   - A buffer has at most SIZE_MAX / 2 bytes.
- *   - The two seats of bw_seat_join and bw_seat_meet come from the same bw_store_new or
- *     bw_store_part, or their stores differ in root, mode, capacity or first chunk.
+ *   - The two seats of bw_seat_join come from the same bw_seat_new, or their stores differ in root,
+ *     mode, capacity or first chunk.
  *   - malloc, realloc and free belong to one allocator and align to 16.
  *   - No call is made from a signal handler, or in the forked child of a process with threads.
  *   - The calling thread has a stack of at least 64 KiB.
@@ -51,7 +51,7 @@ extern "C" {
 #endif
 
 /* The version of this header: 10,000 * major + 100 * minor + patch. */
-#define BW_VERSION 100
+#define BW_VERSION 200
 
 #define BW_HASH_LEN 32
 #define BW_CHUNK_LEN 1024
@@ -80,6 +80,11 @@ extern "C" {
 #define BW_NODE_NONE 3
 
 typedef uint32_t bw_status;
+
+/* Whether a status means that memory was refused. */
+#define BW_IS_MEMORY(status)                                                                       \
+    ((status) == BW_TEXT_MEMORY || (status) == BW_STORE_MEMORY || (status) == BW_SPLIT_MEMORY ||   \
+     (status) == BW_SERVE_MEMORY || (status) == BW_MEMORY)
 
 enum {
     BW_OK = 0,
@@ -111,10 +116,9 @@ enum {
     BW_DIFFERS = 1206,       /* another length is recorded */
     BW_NOT_UTF8 = 1207,      /* the context isn't UTF-8 */
     BW_PAST_OUTPUT = 1208,   /* the output asked for ends above 2^64 - 1 */
-    BW_NO_OUTBOARD = 1209,   /* the outboard encoding isn't accepted */
     BW_NO_CHUNKS = 1210,     /* the blob doesn't have so many chunks there */
     BW_OTHER_STORE = 1211,   /* the seats' stores differ in root, mode, capacity or first chunk */
-    BW_OTHER_SIZE = 1212,    /* the number of bytes isn't what a check in pieces takes */
+    BW_OTHER_SIZE = 1212,    /* the next node has to be passed to bw_feed_take first */
     BW_NO_MODE = 1213,       /* the mode's kind is unknown */
     BW_NO_HOLDER = 1214,     /* the plan has no such holder */
     BW_NO_REQUEST = 1215     /* no such request is under way */
@@ -130,11 +134,26 @@ const char *bw_strerror(bw_status status);
  * derivation (BW_MODE_DERIVE_KEY), which bw_mode_derive makes. {0} is plain hashing.
  *
  * A call with a mode of another kind returns BW_NO_MODE before all else; a handle that it would
- * have filled is empty then. bw_hash, which returns no status, takes it for plain hashing. */
+ * have filled is empty then. */
 typedef struct bw_mode {
     uint32_t kind;
     uint8_t key[32];
 } bw_mode;
+
+/* What an encoding is checked as: the slice (start, len) of the blob whose hash in `mode` is
+ * `root`. */
+typedef struct bw_slice {
+    bw_mode mode;
+    uint8_t root[32];
+    uint64_t start;
+    uint64_t len;
+} bw_slice;
+
+/* The `count` chunks of a blob from chunk `first` on. */
+typedef struct bw_chunks {
+    uint64_t first;
+    uint64_t count;
+} bw_chunks;
 
 /* The inputs of one compression (BLAKE3 paper, 2.2). */
 typedef struct bw_input {
@@ -174,7 +193,7 @@ typedef struct bw_range {
     uint64_t len;
 } bw_range;
 
-/* What bw_gather and bw_seat_salvage did. A count stays at 2^64 - 1 once there.
+/* What bw_seat_gather and bw_seat_salvage did. A count stays at 2^64 - 1 once there.
  *
  * The fields are the chunks committed, the parents stored, the slices asked for, the encodings that
  * a check refused, the fetches whose device failed (always 0 here), the refusals of memory, and 1
@@ -191,11 +210,11 @@ typedef struct bw_report {
 
 /* A handle owns a hasher, a check in pieces, an outline, a seat or a plan, or is empty.
  *
- * Set it to BW_EMPTY before its first use, and end with the bw_.._free of its kind. It has one
- * owner: it may be moved as bytes, but using a copy beside it is undefined behaviour. Only this
- * library reads or writes `at` and what it points to. A handle may go from one thread to another by
- * anything that orders memory: a thread's start or join, a lock, a sequentially consistent atomic.
- * Each kind has its own type, so that a compiler refuses one in place of another. */
+ * Set it to BW_EMPTY before its first use, and end with bw_free. It has one owner: it may be moved
+ * as bytes, but using a copy beside it is undefined behaviour. Only this library reads or writes
+ * `at` and what it points to. A handle may go from one thread to another by anything that orders
+ * memory: a thread's start or join, a lock, a sequentially consistent atomic. Each kind has its own
+ * type, so that a compiler refuses one in place of another. */
 typedef struct bw_hasher {
     void *at;
 } bw_hasher;
@@ -212,53 +231,36 @@ typedef struct bw_seat {
     void *at;
 } bw_seat;
 
+typedef struct bw_plan {
+    void *at;
+} bw_plan;
+
 #define BW_EMPTY {NULL}
 
 /* Frees what a handle of any kind owns, if anything, and leaves it empty.
  *
- * An empty handle may be freed again, and NULL does nothing. This is for other languages and for
- * code that handles every kind alike: the compiler can't check that the pointer is to a handle. */
+ * An empty handle may be freed again, and NULL does nothing. In C11, GCC and Clang refuse a pointer
+ * to anything but a handle; other languages pass a handle's address. */
 void bw_free(void *handle);
-
-/* Frees what a handle of one kind owns, as bw_free does. */
-static inline void bw_hasher_free(bw_hasher *hasher) { bw_free(hasher); }
-static inline void bw_feed_free(bw_feed *feed) { bw_free(feed); }
-static inline void bw_outline_free(bw_outline *outline) { bw_free(outline); }
-static inline void bw_seat_free(bw_seat *seat) { bw_free(seat); }
 
 /* Returns the version of the library that is linked, in the form of BW_VERSION. */
 uint32_t bw_version(void);
-
-/* Returns 1 if the status means that memory was refused, else 0.
- *
- * It is 1 for BW_TEXT_MEMORY, BW_STORE_MEMORY, BW_SPLIT_MEMORY, BW_SERVE_MEMORY and BW_MEMORY. */
-uint32_t bw_is_memory(bw_status status);
 
 /* --- Hashes */
 
 /* Makes the mode that derives keys for the purpose that `context` names.
  *
  * `context` is UTF-8. The mode's `key` is the hash of the context, which isn't secret. In this mode
- * bw_hash and bw_xof return the keys that bw_derive_key does, and encodings and stores take it as
- * they take any mode. BW_NOT_UTF8: *mode is unchanged. */
+ * the hash of a key's material is the derived key, and encodings and stores take it as they take
+ * any mode. BW_NOT_UTF8: *mode is unchanged. */
 BW_USE bw_status bw_mode_derive(const uint8_t *context, size_t context_len,
                                 bw_mode *mode) BW_NONNULL(3);
 
-/* Computes the hash of `bytes`. */
-void bw_hash(const bw_mode *mode, const uint8_t *bytes, size_t len,
-             uint8_t out[BW_AT_LEAST(BW_HASH_LEN)]) BW_NONNULL(1);
-
 /* Computes `out_len` bytes of extended output of `bytes`, from byte `at` of the output on.
  *
- * BW_PAST_OUTPUT. */
-BW_USE bw_status bw_xof(const bw_mode *mode, const uint8_t *bytes, size_t len, uint64_t at,
-                        uint8_t *out, size_t out_len) BW_NONNULL(1);
-
-/* Derives a key of `out_len` bytes from `material`, for the purpose that `context` names.
- *
- * `context` is UTF-8. BW_NOT_UTF8. */
-BW_USE bw_status bw_derive_key(const uint8_t *context, size_t context_len, const uint8_t *material,
-                               size_t material_len, uint8_t *out, size_t out_len);
+ * Its first BW_HASH_LEN bytes are the hash: that is `at` 0. BW_PAST_OUTPUT. */
+BW_USE bw_status bw_hash(const bw_mode *mode, const uint8_t *bytes, size_t len, uint64_t at,
+                         uint8_t *out, size_t out_len) BW_NONNULL(1);
 
 /* Makes a hasher that has no input yet.
  *
@@ -271,17 +273,11 @@ BW_USE bw_status bw_hasher_new(const bw_mode *mode, bw_hasher *hasher) BW_NONNUL
 BW_USE bw_status bw_hasher_update(bw_hasher *hasher, const uint8_t *bytes,
                                   size_t len) BW_NONNULL(1);
 
-/* Computes the hash of a hasher's input so far. More input may follow.
- *
- * BW_NO_HANDLE. */
-BW_USE bw_status bw_hasher_finish(bw_hasher *hasher,
-                                  uint8_t out[BW_AT_LEAST(BW_HASH_LEN)]) BW_NONNULL(1);
-
-/* Computes extended output of a hasher's input so far, as bw_xof does. More input may follow.
+/* Computes extended output of a hasher's input so far, as bw_hash does. More input may follow.
  *
  * BW_NO_HANDLE, BW_PAST_OUTPUT. */
-BW_USE bw_status bw_hasher_xof(bw_hasher *hasher, uint64_t at, uint8_t *out,
-                               size_t out_len) BW_NONNULL(1);
+BW_USE bw_status bw_hasher_finish(bw_hasher *hasher, uint64_t at, uint8_t *out,
+                                  size_t out_len) BW_NONNULL(1);
 
 /* --- Encodings written, to the front of `out`, with their length in *used. BW_TEXT_MEMORY.
  * BW_ROOM: `out` is unchanged, and *used is the length needed. */
@@ -311,11 +307,6 @@ BW_USE bw_status bw_encode(const bw_mode *mode, const uint8_t *bytes, size_t len
 BW_USE bw_status bw_outboard(const bw_mode *mode, const uint8_t *bytes, size_t len, uint8_t *out,
                              size_t out_len, size_t *used,
                              uint8_t root[BW_AT_LEAST(BW_HASH_LEN)]) BW_NONNULL(1, 6);
-
-/* Writes the slice (start, slice_len) of a blob, and the hash of the whole blob to `root`. */
-BW_USE bw_status bw_slice(const bw_mode *mode, const uint8_t *bytes, size_t len, uint64_t start,
-                          uint64_t slice_len, uint8_t *out, size_t out_len, size_t *used,
-                          uint8_t root[BW_AT_LEAST(BW_HASH_LEN)]) BW_NONNULL(1, 8);
 
 /* Copies a slice out of a combined encoding, and verifies nothing. What isn't there is left out. */
 BW_USE bw_status bw_cut_slice(const uint8_t *text, size_t text_len, uint64_t start, uint64_t len,
@@ -365,69 +356,42 @@ BW_USE bw_status bw_slice_nodes(uint64_t total, uint64_t start, uint64_t len, bw
 BW_USE bw_status bw_node_at(uint64_t total, uint64_t start, uint64_t len, uint64_t at,
                             bw_placed *node) BW_NONNULL(5);
 
-/* --- Encodings checked: BW_OK exactly if the encoding is accepted under `root`, else a check
- * fault. No memory is taken. */
+/* --- Encodings checked: BW_OK exactly if an encoding is accepted as the slice, else a check fault.
+ * No memory is taken. */
 
-/* Checks `text` as the slice (start, len). */
-BW_USE bw_status bw_check_slice(const bw_mode *mode, const uint8_t root[BW_AT_LEAST(BW_HASH_LEN)],
-                                uint64_t start, uint64_t len, const uint8_t *text, size_t text_len,
-                                uint64_t *at) BW_NONNULL(1, 7);
+/* Checks `text` as a slice. */
+BW_USE bw_status bw_check(const bw_slice *slice, const uint8_t *text, size_t text_len,
+                          uint64_t *at) BW_NONNULL(1, 4);
 
-/* Checks `text` as the combined encoding. */
-BW_USE bw_status bw_check_combined(const bw_mode *mode,
-                                   const uint8_t root[BW_AT_LEAST(BW_HASH_LEN)],
-                                   const uint8_t *text, size_t text_len,
-                                   uint64_t *at) BW_NONNULL(1, 5);
-
-/* Checks `text` as the outboard encoding. */
-BW_USE bw_status bw_check_outboard(const bw_mode *mode,
-                                   const uint8_t root[BW_AT_LEAST(BW_HASH_LEN)],
-                                   const uint8_t *text, size_t text_len,
-                                   uint64_t *at) BW_NONNULL(1, 5);
-
-/* Checks a range of a plain copy against the blob's outboard encoding, which is checked as well.
- *
- * `chunks` has chunks `first` to `first + count - 1` of the blob, and begins with byte 1,024 *
- * first of the copy. BW_NO_OUTBOARD: bw_check_outboard returns the fault. BW_NO_CHUNKS. For a check
- * fault *at is an offset in `chunks`. */
-BW_USE bw_status bw_check_bare(const bw_mode *mode, const uint8_t root[BW_AT_LEAST(BW_HASH_LEN)],
-                               const uint8_t *outboard, size_t outboard_len, uint64_t first,
-                               uint64_t count, const uint8_t *chunks, size_t chunks_len,
-                               uint64_t *at) BW_NONNULL(1, 9);
-
-/* Checks `text` as the slice (start, len), and copies the blob's bytes of that range to the front
- * of `out`.
+/* Checks `text` as a slice, and copies the blob's bytes of its range to the front of `out`.
  *
  * These are `len` bytes from byte `start` on, or those before the blob's end; *used is their
  * number. *total is the blob's length if the encoding certifies it by having the last chunk, else
  * 2^64 - 1. Nothing is written to `out` before all is verified. A check fault. BW_ROOM, before all
  * else: `out` is unchanged, and *used is how many bytes there would be. */
-BW_USE bw_status bw_decode(const bw_mode *mode, const uint8_t root[BW_AT_LEAST(BW_HASH_LEN)],
-                           uint64_t start, uint64_t len, const uint8_t *text, size_t text_len,
+BW_USE bw_status bw_decode(const bw_slice *slice, const uint8_t *text, size_t text_len,
                            uint8_t *out, size_t out_len, size_t *used, uint64_t *total,
-                           uint64_t *at) BW_NONNULL(1, 9, 10, 11);
+                           uint64_t *at) BW_NONNULL(1, 6, 7, 8);
 
-/* Checks `text` as the slice (start, len), and compares it with a blob.
+/* Checks `text` as a slice, and compares it with a blob.
  *
  * BW_OK: it is accepted, each of its chunks is the blob's, and if it certifies a length, that is
  * the blob's. A check fault. BW_OTHER_BLOB: the blob's hash isn't the root. BW_COLLISION: hashing
  * the blob compresses *ours, checking the encoding compresses *theirs, and the two differ and have
  * the same chaining value. */
-BW_USE bw_status bw_audit(const bw_mode *mode, const uint8_t root[BW_AT_LEAST(BW_HASH_LEN)],
-                          uint64_t start, uint64_t len, const uint8_t *text, size_t text_len,
+BW_USE bw_status bw_audit(const bw_slice *slice, const uint8_t *text, size_t text_len,
                           const uint8_t *blob, size_t blob_len, uint64_t *at, bw_input *ours,
-                          bw_input *theirs) BW_NONNULL(1, 9, 10, 11);
+                          bw_input *theirs) BW_NONNULL(1, 6, 7, 8);
 
 /* --- Outlines: an outline is an outboard encoding that was checked once and is kept. Beside it,
  * bytes of plain copies are checked, made into slices and stored, whoever supplied them, at the
- * cost of these bytes alone. `chunks` has the bytes of chunks `first` to `first + count - 1` of the
- * blob, from byte 1,024 * first on to where the last of them ends. Each call but bw_outline_new may
- * return BW_NO_HANDLE. */
+ * cost of these bytes alone. `chunks` has the bytes of the chunks `which` of the blob, from byte
+ * 1,024 * first on to where the last of them ends. Each call but bw_outline_new may return
+ * BW_NO_HANDLE. */
 
-/* Checks an outboard encoding as bw_check_outboard does, and makes an outline of a copy of it.
+/* Checks an outboard encoding, and makes an outline of a copy of it.
  *
- * What the handle owned is freed. A check fault, BW_MEMORY: the handle is empty. For an encoding
- * that arrives in parts see bw_feed_outboard. */
+ * What the handle owned is freed. A check fault, BW_MEMORY: the handle is empty. */
 BW_USE bw_status bw_outline_new(const bw_mode *mode, const uint8_t root[BW_AT_LEAST(BW_HASH_LEN)],
                                 const uint8_t *outboard, size_t outboard_len, bw_outline *outline,
                                 uint64_t *at) BW_NONNULL(1, 5, 6);
@@ -447,9 +411,9 @@ BW_USE bw_status bw_outline_length(bw_outline *outline, uint64_t *len) BW_NONNUL
  *
  * A check fault, with an offset in `chunks`. BW_NO_CHUNKS: `count` is 0, or the blob has no such
  * chunks. No memory is taken. */
-BW_USE bw_status bw_outline_check(bw_outline *outline, uint64_t first, uint64_t count,
+BW_USE bw_status bw_outline_check(bw_outline *outline, const bw_chunks *which,
                                   const uint8_t *chunks, size_t chunks_len,
-                                  uint64_t *at) BW_NONNULL(1, 6);
+                                  uint64_t *at) BW_NONNULL(1, 2, 5);
 
 /* Checks chunks as bw_outline_check does, and writes their slice (1,024 * first, 1,024 * count) to
  * the front of `out`, with its length in *used.
@@ -457,52 +421,30 @@ BW_USE bw_status bw_outline_check(bw_outline *outline, uint64_t first, uint64_t 
  * This is what a server of a plain file sends. The slice of the last chunk is what bw_seat_settle
  * needs. The faults of bw_outline_check come first. BW_ROOM: *used is the length needed, which is
  * bw_slice_len of the outline's length. BW_TEXT_MEMORY. After either `out` is unchanged. */
-BW_USE bw_status bw_outline_slice(bw_outline *outline, uint64_t first, uint64_t count,
+BW_USE bw_status bw_outline_slice(bw_outline *outline, const bw_chunks *which,
                                   const uint8_t *chunks, size_t chunks_len, uint8_t *out,
-                                  size_t out_len, size_t *used, uint64_t *at) BW_NONNULL(1, 8, 9);
+                                  size_t out_len, size_t *used,
+                                  uint64_t *at) BW_NONNULL(1, 2, 7, 8);
 
 /* Checks chunks as bw_outline_check does, and stores them and the parents above them, as
- * bw_seat_commit_all does.
+ * bw_seat_commit does.
  *
  * BW_OTHER_ROOT, before all else. A check fault. BW_NO_CHUNKS. BW_OTHER_LENGTH: nothing is stored.
  * No memory is taken. */
-BW_USE bw_status bw_outline_commit(bw_outline *outline, bw_seat *seat, uint64_t first,
-                                   uint64_t count, const uint8_t *chunks, size_t chunks_len,
-                                   uint64_t *committed, uint64_t *parents,
-                                   uint64_t *at) BW_NONNULL(1, 2, 7, 8, 9);
+BW_USE bw_status bw_outline_commit(bw_outline *outline, bw_seat *seat, const bw_chunks *which,
+                                   const uint8_t *chunks, size_t chunks_len, uint64_t *committed,
+                                   uint64_t *parents, uint64_t *at) BW_NONNULL(1, 2, 3, 6, 7, 8);
 
 /* --- Encodings checked in pieces: the nodes of an encoding are verified while they arrive, and
  * none of their bytes are kept. What is accepted, and else the first fault and its offset, are
- * those of bw_check_slice and bw_check_combined. Pass whatever arrives to bw_feed_take_many, which
- * returns the blob's bytes, and at the end of the encoding pass what is left to bw_feed_finish. Or
- * ask bw_feed_wants for the size of the next node, and pass exactly that to bw_feed_take. Only the
- * first two calls take memory; each of the others may return BW_NO_HANDLE. */
+ * those of bw_check. Pass whatever arrives to bw_feed_take, which returns the blob's bytes, and at
+ * the end of the encoding pass what is left to bw_feed_finish. Only bw_feed_new takes memory; the
+ * other calls may return BW_NO_HANDLE. */
 
-/* Makes a check of the slice (start, len) that has no bytes yet.
+/* Makes a check of a slice that has no bytes yet.
  *
  * What the handle owned is freed. BW_MEMORY: the handle is empty. */
-BW_USE bw_status bw_feed_slice(const bw_mode *mode, const uint8_t root[BW_AT_LEAST(BW_HASH_LEN)],
-                               uint64_t start, uint64_t len, bw_feed *feed) BW_NONNULL(1, 5);
-
-/* Makes a check of the combined encoding that has no bytes yet.
- *
- * What the handle owned is freed. BW_MEMORY: the handle is empty. */
-BW_USE bw_status bw_feed_combined(const bw_mode *mode, const uint8_t root[BW_AT_LEAST(BW_HASH_LEN)],
-                                  bw_feed *feed) BW_NONNULL(1, 3);
-
-/* Returns the kind of the next node in *node, and its size in bytes in *size.
- *
- * BW_NODE_LENGTH has 8 bytes, BW_NODE_PARENT 64, and BW_NODE_CHUNK 1 to 1,024. *node is
- * BW_NODE_NONE, with a size of 0, exactly if the bytes accepted so far are an accepted encoding. */
-BW_USE bw_status bw_feed_wants(bw_feed *feed, uint32_t *node, size_t *size) BW_NONNULL(1, 2, 3);
-
-/* Verifies the next node. If it is a chunk, its bytes are the blob's next ones.
- *
- * BW_MISMATCH: every encoding that begins with the bytes accepted and this node has its first fault
- * at *at. BW_TOO_MUCH, with 0 in *at. BW_OTHER_SIZE: `node` doesn't have the size wanted, or
- * nothing is wanted. After a fault the check is unchanged, and other bytes can be tried. */
-BW_USE bw_status bw_feed_take(bw_feed *feed, const uint8_t *node, size_t node_len,
-                              uint64_t *at) BW_NONNULL(1, 4);
+BW_USE bw_status bw_feed_new(const bw_slice *slice, bw_feed *feed) BW_NONNULL(1, 2);
 
 /* Verifies as many whole nodes as `bytes` begins with, and copies the bytes of their chunks, which
  * are the blob's next ones, to the front of `out`.
@@ -516,9 +458,9 @@ BW_USE bw_status bw_feed_take(bw_feed *feed, const uint8_t *node, size_t node_le
  * bytes accepted and these has its first fault at *at. BW_TOO_MUCH, with 0 in *at. After either of
  * these two, nodes before the fault may have been accepted, and `out` is 0: begin a new check after
  * the bytes that earlier calls returned. */
-BW_USE bw_status bw_feed_take_many(bw_feed *feed, const uint8_t *bytes, size_t bytes_len,
-                                   uint8_t *out, size_t out_len, size_t *taken, size_t *filled,
-                                   uint64_t *at) BW_NONNULL(1, 6, 7, 8);
+BW_USE bw_status bw_feed_take(bw_feed *feed, const uint8_t *bytes, size_t bytes_len, uint8_t *out,
+                              size_t out_len, size_t *taken, size_t *filled,
+                              uint64_t *at) BW_NONNULL(1, 6, 7, 8);
 
 /* Returns the verdict on the encoding that consists of the bytes accepted so far and then `rest`.
  *
@@ -528,60 +470,26 @@ BW_USE bw_status bw_feed_take_many(bw_feed *feed, const uint8_t *bytes, size_t b
 BW_USE bw_status bw_feed_finish(bw_feed *feed, const uint8_t *rest, size_t rest_len,
                                 uint64_t *at) BW_NONNULL(1, 4);
 
-/* --- Outboard encodings checked in pieces, of any size, while they arrive, and kept: a complete
- * one becomes an outline. What is accepted, and else the first fault and its offset, are those of
- * bw_check_outboard. Pass whatever arrives to bw_feed_push, and then call bw_feed_outline. Each
- * call but bw_feed_outboard may return BW_NO_HANDLE, as it does for a handle that bw_feed_slice or
- * bw_feed_combined filled; their calls do so for one that bw_feed_outboard filled. */
-
-/* Makes a check of an outboard encoding that has no bytes yet.
- *
- * What the handle owned is freed. BW_MEMORY: the handle is empty. */
-BW_USE bw_status bw_feed_outboard(const bw_mode *mode, const uint8_t root[BW_AT_LEAST(BW_HASH_LEN)],
-                                  bw_feed *feed) BW_NONNULL(1, 3);
-
-/* Appends `bytes`, and verifies each parent as soon as it is complete.
- *
- * BW_MISMATCH: a parent is false. BW_TRAILING: something follows the last. Every outboard encoding
- * that begins with the bytes kept and these has its first fault at *at. BW_MEMORY. After a fault
- * none of `bytes` are kept, and others can be passed in their place. */
-BW_USE bw_status bw_feed_push(bw_feed *feed, const uint8_t *bytes, size_t bytes_len,
-                              uint64_t *at) BW_NONNULL(1, 4);
-
-/* Makes an outline of the encoding that arrived, as bw_outline_new does, without hashing or copying
- * it again.
- *
- * `feed` is empty afterwards, and what `outline` owned is freed. The length isn't certified, as
- * bw_outline_length says. BW_SHORT: the encoding isn't complete; the next node is at *at, and more
- * can be passed. BW_MEMORY: `feed` is empty. After either `outline` is empty. */
-BW_USE bw_status bw_feed_outline(bw_feed *feed, bw_outline *outline,
-                                 uint64_t *at) BW_NONNULL(1, 2, 3);
-
 /* --- The store that threads share: each thread has a seat of its own, and the store lives until
  * its last seat is freed. All that it holds comes from encodings accepted under its root. Chunks
  * are in groups of 64, and a mask is of one group: bit j stands for chunk 64 * group + j. Chunks,
  * groups and the offsets of a read are counted from the store's first chunk, and the range of a
- * slice from the blob's; in a store of bw_store_new the two are the same. Each call may return
- * BW_NO_HANDLE. */
+ * slice from the blob's. Each call but bw_seat_new may return BW_NO_HANDLE. */
 
-/* Makes a store of at most `capacity` chunks, 1 to 65,536, and its first seat.
+/* Makes a store of `capacity` chunks of a blob, 1 to 65,536, from chunk `first_chunk` on, and its
+ * first seat. With 0 for `first_chunk` it is the store of a blob, else of a part of one.
  *
  * All memory is taken now: some 1,096 bytes a chunk, so at most 72 MB. What the handle owned is
- * freed. BW_CAPACITY, BW_STORE_MEMORY, BW_MEMORY: the handle is empty. */
-BW_USE bw_status bw_store_new(const bw_mode *mode, const uint8_t root[BW_AT_LEAST(BW_HASH_LEN)],
-                              uint32_t capacity, bw_seat *seat) BW_NONNULL(1, 4);
-
-/* Makes a store of a part of a blob: of `capacity` chunks from chunk `first_chunk` of the blob on,
- * which is the store's chunk 0; else as bw_store_new.
+ * freed. BW_CAPACITY, also if `first_chunk` is above 2^54, BW_STORE_MEMORY, BW_MEMORY: the handle
+ * is empty.
  *
- * BW_CAPACITY also if `first_chunk` is above 2^54. Only a store from chunk 0 on records a length,
- * and only if all of the blob fits. In a store from a later chunk on bw_seat_settle returns
- * BW_TOO_LARGE for each certified length, bw_seat_length and bw_seat_finish BW_UNFINISHED,
- * bw_seat_commit_all, bw_seat_commit_parents and bw_outline_commit BW_OTHER_LENGTH, and
- * bw_seat_serve_slice BW_NO_LENGTH; bw_gather and bw_seat_salvage commit nothing. */
-BW_USE bw_status bw_store_part(const bw_mode *mode, const uint8_t root[BW_AT_LEAST(BW_HASH_LEN)],
-                               uint64_t first_chunk, uint32_t capacity,
-                               bw_seat *seat) BW_NONNULL(1, 5);
+ * Only a store from chunk 0 on records a length, and only if all of the blob fits. In any other
+ * bw_seat_settle returns BW_TOO_LARGE for each certified length, bw_seat_length and bw_seat_finish
+ * BW_UNFINISHED, bw_seat_commit and bw_outline_commit BW_OTHER_LENGTH, and bw_seat_slice
+ * BW_NO_LENGTH; bw_seat_gather and bw_seat_salvage commit nothing. */
+BW_USE bw_status bw_seat_new(const bw_mode *mode, const uint8_t root[BW_AT_LEAST(BW_HASH_LEN)],
+                             uint64_t first_chunk, uint32_t capacity,
+                             bw_seat *seat) BW_NONNULL(1, 5);
 
 /* Makes `other` another seat of the store, which has seen the same and claims nothing.
  *
@@ -596,12 +504,6 @@ BW_USE bw_status bw_seat_split(bw_seat *seat, bw_seat *other) BW_NONNULL(1, 2);
  * first chunk; both handles are unchanged. Stores that are alike in these can't be told apart: not
  * mixing them up is one of the rules above. No memory is taken. */
 BW_USE bw_status bw_seat_join(bw_seat *seat, bw_seat *other) BW_NONNULL(1, 2);
-
-/* Lets two seats of one store see what either has seen.
- *
- * Claims and the results of later calls are unaffected; it exists for proofs. BW_OTHER_STORE, and
- * the calling thread, as for bw_seat_join. */
-BW_USE bw_status bw_seat_meet(bw_seat *seat, bw_seat *other) BW_NONNULL(1, 2);
 
 /* Claims those chunks of `want` that are neither held nor claimed; *granted is their mask.
  *
@@ -622,11 +524,11 @@ BW_USE bw_status bw_seat_give(bw_seat *seat, uint32_t group, uint64_t mask,
  * seat claims none of the slice's chunks. A check fault. BW_OTHER_LENGTH: nothing is stored,
  * because the encoding claims another length than the recorded one, or none is recorded: call
  * bw_seat_settle first. */
-BW_USE bw_status bw_seat_commit_all(bw_seat *seat, uint64_t start, uint64_t len,
-                                    const uint8_t *text, size_t text_len, uint64_t *committed,
-                                    uint64_t *parents, uint64_t *at) BW_NONNULL(1, 6, 7, 8);
+BW_USE bw_status bw_seat_commit(bw_seat *seat, uint64_t start, uint64_t len, const uint8_t *text,
+                                size_t text_len, uint64_t *committed, uint64_t *parents,
+                                uint64_t *at) BW_NONNULL(1, 6, 7, 8);
 
-/* Checks `text` as the slice (start, len), and stores its chunks as bw_seat_commit_all does, but no
+/* Checks `text` as the slice (start, len), and stores its chunks as bw_seat_commit does, but no
  * parents.
  *
  * No length needs to be recorded, so this works for a part of a blob too. Chunks that the store has
@@ -641,14 +543,6 @@ BW_USE bw_status bw_seat_commit_chunks(bw_seat *seat, uint64_t start, uint64_t l
  * chunk of an empty blob has no byte, and is never reported. BW_NO_GROUP. */
 BW_USE bw_status bw_seat_held(bw_seat *seat, uint32_t group, uint64_t *mask) BW_NONNULL(1, 3);
 
-/* Checks `text` as the slice (start, len), stores exactly those chunks of the group that the seat
- * claims and the encoding has, and ends these claims; *committed is their mask.
- *
- * No parents are stored, and without them no slice is served. A check fault. */
-BW_USE bw_status bw_seat_commit(bw_seat *seat, uint32_t group, uint64_t start, uint64_t len,
-                                const uint8_t *text, size_t text_len, uint64_t *committed,
-                                uint64_t *at) BW_NONNULL(1, 7, 8);
-
 /* Checks `text` as the slice (2^64 - 1, 1), which has the last chunk, and records the length that
  * it certifies, if none is recorded.
  *
@@ -656,16 +550,6 @@ BW_USE bw_status bw_seat_commit(bw_seat *seat, uint32_t group, uint64_t start, u
  * returns the certified length. */
 BW_USE bw_status bw_seat_settle(bw_seat *seat, const uint8_t *text, size_t text_len,
                                 uint64_t *at) BW_NONNULL(1, 4);
-
-/* Checks `text` as the slice (start, len), and stores its parents at boundaries of the group: bit j
- * of *stored stands for the parent whose right child begins at chunk 64 * group + j.
- *
- * A slice's parents are in several groups, the top one of 64 MiB in group 512, so storing those of
- * the chunks' own group doesn't make the slice one that the store can serve; bw_seat_commit_all
- * does. A check fault, BW_OTHER_LENGTH. */
-BW_USE bw_status bw_seat_commit_parents(bw_seat *seat, uint32_t group, uint64_t start, uint64_t len,
-                                        const uint8_t *text, size_t text_len, uint64_t *stored,
-                                        uint64_t *at) BW_NONNULL(1, 7, 8);
 
 /* Gathers from one encoding: the round of worker `number` of `workers`, which are numbered from 0.
  *
@@ -679,13 +563,14 @@ BW_USE bw_status bw_seat_commit_parents(bw_seat *seat, uint32_t group, uint64_t 
  *
  * What was done is added to *report, which begins as all 0. BW_OK also if nothing was committed. If
  * several seats gathered at once, join them when all have ended, and let the one seat call
- * bw_gather(&seat, 0, 1, ..) once more with each encoding. A group that is still missing then is
- * damaged in every encoding: see bw_seat_salvage. */
-BW_USE bw_status bw_gather(bw_seat *seat, uint32_t number, uint32_t workers, const uint8_t *text,
-                           size_t text_len, bw_report *report) BW_NONNULL(1, 6);
+ * bw_seat_gather(&seat, 0, 1, ..) once more with each encoding. A group that is still missing then
+ * is damaged in every encoding: see bw_seat_salvage. */
+BW_USE bw_status bw_seat_gather(bw_seat *seat, uint32_t number, uint32_t workers,
+                                const uint8_t *text, size_t text_len,
+                                bw_report *report) BW_NONNULL(1, 6);
 
-/* Gathers from one encoding as one worker's bw_gather does, but chunk by chunk, so that a damaged
- * chunk costs no other.
+/* Gathers from one encoding as one worker's bw_seat_gather does, but chunk by chunk, so that a
+ * damaged chunk costs no other.
  *
  * It is for groups that are damaged in every encoding. It asks for each chunk that isn't held, and
  * each costs the parents above it. */
@@ -709,9 +594,9 @@ BW_USE bw_status bw_seat_read(bw_seat *seat, uint64_t from, uint8_t *out, size_t
  *
  * BW_NO_LENGTH, BW_LACKING, BW_SERVE_MEMORY. BW_ROOM: *used is the length needed, which is
  * bw_slice_len of the recorded length. */
-BW_USE bw_status bw_seat_serve_slice(bw_seat *seat, uint64_t start, uint64_t len, uint8_t *out,
-                                     size_t out_len, size_t *used,
-                                     bw_node *lacking) BW_NONNULL(1, 6, 7);
+BW_USE bw_status bw_seat_slice(bw_seat *seat, uint64_t start, uint64_t len, uint8_t *out,
+                               size_t out_len, size_t *used,
+                               bw_node *lacking) BW_NONNULL(1, 6, 7);
 
 /* Writes the whole blob to the front of `out`, and its length to *used, if the hash of its bytes is
  * the root.
@@ -760,13 +645,6 @@ typedef struct bw_plan_next {
     uint64_t count;    /* .. and how many it has, 1 to 1,024 */
     uint64_t until_ms; /* BW_NEXT_WAIT: the moment, after now_ms */
 } bw_plan_next;
-
-typedef struct bw_plan {
-    void *at;
-} bw_plan;
-
-/* Frees a plan, and leaves the handle empty. */
-static inline void bw_plan_free(bw_plan *plan) { bw_free(plan); }
 
 /* Makes a plan of a blob of `total` bytes that lacks every chunk and has no holder.
  *
@@ -846,6 +724,14 @@ BW_USE bw_status bw_plan_lacking(bw_plan *plan, uint64_t group, uint64_t *mask) 
 
 #ifdef __cplusplus
 }
+#endif
+
+/* A compiler refuses to free what is no handle. */
+#if defined(__STDC_VERSION__) && __STDC_VERSION__ >= 201112L
+#define bw_free(handle)                                                                            \
+    bw_free(_Generic((handle), bw_hasher *: (handle), bw_feed *: (handle),                         \
+                     bw_outline *: (handle), bw_seat *: (handle), bw_plan *: (handle),             \
+                     void *: (handle)))
 #endif
 
 #endif

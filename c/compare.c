@@ -4,13 +4,12 @@
  *
  * Each time is the least of several. It fails where a call fails, or where other bytes are read than were stored. */
 #define _POSIX_C_SOURCE 199309L
-#include "berylwool.h"
+#include "tests.h"
 
 #include <pthread.h>
 #include <stdatomic.h>
 #include <stdio.h>
 #include <stdlib.h>
-#include <string.h>
 #include <time.h>
 
 enum { ROUNDS = 5, READS = 4, CALLS = 100000, GROUP_LEN = BW_GROUP_CHUNKS * BW_CHUNK_LEN, MOST_THREADS = 4, KIB = 1 << 10, MIB = 1 << 20 };
@@ -94,10 +93,10 @@ static size_t groups_of(size_t len) {
 
 static void *commit_share(void *arg) {
     share *it = arg;
-    uint64_t mask = 0, at = 0;
+    uint64_t committed = 0, at = 0;
     for (size_t k = 0; k < groups_of(it->len); k++) {
         uint64_t start = it->at + k * GROUP_LEN;
-        MUST(bw_seat_commit(&it->seat, (uint32_t)(start / GROUP_LEN), start, GROUP_LEN, it->slices + k * slice_room, it->slice_lens[k], &mask, &at) == BW_OK);
+        MUST(bw_seat_commit_chunks(&it->seat, start, GROUP_LEN, it->slices + k * slice_room, it->slice_lens[k], &committed, &at) == BW_OK);
     }
     return NULL;
 }
@@ -132,14 +131,11 @@ static void share_times(const blob *it, int count, double *committed, double *re
     share shares[MOST_THREADS];
     bw_seat first = BW_EMPTY;
     size_t part = (groups_of(it->len) + (size_t)count - 1) / (size_t)count * GROUP_LEN;
-    MUST(bw_store_new(&plain, it->root, 65536, &first) == BW_OK);
+    MUST(bw_seat_new(&plain, it->root, 0, 65536, &first) == BW_OK);
     for (int k = 0; k < count; k++) {
         size_t at = (size_t)k * part < it->len ? (size_t)k * part : it->len, len = part < it->len - at ? part : it->len - at;
-        uint64_t mask = 0;
         shares[k] = (share){BW_EMPTY, at, len, it->slices + at / GROUP_LEN * slice_room, it->slice_lens + at / GROUP_LEN, it->read + at};
         MUST(bw_seat_split(&first, &shares[k].seat) == BW_OK);
-        for (size_t j = 0; j < groups_of(len); j++)
-            MUST(bw_seat_take(&shares[k].seat, (uint32_t)(at / GROUP_LEN + j), UINT64_MAX, &mask) == BW_OK);
     }
     double took = timed(commit_share, shares, count);
     if (took < *committed) *committed = took;
@@ -148,7 +144,7 @@ static void share_times(const blob *it, int count, double *committed, double *re
     if (took < *read) *read = took;
     MUST(memcmp(it->read, it->bytes, it->len) == 0);
     for (int k = 0; k < count; k++) MUST(bw_seat_join(&first, &shares[k].seat) == BW_OK);
-    bw_seat_free(&first);
+    bw_free(&first);
 }
 
 static void shared(const uint8_t *bytes, size_t len) {
@@ -163,8 +159,8 @@ static void shared(const uint8_t *bytes, size_t len) {
         share_times(&it, 1, &committed_one, &read_one);
         share_times(&it, 4, &committed_four, &read_four);
     }
-    print("bw_seat_commit by one thread", committed_one);
-    print("bw_seat_commit by four threads", committed_four);
+    print("bw_seat_commit_chunks by one thread", committed_one);
+    print("bw_seat_commit_chunks by four threads", committed_four);
     print("bw_seat_read by one thread", read_one);
     print("bw_seat_read by four threads", read_four);
     free(text), free(it.slices), free(it.slice_lens), free(it.read);
@@ -174,65 +170,42 @@ static void shared(const uint8_t *bytes, size_t len) {
 static void calls(const uint8_t *bytes) {
     uint8_t root[BW_HASH_LEN], out[BW_HASH_LEN];
     uint64_t len = 0, mask = 0;
-    uint32_t node = 0;
     size_t count = 0;
     bw_range ranges[BW_RANGES_MAX];
     static bw_placed nodes[BW_NODES_MAX(BW_GROUP_CHUNKS + 1)];
     bw_hasher hasher = BW_EMPTY;
     bw_seat seat = BW_EMPTY, other = BW_EMPTY;
     bw_feed feed = BW_EMPTY;
-    bw_hash(&plain, bytes, 0, root);
-    MUST(bw_hasher_new(&plain, &hasher) == BW_OK && bw_store_new(&plain, root, 65536, &seat) == BW_OK && bw_feed_combined(&plain, root, &feed) == BW_OK);
+    MUST(bw_hash(&plain, bytes, 0, 0, root, sizeof root) == BW_OK && bw_hasher_new(&plain, &hasher) == BW_OK && bw_seat_new(&plain, root, 0, 65536, &seat) == BW_OK && bw_feed_new(of(&plain, root, 0, UINT64_MAX), &feed) == BW_OK);
     TIME_CALLS("bw_hasher_update of no bytes", CALLS, bw_hasher_update(&hasher, bytes, 0));
     TIME_CALLS("bw_seat_length", CALLS, bw_seat_length(&seat, &len));
     TIME_CALLS("bw_seat_take and bw_seat_give", CALLS, bw_seat_take(&seat, 3, UINT64_MAX, &mask) | bw_seat_give(&seat, 3, UINT64_MAX, &mask));
     TIME_CALLS("bw_seat_held", CALLS / 10, bw_seat_held(&seat, 3, &mask));
     TIME_CALLS("bw_seat_split and bw_seat_join", CALLS / 10, bw_seat_split(&seat, &other) | bw_seat_join(&seat, &other));
-    TIME_CALLS("bw_seat_split and bw_seat_meet", CALLS / 10, bw_seat_split(&seat, &other) | bw_seat_meet(&seat, &other));
     TIME_CALLS("bw_hasher_new", CALLS, bw_hasher_new(&plain, &hasher));
-    TIME_CALLS("bw_hasher_finish of no bytes", CALLS / 10, bw_hasher_finish(&hasher, out));
-    TIME_CALLS("bw_feed_wants", CALLS, bw_feed_wants(&feed, &node, &count));
-    TIME_CALLS("bw_feed_slice", CALLS, bw_feed_slice(&plain, root, 0, 1, &feed));
+    TIME_CALLS("bw_hasher_finish of no bytes", CALLS / 10, bw_hasher_finish(&hasher, 0, out, BW_HASH_LEN));
+    TIME_CALLS("bw_feed_new", CALLS, bw_feed_new(of(&plain, root, 0, 1), &feed));
     TIME_CALLS("bw_slice_len of 64 KiB", CALLS, bw_slice_len(most, most / 3, GROUP_LEN));
     TIME_CALLS("bw_slice_ranges of 64 KiB", CALLS, bw_slice_ranges(most, most / 3, GROUP_LEN, ranges, BW_RANGES_MAX, &count));
     TIME_CALLS("bw_outboard_ranges of 64 KiB", CALLS, bw_outboard_ranges(most, most / 3, GROUP_LEN, ranges, BW_RANGES_MAX, &count));
     TIME_CALLS("bw_slice_nodes of 64 KiB", CALLS, bw_slice_nodes(most, most / 3, GROUP_LEN, nodes, BW_NODES_MAX(BW_GROUP_CHUNKS + 1), &count));
     TIME_CALLS("bw_node_at of 64 KiB", CALLS, bw_node_at(most, most / 3, GROUP_LEN, GROUP_LEN, nodes));
-    TIME_CALLS("bw_hash of no bytes", CALLS, (bw_hash(&plain, bytes, 0, out), BW_OK));
-    TIME_CALLS("bw_derive_key of no bytes", CALLS, bw_derive_key(bytes, 0, bytes, 0, out, sizeof out));
-    bw_hasher_free(&hasher), bw_seat_free(&seat), bw_seat_free(&other), bw_feed_free(&feed);
+    TIME_CALLS("bw_hash of no bytes", CALLS, bw_hash(&plain, bytes, 0, 0, out, sizeof out));
+    bw_free(&hasher), bw_free(&seat), bw_free(&other), bw_free(&feed);
 }
 
-/* An encoding is given in pieces of so many bytes, or node by node for 0. */
+/* An encoding is given in pieces of so many bytes. */
 static bw_status pour(const uint8_t *root, const uint8_t *text, size_t len, size_t piece, uint8_t *out) {
     bw_feed feed = BW_EMPTY;
     uint64_t at = 0;
-    uint32_t node = 0;
-    size_t had = 0, filled = 0, size = 0;
-    bw_status status = bw_feed_combined(&plain, root, &feed);
+    size_t had = 0, filled = 0;
+    bw_status status = bw_feed_new(of(&plain, root, 0, UINT64_MAX), &feed);
     for (size_t done = 0; status == BW_OK && done < len; done += had) {
         size_t some = len - done < piece ? len - done : piece;
-        if (piece) {
-            status = bw_feed_take_many(&feed, text + done, some, out, some, &had, &filled, &at);
-            continue;
-        }
-        status = bw_feed_wants(&feed, &node, &size);
-        if (status == BW_OK) status = bw_feed_take(&feed, text + done, had = size, &at);
+        status = bw_feed_take(&feed, text + done, some, out, some, &had, &filled, &at);
     }
     if (status == BW_OK) status = bw_feed_finish(&feed, text, 0, &at);
-    bw_feed_free(&feed);
-    return status;
-}
-
-/* An outboard encoding that comes in pieces of 64 KiB, and its outline. */
-static bw_status push(const uint8_t *root, const uint8_t *text, size_t len, bw_outline *outline) {
-    bw_feed feed = BW_EMPTY;
-    uint64_t at = 0;
-    bw_status status = bw_feed_outboard(&plain, root, &feed);
-    for (size_t done = 0; status == BW_OK && done < len; done += GROUP_LEN)
-        status = bw_feed_push(&feed, text + done, len - done < GROUP_LEN ? len - done : GROUP_LEN, &at);
-    if (status == BW_OK) status = bw_feed_outline(&feed, outline, &at);
-    bw_feed_free(&feed);
+    bw_free(&feed);
     return status;
 }
 
@@ -244,9 +217,9 @@ static bw_status beside(bw_outline *outline, bw_seat *seat, const uint8_t *bytes
     for (size_t from = 0; status == BW_OK && from < len; from += GROUP_LEN) {
         size_t some = len - from < GROUP_LEN ? len - from : GROUP_LEN;
         uint64_t first = from / BW_CHUNK_LEN, count = (some + BW_CHUNK_LEN - 1) / BW_CHUNK_LEN;
-        if (seat) status = bw_outline_commit(outline, seat, first, count, bytes + from, some, &committed, &parents, &at);
-        else if (out) status = bw_outline_slice(outline, first, count, bytes + from, some, out, slice_room, &used, &at);
-        else status = bw_outline_check(outline, first, count, bytes + from, some, &at);
+        if (seat) status = bw_outline_commit(outline, seat, CHUNKS(first, count), bytes + from, some, &committed, &parents, &at);
+        else if (out) status = bw_outline_slice(outline, CHUNKS(first, count), bytes + from, some, out, slice_room, &used, &at);
+        else status = bw_outline_check(outline, CHUNKS(first, count), bytes + from, some, &at);
     }
     return status;
 }
@@ -257,8 +230,8 @@ static bw_status update(const uint8_t *bytes, size_t len, size_t piece) {
     bw_hasher hasher = BW_EMPTY;
     bw_status status = bw_hasher_new(&plain, &hasher);
     for (size_t from = 0; status == BW_OK && from < len; from += piece) status = bw_hasher_update(&hasher, bytes + from, len - from < piece ? len - from : piece);
-    if (status == BW_OK) status = bw_hasher_finish(&hasher, out);
-    bw_hasher_free(&hasher);
+    if (status == BW_OK) status = bw_hasher_finish(&hasher, 0, out, BW_HASH_LEN);
+    bw_free(&hasher);
     return status;
 }
 
@@ -271,27 +244,22 @@ static void first_bytes(const uint8_t *bytes, size_t len) {
     bw_input ours, theirs;
     bw_outline outline = BW_EMPTY;
     MUST(len >= 2 * MIB);
-    TIME("bw_hash of the first 64 MiB", (bw_hash(&plain, bytes, len, again), BW_OK));
+    TIME("bw_hash of the first 64 MiB", bw_hash(&plain, bytes, len, 0, again, sizeof again));
     TIME("bw_hasher_update in pieces of 64 KiB", update(bytes, len, GROUP_LEN));
     TIME("bw_hasher_update in pieces of 1 MiB", update(bytes, len, MIB));
-    TIME("bw_xof of 1 MiB", bw_xof(&plain, bytes, 0, 0, out, MIB));
+    TIME("bw_hash with 1 MiB of output", bw_hash(&plain, bytes, 0, 0, out, MIB));
     TIME("bw_encode", bw_encode(&plain, bytes, len, text, text_len, &used, root));
     TIME("bw_outboard", bw_outboard(&plain, bytes, len, bare, bare_len, &used, root));
-    TIME("bw_slice of 1 MiB", bw_slice(&plain, bytes, len, MIB, MIB, out, text_len, &used, root));
     TIME("bw_cut_slice of 1 MiB", bw_cut_slice(text, text_len, MIB, MIB, out, text_len, &used));
-    TIME("bw_check_slice of 1 MiB", bw_check_slice(&plain, root, MIB, MIB, out, used, &at));
-    TIME("bw_check_outboard", bw_check_outboard(&plain, root, bare, bare_len, &at));
-    TIME("bw_check_bare", bw_check_bare(&plain, root, bare, bare_len, 0, (len + BW_CHUNK_LEN - 1) / BW_CHUNK_LEN, bytes, len, &at));
-    TIME("bw_audit", bw_audit(&plain, root, 0, UINT64_MAX, text, text_len, bytes, len, &at, &ours, &theirs));
-    TIME("bw_decode", bw_decode(&plain, root, 0, UINT64_MAX, text, text_len, out, text_len, &used, &total, &at));
-    TIME("bw_feed_take_many in pieces of 64 KiB", pour(root, text, text_len, GROUP_LEN, out));
-    TIME("bw_feed_take_many in pieces of 256 KiB", pour(root, text, text_len, 4 * GROUP_LEN, out));
-    TIME("bw_feed_take", pour(root, text, text_len, 0, out));
-    TIME("bw_feed_push", push(root, bare, bare_len, &outline));
+    TIME("bw_check of 1 MiB", bw_check(of(&plain, root, MIB, MIB), out, used, &at));
+    TIME("bw_audit", bw_audit(of(&plain, root, 0, UINT64_MAX), text, text_len, bytes, len, &at, &ours, &theirs));
+    TIME("bw_decode", bw_decode(of(&plain, root, 0, UINT64_MAX), text, text_len, out, text_len, &used, &total, &at));
+    TIME("bw_feed_take in pieces of 64 KiB", pour(root, text, text_len, GROUP_LEN, out));
+    TIME("bw_feed_take in pieces of 256 KiB", pour(root, text, text_len, 4 * GROUP_LEN, out));
     TIME("bw_outline_new", bw_outline_new(&plain, root, bare, bare_len, &outline, &at));
     TIME("bw_outline_check", beside(&outline, NULL, bytes, len, NULL));
     TIME("bw_outline_slice", beside(&outline, NULL, bytes, len, out));
-    bw_outline_free(&outline);
+    bw_free(&outline);
     free(text), free(bare), free(out);
 }
 
@@ -304,16 +272,16 @@ static void stores(const uint8_t *bytes, size_t len) {
     bw_seat seat = BW_EMPTY;
     bw_outline outline = BW_EMPTY;
     bw_node lacking;
-    double made = 1e9, parted = 1e9, all = 1e9, chunks = 1e9, bare_ones = 1e9, gathered = 1e9, salvaged = 1e9, settled = 1e9, apart = 1e9;
+    double made = 1e9, parted = 1e9, all = 1e9, chunks = 1e9, bare_ones = 1e9, gathered = 1e9, salvaged = 1e9, settled = 1e9;
     MUST(bw_encode(&plain, bytes, len, text, text_len, &used, root) == BW_OK && bw_outboard(&plain, bytes, len, bare, bare_len, &used, root) == BW_OK);
     MUST(bw_outline_new(&plain, root, bare, bare_len, &outline, &at) == BW_OK);
     for (int k = 0; k < ROUNDS; k++) {
         bw_report report = {0, 0, 0, 0, 0, 0, 0};
-        bw_seat_free(&seat);
+        bw_free(&seat);
         double from = now();
-        MUST(bw_store_part(&plain, root, 4096, 4096, &seat) == BW_OK);
-        note(&parted, from), bw_seat_free(&seat), from = now();
-        MUST(bw_store_new(&plain, root, 65536, &seat) == BW_OK);
+        MUST(bw_seat_new(&plain, root, 4096, 4096, &seat) == BW_OK);
+        note(&parted, from), bw_free(&seat), from = now();
+        MUST(bw_seat_new(&plain, root, 0, 65536, &seat) == BW_OK);
         note(&made, from), from = now();
         MUST(bw_seat_commit_chunks(&seat, 0, UINT64_MAX, text, text_len, &committed, &at) == BW_OK);
         note(&chunks, from);
@@ -321,32 +289,28 @@ static void stores(const uint8_t *bytes, size_t len) {
         from = now();
         MUST(bw_seat_settle(&seat, slice, used, &at) == BW_OK);
         note(&settled, from), from = now();
-        for (uint32_t group = 0; group < groups_of(len); group++)
-            MUST(bw_cut_slice(text, text_len, (uint64_t)group * GROUP_LEN, GROUP_LEN, slice, slice_room, &used) == BW_OK
-                 && bw_seat_commit_parents(&seat, group, (uint64_t)group * GROUP_LEN, GROUP_LEN, slice, used, &parents, &at) == BW_OK);
-        note(&apart, from), from = now();
         MUST(bw_seat_salvage(&seat, text, text_len, &report) == BW_OK);
         note(&salvaged, from);
-        MUST(bw_store_new(&plain, root, 65536, &seat) == BW_OK);
+        MUST(bw_seat_new(&plain, root, 0, 65536, &seat) == BW_OK);
         from = now();
-        MUST(bw_gather(&seat, 0, 1, text, text_len, &report) == BW_OK && report.refused == 0);
+        MUST(bw_seat_gather(&seat, 0, 1, text, text_len, &report) == BW_OK && report.refused == 0);
         note(&gathered, from);
         for (int bare_too = 0; bare_too < 2; bare_too++) {
-            MUST(bw_store_new(&plain, root, 65536, &seat) == BW_OK && bw_cut_slice(text, text_len, UINT64_MAX, 1, slice, slice_room, &used) == BW_OK);
+            MUST(bw_seat_new(&plain, root, 0, 65536, &seat) == BW_OK && bw_cut_slice(text, text_len, UINT64_MAX, 1, slice, slice_room, &used) == BW_OK);
             MUST(bw_seat_settle(&seat, slice, used, &at) == BW_OK);
             from = now();
             if (bare_too) MUST(beside(&outline, &seat, bytes, len, NULL) == BW_OK);
-            else MUST(bw_seat_commit_all(&seat, 0, UINT64_MAX, text, text_len, &committed, &parents, &at) == BW_OK);
+            else MUST(bw_seat_commit(&seat, 0, UINT64_MAX, text, text_len, &committed, &parents, &at) == BW_OK);
             note(bare_too ? &bare_ones : &all, from);
         }
     }
-    print("bw_store_new", made), print("bw_store_part of 4 MiB", parted), print("bw_seat_commit_chunks", chunks), print("bw_seat_commit_all", all);
-    print("bw_seat_settle", settled), print("bw_seat_commit_parents", apart), print("bw_outline_commit", bare_ones);
-    print("bw_gather", gathered), print("bw_seat_salvage of a full store", salvaged);
-    TIME("bw_seat_serve_slice of 1 MiB", bw_seat_serve_slice(&seat, MIB, MIB, out, len, &used, &lacking));
+    print("bw_seat_new", made), print("bw_seat_new of 4 MiB", parted), print("bw_seat_commit_chunks", chunks), print("bw_seat_commit", all);
+    print("bw_seat_settle", settled), print("bw_outline_commit", bare_ones);
+    print("bw_seat_gather", gathered), print("bw_seat_salvage of a full store", salvaged);
+    TIME("bw_seat_slice of 1 MiB", bw_seat_slice(&seat, MIB, MIB, out, len, &used, &lacking));
     TIME("bw_seat_finish", bw_seat_finish(&seat, out, len, &used));
     MUST(used == len && memcmp(out, bytes, len) == 0);
-    bw_seat_free(&seat), bw_outline_free(&outline);
+    bw_free(&seat), bw_free(&outline);
     free(text), free(bare), free(slice), free(out);
 }
 
@@ -367,9 +331,9 @@ static void store_memory(void) {
     static const uint8_t root[BW_HASH_LEN];
     bw_seat seat = BW_EMPTY;
     size_t before = kib_of("VmRSS:");
-    MUST(bw_store_new(&plain, root, 65536, &seat) == BW_OK);
+    MUST(bw_seat_new(&plain, root, 0, 65536, &seat) == BW_OK);
     printf("a shared store keeps: %zu KiB\na shared store takes at most: %zu KiB\n", kib_of("VmRSS:") - before, kib_of("VmHWM:") - before);
-    bw_seat_free(&seat);
+    bw_free(&seat);
 }
 
 /* The first MiB in pieces, each hashed by itself as a small file is. The lengths take turns. */
@@ -381,7 +345,7 @@ static void small(const uint8_t *bytes) {
     for (int turn = 0; turn < TURNS; turn++)
         for (int i = 0; i < LENS; i++) {
             double from = now();
-            for (size_t at = 0; at < MIB; at += kib[i] * KIB) bw_hash(&plain, bytes + at, kib[i] * KIB, out);
+            for (size_t at = 0; at < MIB; at += kib[i] * KIB) MUST(bw_hash(&plain, bytes + at, kib[i] * KIB, 0, out, sizeof out) == BW_OK);
             note(&least[i], from);
         }
     for (int i = 0; i < LENS; i++) {
@@ -401,7 +365,7 @@ static void *hash_pieces(void *arg) {
     pieces *it = arg;
     uint8_t out[BW_HASH_LEN];
     while (atomic_fetch_sub(&it->left, 16) > 0)
-        for (int k = 0; k < 16; k++) bw_hash(&plain, it->bytes, 16 * KIB, out);
+        for (int k = 0; k < 16; k++) MUST(bw_hash(&plain, it->bytes, 16 * KIB, 0, out, sizeof out) == BW_OK);
     return NULL;
 }
 
@@ -443,21 +407,21 @@ static void groups(const uint8_t *bytes, size_t len) {
     for (int k = 0; k < 2 * ROUNDS; k++) {
         int is_full = k % 2;
         bw_seat seat = BW_EMPTY;
-        MUST(bw_store_new(&plain, root, is_full ? 65536 : 64, &seat) == BW_OK);
+        MUST(bw_seat_new(&plain, root, 0, is_full ? 65536 : 64, &seat) == BW_OK);
         double from = now();
         for (int i = 0; i < TAKES; i++) kept = bw_seat_take(&seat, 0, UINT64_MAX, &mask) | bw_seat_give(&seat, 0, UINT64_MAX, &mask);
         note(&taken[is_full], from);
-        MUST(bw_store_new(&plain, root, 65536, &seat) == BW_OK);
+        MUST(bw_seat_new(&plain, root, 0, 65536, &seat) == BW_OK);
         if (is_full) MUST(bw_seat_commit_chunks(&seat, GROUP_LEN, UINT64_MAX, rest, rest_len, &mask, &at) == BW_OK);
         from = now();
-        MUST(bw_seat_take(&seat, 0, UINT64_MAX, &mask) == BW_OK && bw_seat_commit(&seat, 0, 0, GROUP_LEN, slice, slice_len, &mask, &at) == BW_OK && mask);
+        MUST(bw_seat_take(&seat, 0, UINT64_MAX, &mask) == BW_OK && bw_seat_commit_chunks(&seat, 0, GROUP_LEN, slice, slice_len, &mask, &at) == BW_OK && mask);
         note(&into[is_full], from);
         MUST(bw_seat_read(&seat, 0, out, GROUP_LEN, &at) == BW_OK);
         from = now();
         MUST(bw_seat_read(&seat, 0, out, GROUP_LEN, &at) == BW_OK);
         note(&out_of[is_full], from);
         MUST(memcmp(out, bytes, GROUP_LEN) == 0);
-        bw_seat_free(&seat);
+        bw_free(&seat);
     }
     print("a group into an empty store", into[0]), print("a group into a full store", into[1]);
     print("a group out of a store of one", out_of[0]), print("a group out of a full store", out_of[1]);
@@ -476,7 +440,7 @@ typedef struct worker {
 static void *gather(void *arg) {
     worker *it = arg;
     bw_report report = {0, 0, 0, 0, 0, 0, 0};
-    MUST(bw_gather(&it->seat, it->number, MOST_THREADS, it->text, it->text_len, &report) == BW_OK && report.refused == 0);
+    MUST(bw_seat_gather(&it->seat, it->number, MOST_THREADS, it->text, it->text_len, &report) == BW_OK && report.refused == 0);
     return NULL;
 }
 
@@ -494,7 +458,7 @@ static void gatherings(const uint8_t *bytes, size_t len) {
         worker all[MOST_THREADS];
         pthread_t ids[MOST_THREADS];
         double from = now();
-        MUST(bw_store_new(&plain, root, 65536, &seat) == BW_OK && bw_gather(&seat, 0, 1, text, text_len, &report) == BW_OK);
+        MUST(bw_seat_new(&plain, root, 0, 65536, &seat) == BW_OK && bw_seat_gather(&seat, 0, 1, text, text_len, &report) == BW_OK);
         MUST(bw_seat_finish(&seat, out, len, &used) == BW_OK);
         note(&whole, from);
         MUST(used == len && memcmp(out, bytes, len) == 0);
@@ -503,7 +467,7 @@ static void gatherings(const uint8_t *bytes, size_t len) {
         note(&read, from), from = now();
         memcpy(out, bytes, len);
         note(&copied, from);
-        MUST(bw_store_new(&plain, root, 65536, &seat) == BW_OK);
+        MUST(bw_seat_new(&plain, root, 0, 65536, &seat) == BW_OK);
         for (uint32_t i = 0; i < MOST_THREADS; i++) {
             all[i] = (worker){BW_EMPTY, i, text, text_len};
             MUST(bw_seat_split(&seat, &all[i].seat) == BW_OK);
@@ -514,9 +478,9 @@ static void gatherings(const uint8_t *bytes, size_t len) {
         note(&by_four, from);
         for (int i = 0; i < MOST_THREADS; i++) MUST(bw_seat_join(&seat, &all[i].seat) == BW_OK);
         MUST(bw_seat_finish(&seat, out, len, &used) == BW_OK && memcmp(out, bytes, len) == 0);
-        bw_seat_free(&seat);
+        bw_free(&seat);
     }
-    print("bw_gather by four threads", by_four), print("bw_gather and bw_seat_finish", whole), print("a plain copy", copied), print("bw_seat_read of 1 MiB", read);
+    print("bw_seat_gather by four threads", by_four), print("bw_seat_gather and bw_seat_finish", whole), print("a plain copy", copied), print("bw_seat_read of 1 MiB", read);
     free(text), free(out);
 }
 
@@ -529,21 +493,21 @@ static void texts(const uint8_t *bytes, size_t len) {
     MUST(bw_encode(&plain, bytes, len, text, text_len, &used, root) == BW_OK);
     for (int k = 0; k < ROUNDS; k++) {
         double from = now();
-        bw_hash(&plain, bytes, len, again);
+        MUST(bw_hash(&plain, bytes, len, 0, again, sizeof again) == BW_OK);
         note(&hashed, from);
         MUST(memcmp(again, root, sizeof root) == 0);
         from = now();
-        bw_status status = bw_check_combined(&plain, root, text, used, &at);
+        bw_status status = bw_check(of(&plain, root, 0, UINT64_MAX), text, used, &at);
         note(&checked, from);
         MUST(status == BW_OK);
         text[used - 1] ^= 1, from = now();
-        status = bw_check_combined(&plain, root, text, used, &at);
+        status = bw_check(of(&plain, root, 0, UINT64_MAX), text, used, &at);
         note(&refused, from), text[used - 1] ^= 1;
         MUST(status == BW_MISMATCH);
     }
     print("bw_hash", hashed);
-    print("bw_check_combined", checked);
-    print("bw_check_combined, damaged in its last byte", refused);
+    print("bw_check", checked);
+    print("bw_check, damaged in its last byte", refused);
     free(text);
 }
 

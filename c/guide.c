@@ -3,8 +3,6 @@
 #include "guide.h"
 #include "vectors.h"
 
-#include <string.h>
-
 #define WANT(test)                                                                  \
     do {                                                                            \
         if (!(test)) {                                                              \
@@ -72,14 +70,14 @@ static void gathers(int many) {
         size_t len = 0;
         encode();
         for (int k = 0; k < HOLDERS; k++) damage(k, 70000 + (same ? 0 : 2048 * (uint64_t)k));
-        WANT(bw_store_new(&plain, root, CHUNKS, &seat) == BW_OK);
+        WANT(bw_seat_new(&plain, root, 0, CHUNKS, &seat) == BW_OK);
         WANT((many ? gather_by_threads : gather)(&seat, copies, HOLDERS) == BW_OK);
         WANT(finish(&seat, &whole, &len) == (same ? BW_UNFINISHED : BW_OK));
         if (!same) {
             WANT(len == LEN && memcmp(whole, blob, LEN) == 0);
             free(whole);
         }
-        bw_seat_free(&seat);
+        bw_free(&seat);
     }
 }
 
@@ -90,14 +88,14 @@ static void serves(void) {
     size_t used = 0;
     copy slice = {text, 0};
     encode();
-    WANT(bw_store_new(&plain, root, CHUNKS, &seat) == BW_OK);
+    WANT(bw_seat_new(&plain, root, 0, CHUNKS, &seat) == BW_OK);
     WANT(bw_cut_slice(texts[0], copies[0].len, 10000, 3000, text, sizeof text, &slice.len) == BW_OK);
     WANT(keep(&seat, 10000, 3000, &slice) == BW_OTHER_LENGTH && serve(&seat, 10000, 3000, out, ROOM) == 0);
     WANT(bw_cut_slice(texts[0], copies[0].len, UINT64_MAX, 1, out, ROOM, &used) == BW_OK);
     WANT(bw_seat_settle(&seat, out, used, &at) == BW_OK && keep(&seat, 10000, 3000, &slice) == BW_OK);
     used = serve(&seat, 10000, 3000, out, ROOM);
     WANT(used == slice.len && memcmp(out, text, used) == 0 && serve(&seat, 20000, 3000, out, ROOM) == 0);
-    bw_seat_free(&seat);
+    bw_free(&seat);
 }
 
 int main(void) {

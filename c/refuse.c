@@ -1,11 +1,10 @@
 /* From the Nth request on memory is refused, for each N until none is: every call answers a status of memory then, and leaves what it had
  * as it was; a worker's round, of which the Nth request alone is refused too, counts it. To be linked with -Wl,--wrap=malloc,--wrap=realloc.
  * It prints nothing and exits with 0, or says which line failed. */
-#include "berylwool.h"
+#include "tests.h"
 
 #include <stdio.h>
 #include <stdlib.h>
-#include <string.h>
 
 /* How many requests are granted yet, or -1 for all; and whether all are after one was refused. */
 static long left = -1;
@@ -52,9 +51,9 @@ static int gathers(const uint8_t *root, const uint8_t *blob, size_t blob_len, co
     bw_seat seat = BW_EMPTY;
     bw_report report = {0, 0, 0, 0, 0, 0, 0};
     size_t used = 0;
-    WANT(bw_store_new(&plain, root, 100, &seat) == BW_OK);
+    WANT(bw_seat_new(&plain, root, 0, 100, &seat) == BW_OK);
     left = n, once = alone;
-    bw_status status = bw_gather(&seat, 0, 1, text, text_len, &report);
+    bw_status status = bw_seat_gather(&seat, 0, 1, text, text_len, &report);
     left = -1, once = 0;
     int refused = report.memory != 0;
     WANT(status == BW_OK && report.refused == 0 && report.failed == 0 && report.too_large == 0);
@@ -68,12 +67,12 @@ static int gathers(const uint8_t *root, const uint8_t *blob, size_t blob_len, co
     left = -1, once = 0;
     WANT(status == BW_OK && report.refused == 0 && report.failed == 0 && report.committed >= had);
     uint64_t before = report.memory;
-    WANT(bw_gather(&seat, 0, 1, text, text_len, &report) == BW_OK);
+    WANT(bw_seat_gather(&seat, 0, 1, text, text_len, &report) == BW_OK);
     WANT(report.memory == before && report.committed == chunks && report.parents == chunks - 1);
     left = 0;
     WANT(bw_seat_finish(&seat, found, sizeof found, &used) == BW_OK && used == blob_len && memcmp(found, blob, used) == 0);
     left = -1;
-    bw_seat_free(&seat);
+    bw_free(&seat);
     return refused;
 }
 
@@ -101,7 +100,7 @@ static void plans(void) {
             WANT(bw_plan_ended(&plan, 0, 0, 69, BW_ENDED_OVER, 0, 0, &flag) == BW_OK && flag == 0);
         }
         left = -1;
-        bw_plan_free(&plan);
+        bw_free(&plan);
         WANT(n < 100);
     }
 }
@@ -125,89 +124,65 @@ int main(void) {
     for (int refused = 1, n = 0; refused != 0; n++) {
         bw_hasher hasher = BW_EMPTY;
         bw_seat seat = BW_EMPTY, other = BW_EMPTY, part = BW_EMPTY;
-        bw_feed feed = BW_EMPTY, whole = BW_EMPTY, coming = BW_EMPTY;
-        bw_outline outline = BW_EMPTY, again = BW_EMPTY, came = BW_EMPTY;
+        bw_feed whole = BW_EMPTY;
+        bw_outline outline = BW_EMPTY, again = BW_EMPTY;
         refused = 0;
         left = n;
-        bw_status made = bw_hasher_new(&plain, &hasher), opened = bw_store_new(&plain, root, 100, &seat), split = bw_seat_split(&seat, &other);
+        bw_status made = bw_hasher_new(&plain, &hasher), opened = bw_seat_new(&plain, root, 0, 100, &seat), split = bw_seat_split(&seat, &other);
         bw_status encoded = bw_encode(&plain, blob, sizeof blob, text, sizeof text, &used, root);
         bw_status sliced = bw_cut_slice(text, used, 0, 65536, slice, sizeof slice, &cut);
-        bw_status written = bw_slice(&plain, blob, sizeof blob, 0, 65536, spare, sizeof spare, &spare_len, root);
-        bw_status fed = bw_feed_slice(&plain, root, 0, 65536, &feed), all = bw_feed_combined(&plain, root, &whole);
+        bw_status all = bw_feed_new(of(&plain, root, 0, UINT64_MAX), &whole);
         bw_status bare = bw_outboard(&plain, blob, sizeof blob, spare, sizeof spare, &spare_len, root);
         bw_status kept = bw_outline_new(&plain, root, outboard, outboard_len, &outline, &at), shared = bw_outline_share(&outline, &again);
-        bw_status parted = bw_store_part(&plain, root, 3, 60, &part);
-        bw_status begun = bw_feed_outboard(&plain, root, &coming), one = bw_feed_push(&coming, outboard, 100, &at);
-        bw_status two = bw_feed_push(&coming, outboard + 100, outboard_len - 100, &at), ended = bw_feed_outline(&coming, &came, &at);
-        bw_status beside = bw_outline_slice(&outline, 0, 64, blob, 65536, spare, sizeof spare, &beside_len, &at);
+        bw_status parted = bw_seat_new(&plain, root, 3, 60, &part);
+        bw_status beside = bw_outline_slice(&outline, CHUNKS(0, 64), blob, 65536, spare, sizeof spare, &beside_len, &at);
         left = 0; /* no other call takes memory */
         WANT(kept == BW_OK || (kept == BW_MEMORY && outline.at == NULL && ++refused));
-        WANT(begun == BW_OK || (begun == BW_MEMORY && coming.at == NULL && ++refused));
-        /* What isn't taken can come again. With its first bytes missing the rest is no outboard encoding. */
-        WANT(one == BW_OK || (one == (begun == BW_OK ? BW_MEMORY : BW_NO_HANDLE) && ++refused));
-        WANT(two == BW_OK || begun != BW_OK || (two == BW_MEMORY && ++refused) || one != BW_OK);
-        WANT(ended == BW_OK || came.at == NULL);
-        WANT(ended != BW_MEMORY || (one == BW_OK && two == BW_OK && coming.at == NULL && ++refused));
-        WANT(ended != BW_OK || (coming.at == NULL && bw_outline_length(&came, &len) == BW_OK && len == sizeof blob));
-        WANT(ended == BW_OK || ended == BW_MEMORY || ended == (begun == BW_OK ? BW_SHORT : BW_NO_HANDLE));
         WANT(shared == BW_OK || (again.at == NULL && shared == (kept == BW_OK ? BW_MEMORY : BW_NO_HANDLE) && ++refused));
         WANT(beside == BW_OK || (beside == (kept == BW_OK ? BW_TEXT_MEMORY : BW_NO_HANDLE) && ++refused));
         WANT(beside != BW_OK || sliced != BW_OK || (beside_len == cut && memcmp(spare, slice, cut) == 0));
-        WANT(kept != BW_OK || (bw_outline_length(&outline, &len) == BW_OK && len == sizeof blob && bw_outline_check(&outline, 3, 2, blob, 2048, &at) == BW_OK));
+        WANT(kept != BW_OK || (bw_outline_length(&outline, &len) == BW_OK && len == sizeof blob && bw_outline_check(&outline, CHUNKS(3, 2), blob, 2048, &at) == BW_OK));
         WANT(shared != BW_OK || (bw_outline_length(&again, &len) == BW_OK && len == sizeof blob));
         WANT(made == BW_OK || (made == BW_MEMORY && ++refused));
         WANT(parted == BW_OK || ((parted == BW_MEMORY || parted == BW_STORE_MEMORY) && part.at == NULL && ++refused));
         WANT(parted != BW_OK || (bw_seat_commit_chunks(&part, 0, UINT64_MAX, text, used, &mask, &at) == BW_OK && mask == 60));
         WANT(parted != BW_OK || (bw_seat_read(&part, 0, spare, 60 * 1024, &at) == BW_OK && memcmp(spare, blob + 3 * 1024, 60 * 1024) == 0));
         WANT(bw_hasher_update(&hasher, blob, sizeof blob) == (made == BW_OK ? BW_OK : BW_NO_HANDLE));
-        WANT(bw_hasher_finish(&hasher, out) == (made == BW_OK ? BW_OK : BW_NO_HANDLE));
+        WANT(bw_hasher_finish(&hasher, 0, out, BW_HASH_LEN) == (made == BW_OK ? BW_OK : BW_NO_HANDLE));
         WANT(made != BW_OK || memcmp(out, root, sizeof out) == 0);
-        WANT(fed == BW_OK || (fed == BW_MEMORY && feed.at == NULL && ++refused));
         WANT(all == BW_OK || (all == BW_MEMORY && whole.at == NULL && ++refused));
-        size_t size = 7;
-        uint32_t kind = 7;
-        WANT(bw_feed_wants(&whole, &kind, &size) == (all == BW_OK ? BW_OK : BW_NO_HANDLE) && size == (all == BW_OK ? 8 : 7));
-        WANT(kind == (all == BW_OK ? BW_NODE_LENGTH : 7));
         WANT(bw_encode(&plain, blob, sizeof blob, spare, 10, &spare_len, root) == BW_ROOM && spare_len == used);
         WANT(bw_outboard(&plain, blob, sizeof blob, spare, 10, &spare_len, root) == BW_ROOM && spare_len == bw_outboard_len(sizeof blob));
-        WANT(bw_decode(&plain, root, 0, UINT64_MAX, text, used, spare, sizeof spare, &filled, &total, &at) == BW_OK);
+        WANT(bw_decode(of(&plain, root, 0, UINT64_MAX), text, used, spare, sizeof spare, &filled, &total, &at) == BW_OK);
         WANT(filled == sizeof blob && total == sizeof blob && memcmp(spare, blob, filled) == 0);
-        WANT(bw_feed_take_many(&whole, text, used, spare, sizeof spare, &taken, &filled, &at) == (all == BW_OK ? BW_OK : BW_NO_HANDLE));
+        WANT(bw_feed_take(&whole, text, used, spare, sizeof spare, &taken, &filled, &at) == (all == BW_OK ? BW_OK : BW_NO_HANDLE));
         WANT(all != BW_OK || (taken == used && filled == sizeof blob && memcmp(spare, blob, filled) == 0 && bw_feed_finish(&whole, text, 0, &at) == BW_OK));
-        if (fed == BW_OK && sliced == BW_OK) {
-            taken = 0;
-            for (; bw_feed_wants(&feed, &kind, &size) == BW_OK && size != 0; taken += size)
-                WANT(size <= cut - taken && bw_feed_take(&feed, slice + taken, size, &at) == BW_OK);
-            WANT(taken == cut && bw_feed_finish(&feed, slice, 0, &at) == BW_OK);
-        }
         WANT(opened == BW_OK || ((opened == BW_MEMORY || opened == BW_STORE_MEMORY) && ++refused));
         WANT(split == BW_OK || split == (opened == BW_OK ? split : BW_NO_HANDLE));
         WANT(split == BW_OK || opened != BW_OK || ((split == BW_MEMORY || split == BW_SPLIT_MEMORY) && ++refused));
         WANT(encoded == BW_OK || (encoded == BW_TEXT_MEMORY && ++refused));
         WANT(sliced == BW_OK || (sliced == BW_TEXT_MEMORY && ++refused));
-        WANT(written == BW_OK || (written == BW_TEXT_MEMORY && ++refused));
         WANT(bare == BW_OK || (bare == BW_TEXT_MEMORY && ++refused));
         if (opened == BW_OK) {
             WANT(bw_seat_take(&seat, 0, UINT64_MAX, &mask) == BW_OK && mask == UINT64_MAX);
-            WANT(bw_seat_commit(&seat, 0, 0, 65536, slice, cut, &mask, &at) == BW_OK && mask == UINT64_MAX);
+            WANT(bw_seat_commit_chunks(&seat, 0, 65536, slice, cut, &mask, &at) == BW_OK && mask == 64);
             WANT(bw_seat_settle(&seat, tail, tail_len, &at) == BW_OK);
-            WANT(bw_seat_commit_parents(&seat, 0, 0, 65536, slice, cut, &mask, &at) == BW_OK && mask == UINT64_MAX - 1);
             left = n;
-            bw_status served = bw_seat_serve_slice(&seat, 0, 1, spare, sizeof spare, &spare_len, &lacking);
+            bw_status served = bw_seat_slice(&seat, 0, 1, spare, sizeof spare, &spare_len, &lacking);
             left = 0;
             WANT(served == BW_SERVE_MEMORY || (served == BW_LACKING && lacking.kind == 0 && lacking.number == 64));
             WANT(served == BW_LACKING || ++refused);
             WANT(bw_seat_read(&seat, 0, slice + 70000, 100, &at) == BW_OK);
             WANT(split != BW_OK || (bw_seat_take(&other, 1, 1, &mask) == BW_OK && mask == 1));
-            WANT(split != BW_OK || (bw_seat_meet(&seat, &other) == BW_OK && bw_seat_join(&seat, &other) == BW_OK && other.at == NULL));
+            WANT(split != BW_OK || (bw_seat_join(&seat, &other) == BW_OK && other.at == NULL));
             WANT(split != BW_OK || (bw_seat_give(&seat, 1, 1, &mask) == BW_OK && mask == 1));
             WANT(bw_seat_held(&seat, 0, &mask) == BW_OK && mask == UINT64_MAX && bw_seat_held(&seat, 1, &mask) == BW_OK && mask == 0);
             uint64_t before = 0, had = 0;
-            if (kept == BW_OK) WANT(bw_outline_commit(&outline, &seat, 64, 2, blob, 2048, &had, &before, &at) == BW_OK && had == 2 && before > 0);
-            WANT(bw_seat_commit_all(&seat, 0, UINT64_MAX, text, used, &mask, &parents, &at) == BW_OK && mask == 5 - had && parents == 5 - before);
+            if (kept == BW_OK) WANT(bw_outline_commit(&outline, &seat, CHUNKS(64, 2), blob, 2048, &had, &before, &at) == BW_OK && had == 2 && before > 0);
+            WANT(bw_seat_commit(&seat, 0, UINT64_MAX, text, used, &mask, &parents, &at) == BW_OK && mask == 5 - had && parents == 68 - before);
         }
         left = -1;
-        bw_hasher_free(&hasher), bw_seat_free(&seat), bw_seat_free(&other), bw_feed_free(&feed), bw_feed_free(&whole), bw_feed_free(&coming), bw_outline_free(&outline), bw_outline_free(&again), bw_outline_free(&came), bw_seat_free(&part);
+        bw_free(&hasher), bw_free(&seat), bw_free(&other), bw_free(&whole), bw_free(&outline), bw_free(&again), bw_free(&part);
         WANT(n < 1000);
     }
     plans();

@@ -1,12 +1,11 @@
 /* Each function that berylwool.h declares runs in a thread whose stack is filled with a pattern first, on arguments that take it deep. How much of
  * the stack was written to is at most what the header asks a thread to have. It prints the most, or says which call took more. */
 #define _GNU_SOURCE
-#include "berylwool.h"
+#include "tests.h"
 
 #include <pthread.h>
 #include <stdio.h>
 #include <stdlib.h>
-#include <string.h>
 #include <sys/mman.h>
 
 enum { BLOB_LEN = 3000000, STACK_LEN = 1 << 20, STACK_MOST = 64 * 1024, PATTERN = 0xa5, ROOM = 2 * BLOB_LEN };
@@ -24,14 +23,11 @@ static bw_outline outline, part;
 static bw_status sink;
 
 static void hash(void) {
-    bw_hash(&plain, blob, BLOB_LEN, out);
-    sink = bw_xof(&plain, blob, BLOB_LEN, 0, out, 1000);
-    sink = bw_derive_key((const uint8_t *)"a", 1, blob, BLOB_LEN, out, 32);
+    sink = bw_hash(&plain, blob, BLOB_LEN, 0, out, 1000);
     sink = bw_hasher_new(&plain, &hasher);
     sink = bw_hasher_update(&hasher, blob, BLOB_LEN - 7);
-    sink = bw_hasher_finish(&hasher, out);
-    sink = bw_hasher_xof(&hasher, 0, out, 1000);
-    bw_hasher_free(&hasher);
+    sink = bw_hasher_finish(&hasher, 0, out, 1000);
+    bw_free(&hasher);
     bw_mode mode;
     sink = bw_mode_derive(blob, 10, &mode);
 }
@@ -41,7 +37,6 @@ static void write_texts(void) {
     size_t used;
     sink = bw_encode(&plain, blob, BLOB_LEN, out, ROOM, &used, hashed);
     sink = bw_outboard(&plain, blob, BLOB_LEN, out, ROOM, &used, hashed);
-    sink = bw_slice(&plain, blob, BLOB_LEN, 100000, 1000000, out, ROOM, &used, hashed);
     sink = bw_cut_slice(text, text_len, 100000, 1000000, out, ROOM, &used);
     at = bw_encoded_len(UINT64_MAX) + bw_outboard_len(UINT64_MAX) + bw_slice_len(UINT64_MAX, UINT64_MAX / 3, UINT64_MAX / 3);
 }
@@ -61,12 +56,10 @@ static void check(void) {
     bw_input ours, theirs;
     uint64_t total;
     size_t used;
-    sink = bw_check_combined(&plain, root, text, text_len, &at);
-    sink = bw_check_slice(&plain, root, UINT64_MAX, 1, far, sizeof far, &at);
-    sink = bw_check_outboard(&plain, root, outboard, outboard_len, &at);
-    sink = bw_check_bare(&plain, root, outboard, outboard_len, 0, chunks, blob, BLOB_LEN, &at);
-    sink = bw_decode(&plain, root, 0, UINT64_MAX, text, text_len, out, ROOM, &used, &total, &at);
-    sink = bw_audit(&plain, root, 0, UINT64_MAX, text, text_len, blob, BLOB_LEN, &at, &ours, &theirs);
+    sink = bw_check(of(&plain, root, 0, UINT64_MAX), text, text_len, &at);
+    sink = bw_check(of(&plain, root, UINT64_MAX, 1), far, sizeof far, &at);
+    sink = bw_decode(of(&plain, root, 0, UINT64_MAX), text, text_len, out, ROOM, &used, &total, &at);
+    sink = bw_audit(of(&plain, root, 0, UINT64_MAX), text, text_len, blob, BLOB_LEN, &at, &ours, &theirs);
 }
 
 static void check_beside(void) {
@@ -75,62 +68,51 @@ static void check_beside(void) {
     sink = bw_outline_new(&plain, root, outboard, outboard_len, &outline, &at);
     sink = bw_outline_share(&outline, &part);
     sink = bw_outline_length(&outline, &len);
-    sink = bw_outline_check(&outline, 0, chunks, blob, BLOB_LEN, &at);
-    sink = bw_outline_slice(&outline, 0, chunks, blob, BLOB_LEN, out, ROOM, &used, &at);
-    bw_outline_free(&part);
+    sink = bw_outline_check(&outline, CHUNKS(0, chunks), blob, BLOB_LEN, &at);
+    sink = bw_outline_slice(&outline, CHUNKS(0, chunks), blob, BLOB_LEN, out, ROOM, &used, &at);
+    bw_free(&part);
 }
 
 static void pour(void) {
-    size_t size, taken, filled;
-    uint32_t kind;
-    sink = bw_feed_slice(&plain, root, 5, 5, &feed);
-    sink = bw_feed_combined(&plain, root, &feed);
-    sink = bw_feed_wants(&feed, &kind, &size);
-    sink = bw_feed_take(&feed, text, 8, &at);
-    sink = bw_feed_take_many(&feed, text + 8, text_len - 8, out, ROOM, &taken, &filled, &at);
+    size_t taken, filled;
+    sink = bw_feed_new(of(&plain, root, 0, UINT64_MAX), &feed);
+    sink = bw_feed_take(&feed, text, text_len, out, ROOM, &taken, &filled, &at);
     sink = bw_feed_finish(&feed, text, 0, &at);
-    bw_feed_free(&feed);
-    sink = bw_feed_outboard(&plain, root, &feed);
-    sink = bw_feed_push(&feed, outboard, outboard_len, &at);
-    sink = bw_feed_outline(&feed, &part, &at);
-    bw_outline_free(&part);
+    bw_free(&feed);
 }
 
 static void store(void) {
     bw_node lacking;
     size_t used;
-    sink = bw_store_new(&plain, root, (uint32_t)chunks, &seat);
+    sink = bw_seat_new(&plain, root, 0, (uint32_t)chunks, &seat);
     sink = bw_seat_split(&seat, &other);
     sink = bw_cut_slice(text, text_len, UINT64_MAX, 1, out, ROOM, &used);
     sink = bw_seat_settle(&seat, out, used, &at);
     sink = bw_seat_take(&seat, 0, 1, &count);
     sink = bw_cut_slice(text, text_len, 0, 1, out, ROOM, &used);
-    sink = bw_seat_commit(&seat, 0, 0, 1, out, used, &count, &at);
-    sink = bw_seat_commit_parents(&seat, 0, 0, 1, out, used, &count, &at);
-    sink = bw_outline_commit(&outline, &seat, 3, 500, blob + 3072, 512000, &count, &parents, &at);
-    sink = bw_seat_commit_all(&seat, 0, UINT64_MAX, text, text_len, &count, &parents, &at);
+    sink = bw_outline_commit(&outline, &seat, CHUNKS(3, 500), blob + 3072, 512000, &count, &parents, &at);
+    sink = bw_seat_commit(&seat, 0, UINT64_MAX, text, text_len, &count, &parents, &at);
     sink = bw_seat_give(&seat, 0, 1, &count);
     sink = bw_seat_held(&seat, 0, &count);
     sink = bw_seat_length(&seat, &count);
     sink = bw_seat_read(&seat, 0, out, 100000, &at);
-    sink = bw_seat_serve_slice(&seat, 0, UINT64_MAX, out, ROOM, &used, &lacking);
-    sink = bw_seat_meet(&seat, &other);
+    sink = bw_seat_slice(&seat, 0, UINT64_MAX, out, ROOM, &used, &lacking);
     sink = bw_seat_join(&seat, &other);
     sink = bw_seat_finish(&seat, out, ROOM, &used);
-    sink = bw_store_part(&plain, root, 3, 500, &seat);
+    sink = bw_seat_new(&plain, root, 3, 500, &seat);
     sink = bw_seat_commit_chunks(&seat, 0, UINT64_MAX, text, text_len, &count, &at);
-    bw_seat_free(&seat);
+    bw_free(&seat);
     bw_free(NULL);
 }
 
 static void gather(void) {
     bw_report report = {0, 0, 0, 0, 0, 0, 0};
-    sink = bw_store_new(&plain, root, (uint32_t)chunks, &seat);
+    sink = bw_seat_new(&plain, root, 0, (uint32_t)chunks, &seat);
     text[text_len / 2] ^= 1;
-    sink = bw_gather(&seat, 0, 1, text, text_len, &report);
+    sink = bw_seat_gather(&seat, 0, 1, text, text_len, &report);
     text[text_len / 2] ^= 1;
     sink = bw_seat_salvage(&seat, text, text_len, &report);
-    bw_seat_free(&seat);
+    bw_free(&seat);
 }
 
 static void plan(void) {
@@ -153,7 +135,7 @@ static void plan(void) {
     sink = bw_plan_limit(&it, 1);
     sink = bw_plan_is_done(&it, &flag);
     sink = bw_plan_lacking(&it, 0, &count);
-    bw_plan_free(&it);
+    bw_free(&it);
 }
 
 static void *run(void *what) {
@@ -198,7 +180,7 @@ int main(void) {
         return 1;
     }
     printf("a thread that calls the C library takes at most %zu bytes of stack, of which it has %zu for itself\n", most, none);
-    bw_outline_free(&outline);
+    bw_free(&outline);
     free(blob), free(text), free(outboard), free(out);
     return 0;
 }

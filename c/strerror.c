@@ -32,10 +32,9 @@ const char *bw_strerror(bw_status status) {
     case BW_DIFFERS: return "another length is recorded";
     case BW_NOT_UTF8: return "the context isn't UTF-8";
     case BW_PAST_OUTPUT: return "the output asked for ends above 2^64 - 1";
-    case BW_NO_OUTBOARD: return "the outboard encoding isn't accepted";
     case BW_NO_CHUNKS: return "the blob hasn't so many chunks there";
     case BW_OTHER_STORE: return "the seats' stores differ";
-    case BW_OTHER_SIZE: return "not as many bytes as a check in pieces takes";
+    case BW_OTHER_SIZE: return "the next node comes first";
     case BW_NO_MODE: return "the mode's kind isn't known";
     case BW_NO_HOLDER: return "the plan has no such holder";
     case BW_NO_REQUEST: return "no such request is under way";

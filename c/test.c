@@ -1,7 +1,7 @@
 /* Calls each function that berylwool.h declares, and gathers a blob by four threads out of three buffers, two of which are damaged, while
  * the unfinished store serves slices. vectors.h has the rows of scripts/b3sum.tsv, which are from outside. It prints nothing and exits with
  * 0, or says which line failed. */
-#include "berylwool.h"
+#include "tests.h"
 #include "vectors.h"
 
 #include <pthread.h>
@@ -47,12 +47,6 @@ static uint8_t *room(size_t len) {
     return at;
 }
 
-static uint64_t count(uint64_t mask) {
-    uint64_t n = 0;
-    for (; mask != 0; mask &= mask - 1) n++;
-    return n;
-}
-
 static void ask_group(worker *it, uint32_t group, uint8_t *slice, size_t slice_len) {
     uint64_t left = 0, start = (uint64_t)group * GROUP_LEN;
     uint64_t chunks = (BLOB_LEN + BW_CHUNK_LEN - 1) / BW_CHUNK_LEN - (uint64_t)group * BW_GROUP_CHUNKS;
@@ -63,26 +57,12 @@ static void ask_group(worker *it, uint32_t group, uint8_t *slice, size_t slice_l
         size_t used = 0;
         uint64_t committed = 0, at = 0;
         WANT(bw_cut_slice(from->text, from->len, start, GROUP_LEN, slice, slice_len, &used) == BW_OK);
-        if (it->number % 2 != 0) { /* these do it by one call */
-            uint64_t parents = 0;
-            bw_status all = bw_seat_commit_all(&it->seat, start, GROUP_LEN, slice, used, &committed, &parents, &at);
-            WANT(all == BW_OK || all == BW_MISMATCH);
-            it->stored += committed, it->parents += parents;
-            if (all == BW_OK) left = 0;
-            else it->refused++;
-            continue;
-        }
-        bw_status status = bw_seat_commit(&it->seat, group, start, GROUP_LEN, slice, used, &committed, &at);
-        if (status == BW_OK) {
-            uint64_t parents = 0;
-            left &= ~committed;
-            it->stored += count(committed);
-            WANT(bw_seat_commit_parents(&it->seat, group, start, GROUP_LEN, slice, used, &parents, &at) == BW_OK);
-            it->parents += count(parents);
-        } else {
-            WANT(status == BW_MISMATCH);
-            it->refused++;
-        }
+        uint64_t parents = 0;
+        bw_status status = bw_seat_commit(&it->seat, start, GROUP_LEN, slice, used, &committed, &parents, &at);
+        WANT(status == BW_OK || status == BW_MISMATCH);
+        it->stored += committed, it->parents += parents;
+        if (status == BW_OK) left = 0;
+        else it->refused++;
     }
     uint64_t given = 0;
     WANT(bw_seat_give(&it->seat, group, left, &given) == BW_OK && given == left);
@@ -90,9 +70,9 @@ static void ask_group(worker *it, uint32_t group, uint8_t *slice, size_t slice_l
     bw_node lacking = {7, 7};
     size_t used = 0;
     uint64_t at = 0;
-    bw_status status = bw_seat_serve_slice(&it->seat, start, 1, slice, slice_len, &used, &lacking);
+    bw_status status = bw_seat_slice(&it->seat, start, 1, slice, slice_len, &used, &lacking);
     if (status == BW_OK) {
-        WANT(bw_check_slice(&plain, it->root, start, 1, slice, used, &at) == BW_OK);
+        WANT(bw_check(of(&plain, it->root, start, 1), slice, used, &at) == BW_OK);
         it->served++;
     } else {
         WANT(status == BW_LACKING && lacking.kind < 2 && lacking.number < 1024);
@@ -108,7 +88,7 @@ static void *work(void *arg) {
     return NULL;
 }
 
-/* A worker that bw_gather makes of a thread: it goes over its texts in its own order. */
+/* A worker that bw_seat_gather makes of a thread: it goes over its texts in its own order. */
 typedef struct gatherer {
     bw_seat seat;
     const holder *holders;
@@ -120,22 +100,22 @@ static void *gather(void *arg) {
     gatherer *it = arg;
     for (uint32_t k = 0; k < HOLDERS; k++) {
         const holder *from = &it->holders[(it->number + k) % HOLDERS];
-        WANT(bw_gather(&it->seat, it->number, THREADS, from->text, from->len, &it->report) == BW_OK);
+        WANT(bw_seat_gather(&it->seat, it->number, THREADS, from->text, from->len, &it->report) == BW_OK);
     }
     return NULL;
 }
 
-/* Four threads fill a store by bw_gather, and then each chunk and each parent was stored once. */
+/* Four threads fill a store by bw_seat_gather, and then each chunk and each parent was stored once. */
 static void gathering(const uint8_t *blob, const uint8_t *root, const holder *holders) {
     bw_seat first = BW_EMPTY;
     bw_report report = {1, 2, 3, 4, 5, 6, 0};
-    WANT(bw_gather(&first, 0, 1, holders[0].text, holders[0].len, &report) == BW_NO_HANDLE && report.committed == 1 && report.memory == 6);
+    WANT(bw_seat_gather(&first, 0, 1, holders[0].text, holders[0].len, &report) == BW_NO_HANDLE && report.committed == 1 && report.memory == 6);
     /* A length that is too large is told, and another seat's later round still ends well. */
-    WANT(bw_store_new(&plain, root, 10, &first) == BW_OK);
-    WANT(bw_gather(&first, 7, 0, holders[0].text, holders[0].len, &report) == BW_OK && report.too_large == 1 && report.committed == 1);
-    WANT(bw_store_new(&plain, root, 1024, &first) == BW_OK);
+    WANT(bw_seat_new(&plain, root, 0, 10, &first) == BW_OK);
+    WANT(bw_seat_gather(&first, 7, 0, holders[0].text, holders[0].len, &report) == BW_OK && report.too_large == 1 && report.committed == 1);
+    WANT(bw_seat_new(&plain, root, 0, 1024, &first) == BW_OK);
     report = (bw_report){0, 0, 0, 0, 0, 0, 0};
-    WANT(bw_gather(&first, 0, 1, blob, BLOB_LEN, &report) == BW_OK && report.committed == 0 && report.asked == 1 && report.refused == 1);
+    WANT(bw_seat_gather(&first, 0, 1, blob, BLOB_LEN, &report) == BW_OK && report.committed == 0 && report.asked == 1 && report.refused == 1);
     pthread_t threads[THREADS];
     gatherer workers[THREADS];
     for (uint32_t k = 0; k < THREADS; k++) {
@@ -149,7 +129,6 @@ static void gathering(const uint8_t *blob, const uint8_t *root, const holder *ho
         committed += workers[k].report.committed;
         parents += workers[k].report.parents;
         WANT(workers[k].report.failed == 0 && workers[k].report.memory == 0 && workers[k].report.too_large == 0);
-        WANT(bw_seat_meet(&first, &workers[k].seat) == BW_OK);
         WANT(bw_seat_join(&first, &workers[k].seat) == BW_OK && workers[k].seat.at == NULL);
     }
     uint64_t chunks = (BLOB_LEN + BW_CHUNK_LEN - 1) / BW_CHUNK_LEN;
@@ -157,12 +136,12 @@ static void gathering(const uint8_t *blob, const uint8_t *root, const holder *ho
     size_t used = 0;
     WANT(committed <= chunks && parents <= chunks - 1);
     /* A chunk that one thread held while the others passed it, and whose text was damaged, may be left for a closing round. */
-    WANT(bw_gather(&first, 0, 1, holders[0].text, holders[0].len, &report) == BW_OK);
-    WANT(bw_gather(&first, 0, 1, holders[1].text, holders[1].len, &report) == BW_OK);
+    WANT(bw_seat_gather(&first, 0, 1, holders[0].text, holders[0].len, &report) == BW_OK);
+    WANT(bw_seat_gather(&first, 0, 1, holders[1].text, holders[1].len, &report) == BW_OK);
     WANT(committed + report.committed == chunks && parents + report.parents == chunks - 1);
     WANT(bw_seat_finish(&first, found, BLOB_LEN, &used) == BW_OK && used == BLOB_LEN && memcmp(found, blob, BLOB_LEN) == 0);
     free(found);
-    bw_seat_free(&first);
+    bw_free(&first);
 }
 
 /* A holder that lies about the length keeps no full store from serving. Its chunks are right and are committed, but for those of the last group, and
@@ -177,18 +156,18 @@ static void lied_to(const uint8_t *root, const holder *good) {
     bw_report report = {0, 0, 0, 0, 0, 0, 0};
     memcpy(liar, good->text, good->len);
     for (int i = 0; i < 8; i++) liar[i] = (uint8_t)(claimed >> 8 * i);
-    WANT(bw_store_new(&plain, root, (uint32_t)chunks, &seat) == BW_OK);
+    WANT(bw_seat_new(&plain, root, 0, (uint32_t)chunks, &seat) == BW_OK);
     WANT(bw_cut_slice(good->text, good->len, UINT64_MAX, 1, tail, sizeof tail, &used) == BW_OK);
     WANT(bw_seat_settle(&seat, tail, used, &at) == BW_OK);
-    WANT(bw_gather(&seat, 0, 1, liar, good->len, &report) == BW_OK);
+    WANT(bw_seat_gather(&seat, 0, 1, liar, good->len, &report) == BW_OK);
     WANT(report.committed == 64 * (groups - 1) && report.parents == 0 && report.asked == 2 * groups && report.refused == 2);
-    WANT(bw_seat_serve_slice(&seat, 0, 1, served, good->len, &used, &lacking) == BW_LACKING && lacking.kind == 0);
-    WANT(bw_gather(&seat, 0, 1, good->text, good->len, &report) == BW_OK);
+    WANT(bw_seat_slice(&seat, 0, 1, served, good->len, &used, &lacking) == BW_LACKING && lacking.kind == 0);
+    WANT(bw_seat_gather(&seat, 0, 1, good->text, good->len, &report) == BW_OK);
     WANT(report.committed == chunks && report.parents == chunks - 1 && report.asked == 3 * groups && report.refused == 2);
-    WANT(bw_seat_serve_slice(&seat, 0, UINT64_MAX, served, good->len, &used, &lacking) == BW_OK);
+    WANT(bw_seat_slice(&seat, 0, UINT64_MAX, served, good->len, &used, &lacking) == BW_OK);
     WANT(used == good->len && memcmp(served, good->text, used) == 0);
-    WANT(bw_gather(&seat, 0, 1, liar, good->len, &report) == BW_OK && report.asked == 3 * groups);
-    bw_seat_free(&seat);
+    WANT(bw_seat_gather(&seat, 0, 1, liar, good->len, &report) == BW_OK && report.asked == 3 * groups);
+    bw_free(&seat);
     free(liar);
     free(served);
 }
@@ -203,34 +182,33 @@ static void joining(const uint8_t *root, const holder *good) {
     size_t used = 0;
     memcpy(another_root, root, sizeof another_root);
     another_root[31] ^= 1;
-    WANT(bw_seat_join(&first, &second) == BW_NO_HANDLE && bw_seat_meet(&first, &second) == BW_NO_HANDLE);
-    WANT(bw_hasher_new(&plain, &hasher) == BW_OK && bw_store_new(&plain, root, 1024, &first) == BW_OK);
-    WANT(bw_seat_join(&first, &second) == BW_NO_HANDLE && bw_seat_meet(&first, &second) == BW_NO_HANDLE && second.at == NULL);
-    WANT(bw_seat_join(&second, &first) == BW_NO_HANDLE && bw_seat_meet(&second, &first) == BW_NO_HANDLE && second.at == NULL);
-    WANT(bw_seat_join(&first, AS(bw_seat, hasher)) == BW_NO_HANDLE && bw_seat_meet(&first, AS(bw_seat, hasher)) == BW_NO_HANDLE);
-    WANT(bw_seat_join(AS(bw_seat, hasher), &first) == BW_NO_HANDLE && bw_seat_meet(AS(bw_seat, hasher), &first) == BW_NO_HANDLE);
-    WANT(bw_hasher_finish(&hasher, out) == BW_OK);
+    WANT(bw_seat_join(&first, &second) == BW_NO_HANDLE);
+    WANT(bw_hasher_new(&plain, &hasher) == BW_OK && bw_seat_new(&plain, root, 0, 1024, &first) == BW_OK);
+    WANT(bw_seat_join(&first, &second) == BW_NO_HANDLE && second.at == NULL);
+    WANT(bw_seat_join(&second, &first) == BW_NO_HANDLE && second.at == NULL);
+    WANT(bw_seat_join(&first, AS(bw_seat, hasher)) == BW_NO_HANDLE);
+    WANT(bw_seat_join(AS(bw_seat, hasher), &first) == BW_NO_HANDLE);
+    WANT(bw_hasher_finish(&hasher, 0, out, BW_HASH_LEN) == BW_OK);
     WANT(bw_seat_take(&first, 0, 5, &mask) == BW_OK && mask == 5);
     const bw_mode keyed = {1, {7}};
     for (int k = 0; k < 3; k++) {
-        WANT(bw_store_new(k == 0 ? &keyed : &plain, k == 1 ? another_root : root, k == 2 ? 1023 : 1024, &alien) == BW_OK);
+        WANT(bw_seat_new(k == 0 ? &keyed : &plain, k == 1 ? another_root : root, 0, k == 2 ? 1023 : 1024, &alien) == BW_OK);
         WANT(bw_seat_take(&alien, 1, 9, &mask) == BW_OK && mask == 9);
-        WANT(bw_seat_join(&first, &alien) == BW_OTHER_STORE && bw_seat_meet(&first, &alien) == BW_OTHER_STORE);
-        WANT(bw_seat_join(&alien, &first) == BW_OTHER_STORE && bw_seat_meet(&alien, &first) == BW_OTHER_STORE);
+        WANT(bw_seat_join(&first, &alien) == BW_OTHER_STORE);
+        WANT(bw_seat_join(&alien, &first) == BW_OTHER_STORE);
         WANT(bw_seat_give(&alien, 1, UINT64_MAX, &mask) == BW_OK && mask == 9);
     }
     WANT(bw_seat_split(&first, &second) == BW_OK);
     WANT(bw_seat_take(&second, 0, UINT64_MAX, &mask) == BW_OK && mask == UINT64_MAX - 5);
-    WANT(bw_seat_meet(&first, &second) == BW_OK && bw_seat_meet(&second, &first) == BW_OK);
     WANT(bw_seat_give(&second, 0, 4, &mask) == BW_OK && mask == 0);
     WANT(bw_seat_join(&first, &second) == BW_OK && second.at == NULL);
     WANT(bw_cut_slice(good->text, good->len, 0, GROUP_LEN, slice, sizeof slice, &used) == BW_OK);
-    WANT(bw_seat_commit(&first, 0, 0, GROUP_LEN, slice, used, &mask, &at) == BW_OK && mask == UINT64_MAX);
+    WANT(bw_seat_commit_chunks(&first, 0, GROUP_LEN, slice, used, &mask, &at) == BW_OK && mask == 64);
     /* The store is there until its last seat is freed, which may be one that was joined to the other way round. */
     WANT(bw_seat_split(&first, &second) == BW_OK && bw_seat_join(&second, &first) == BW_OK && first.at == NULL);
     WANT(bw_seat_read(&second, GROUP_LEN - 1, out, 1, &at) == BW_OK);
     WANT(strcmp(bw_strerror(BW_OTHER_STORE), bw_strerror(1)) != 0);
-    bw_seat_free(&first), bw_seat_free(&second), bw_seat_free(&alien), bw_hasher_free(&hasher);
+    bw_free(&first), bw_free(&second), bw_free(&alien), bw_free(&hasher);
 }
 
 /* A blob comes in order, group by group, and after each the store serves the slice of each group that it has, and of a byte of it: the bytes
@@ -242,18 +220,18 @@ static void in_order(const uint8_t *root, const holder *good) {
     size_t used = 0, len = 0;
     bw_node lacking;
     bw_seat seat = BW_EMPTY;
-    WANT(bw_store_new(&plain, root, (uint32_t)chunks, &seat) == BW_OK);
+    WANT(bw_seat_new(&plain, root, 0, (uint32_t)chunks, &seat) == BW_OK);
     WANT(bw_cut_slice(good->text, good->len, UINT64_MAX, 1, slice, sizeof slice, &used) == BW_OK);
     WANT(bw_seat_settle(&seat, slice, used, &at) == BW_OK);
     for (uint64_t group = 0; group < groups; group++) {
         WANT(bw_cut_slice(good->text, good->len, group * GROUP_LEN, GROUP_LEN, slice, sizeof slice, &used) == BW_OK);
-        WANT(bw_seat_commit_all(&seat, group * GROUP_LEN, GROUP_LEN, slice, used, &committed, &parents, &at) == BW_OK);
+        WANT(bw_seat_commit(&seat, group * GROUP_LEN, GROUP_LEN, slice, used, &committed, &parents, &at) == BW_OK);
         WANT(committed == (group + 1 < groups ? 64 : chunks - 64 * group) && parents >= committed - 1);
         all += committed, all_parents += parents;
-        WANT(bw_seat_commit_all(&seat, group * GROUP_LEN, GROUP_LEN, slice, used, &committed, &parents, &at) == BW_OK && committed == 0 && parents == 0);
+        WANT(bw_seat_commit(&seat, group * GROUP_LEN, GROUP_LEN, slice, used, &committed, &parents, &at) == BW_OK && committed == 0 && parents == 0);
         for (uint64_t k = 0; k < groups; k++)
             for (uint64_t n = 1; n <= GROUP_LEN; n += GROUP_LEN - 1) {
-                bw_status status = bw_seat_serve_slice(&seat, k * GROUP_LEN, n, served, sizeof served, &len, &lacking);
+                bw_status status = bw_seat_slice(&seat, k * GROUP_LEN, n, served, sizeof served, &len, &lacking);
                 WANT(status == (k <= group ? BW_OK : BW_LACKING));
                 if (k > group) continue;
                 WANT(bw_cut_slice(good->text, good->len, k * GROUP_LEN, n, slice, sizeof slice, &used) == BW_OK);
@@ -261,58 +239,58 @@ static void in_order(const uint8_t *root, const holder *good) {
             }
     }
     WANT(all == chunks && all_parents == chunks - 1);
-    bw_seat_free(&seat);
+    bw_free(&seat);
 }
 
-/* What bw_seat_commit_all stores where others claim, where the slice is of several groups, and what it refuses. */
+/* What bw_seat_commit stores where others claim, where the slice is of several groups, and what it refuses. */
 static void storing(const uint8_t *blob, const uint8_t *root, const holder *good) {
     static uint8_t slice[8 * GROUP_LEN], out[8 * GROUP_LEN];
     uint64_t committed = 7, parents = 7, at = 7, mask = 0, len = 0;
     size_t used = 0;
     bw_node lacking;
     bw_seat seat = BW_EMPTY, other = BW_EMPTY;
-    WANT(bw_seat_commit_all(&seat, 0, 1, good->text, good->len, &committed, &parents, &at) == BW_NO_HANDLE);
+    WANT(bw_seat_commit(&seat, 0, 1, good->text, good->len, &committed, &parents, &at) == BW_NO_HANDLE);
     WANT(bw_hasher_new(&plain, AS(bw_hasher, seat)) == BW_OK);
-    WANT(bw_seat_commit_all(&seat, 0, 1, good->text, good->len, &committed, &parents, &at) == BW_NO_HANDLE);
-    WANT(bw_hasher_finish(AS(bw_hasher, seat), out) == BW_OK && committed == 7 && parents == 7 && at == 7);
-    WANT(bw_store_new(&plain, root, 1024, &seat) == BW_OK && bw_seat_split(&seat, &other) == BW_OK);
+    WANT(bw_seat_commit(&seat, 0, 1, good->text, good->len, &committed, &parents, &at) == BW_NO_HANDLE);
+    WANT(bw_hasher_finish(AS(bw_hasher, seat), 0, out, BW_HASH_LEN) == BW_OK && committed == 7 && parents == 7 && at == 7);
+    WANT(bw_seat_new(&plain, root, 0, 1024, &seat) == BW_OK && bw_seat_split(&seat, &other) == BW_OK);
     WANT(bw_cut_slice(good->text, good->len, 0, GROUP_LEN, slice, sizeof slice, &used) == BW_OK);
     /* No length is recorded yet, or it is another one: nothing is stored. */
-    WANT(bw_seat_commit_all(&seat, 0, GROUP_LEN, slice, used, &committed, &parents, &at) == BW_OTHER_LENGTH && committed == 7 && parents == 7 && at == 7);
+    WANT(bw_seat_commit(&seat, 0, GROUP_LEN, slice, used, &committed, &parents, &at) == BW_OTHER_LENGTH && committed == 7 && parents == 7 && at == 7);
     WANT(bw_seat_read(&seat, 0, out, 1, &at) == BW_MISSING);
     WANT(bw_cut_slice(good->text, good->len, UINT64_MAX, 1, out, sizeof out, &used) == BW_OK && bw_seat_settle(&seat, out, used, &at) == BW_OK);
     WANT(bw_cut_slice(good->text, good->len, 0, GROUP_LEN, slice, sizeof slice, &used) == BW_OK);
     slice[0] ^= 1;
-    WANT(bw_check_slice(&plain, root, 0, GROUP_LEN, slice, used, &at) == BW_OK);
-    WANT(bw_seat_commit_all(&seat, 0, GROUP_LEN, slice, used, &committed, &parents, &at) == BW_OTHER_LENGTH && committed == 7 && parents == 7);
+    WANT(bw_check(of(&plain, root, 0, GROUP_LEN), slice, used, &at) == BW_OK);
+    WANT(bw_seat_commit(&seat, 0, GROUP_LEN, slice, used, &committed, &parents, &at) == BW_OTHER_LENGTH && committed == 7 && parents == 7);
     slice[0] ^= 1;
     slice[used - 1] ^= 1;
-    WANT(bw_seat_commit_all(&seat, 0, GROUP_LEN, slice, used, &committed, &parents, &at) == BW_MISMATCH && at == used - 1024);
+    WANT(bw_seat_commit(&seat, 0, GROUP_LEN, slice, used, &committed, &parents, &at) == BW_MISMATCH && at == used - 1024);
     slice[used - 1] ^= 1;
-    WANT(bw_seat_commit_all(&seat, 0, GROUP_LEN, slice, used - 1, &committed, &parents, &at) == BW_SHORT && at == used - 1024);
-    WANT(bw_seat_commit_all(&seat, 0, GROUP_LEN - 1024, slice, used, &committed, &parents, &at) == BW_TRAILING && at == used - 1024);
+    WANT(bw_seat_commit(&seat, 0, GROUP_LEN, slice, used - 1, &committed, &parents, &at) == BW_SHORT && at == used - 1024);
+    WANT(bw_seat_commit(&seat, 0, GROUP_LEN - 1024, slice, used, &committed, &parents, &at) == BW_TRAILING && at == used - 1024);
     WANT(committed == 7 && parents == 7 && bw_seat_read(&seat, 0, out, 1, &at) == BW_MISSING);
     WANT(bw_seat_take(&seat, 0, UINT64_MAX, &mask) == BW_OK && mask == UINT64_MAX && bw_seat_give(&seat, 0, UINT64_MAX, &mask) == BW_OK);
     /* What another seat claims stays its own; what the seat itself claims is stored. */
     WANT(bw_seat_take(&other, 0, 32, &mask) == BW_OK && mask == 32 && bw_seat_take(&seat, 0, 8, &mask) == BW_OK && mask == 8);
-    WANT(bw_seat_commit_all(&seat, 0, GROUP_LEN, slice, used, &committed, &parents, &at) == BW_OK && committed == 63 && parents == 67);
-    WANT(bw_seat_serve_slice(&seat, 0, GROUP_LEN, out, sizeof out, &used, &lacking) == BW_LACKING && lacking.kind == 1 && lacking.number == 5);
+    WANT(bw_seat_commit(&seat, 0, GROUP_LEN, slice, used, &committed, &parents, &at) == BW_OK && committed == 63 && parents == 67);
+    WANT(bw_seat_slice(&seat, 0, GROUP_LEN, out, sizeof out, &used, &lacking) == BW_LACKING && lacking.kind == 1 && lacking.number == 5);
     WANT(bw_seat_give(&seat, 0, UINT64_MAX, &mask) == BW_OK && mask == 0);
     WANT(bw_cut_slice(good->text, good->len, 5 * 1024, 1, slice, sizeof slice, &used) == BW_OK);
-    WANT(bw_seat_commit_all(&other, 5 * 1024, 1, slice, used, &committed, &parents, &at) == BW_OK && committed == 1 && parents == 0);
+    WANT(bw_seat_commit(&other, 5 * 1024, 1, slice, used, &committed, &parents, &at) == BW_OK && committed == 1 && parents == 0);
     WANT(bw_seat_give(&other, 0, UINT64_MAX, &mask) == BW_OK && mask == 0);
-    WANT(bw_seat_serve_slice(&seat, 0, GROUP_LEN, out, sizeof out, &used, &lacking) == BW_OK);
+    WANT(bw_seat_slice(&seat, 0, GROUP_LEN, out, sizeof out, &used, &lacking) == BW_OK);
     /* A slice that begins and ends within groups, then all that is left, and an encoding in which nothing is new. */
     WANT(bw_cut_slice(good->text, good->len, 100000, 300000, slice, sizeof slice, &used) == BW_OK);
-    WANT(bw_seat_commit_all(&seat, 100000, 300000, slice, used, &committed, &parents, &at) == BW_OK && committed == 390 - 97 + 1);
-    WANT(bw_seat_serve_slice(&other, 100000, 300000, out, sizeof out, &used, &lacking) == BW_OK && memcmp(out, slice, used) == 0);
-    WANT(bw_seat_commit_all(&other, 0, UINT64_MAX, good->text, good->len, &committed, &parents, &at) == BW_OK && committed == 977 - 64 - 294);
-    WANT(bw_seat_commit_all(&other, 0, UINT64_MAX, good->text, good->len, &committed, &parents, &at) == BW_OK && committed == 0 && parents == 0);
+    WANT(bw_seat_commit(&seat, 100000, 300000, slice, used, &committed, &parents, &at) == BW_OK && committed == 390 - 97 + 1);
+    WANT(bw_seat_slice(&other, 100000, 300000, out, sizeof out, &used, &lacking) == BW_OK && memcmp(out, slice, used) == 0);
+    WANT(bw_seat_commit(&other, 0, UINT64_MAX, good->text, good->len, &committed, &parents, &at) == BW_OK && committed == 977 - 64 - 294);
+    WANT(bw_seat_commit(&other, 0, UINT64_MAX, good->text, good->len, &committed, &parents, &at) == BW_OK && committed == 0 && parents == 0);
     uint8_t *found = room(BLOB_LEN);
     WANT(bw_seat_finish(&seat, found, BLOB_LEN, &used) == BW_OK && used == BLOB_LEN && memcmp(found, blob, BLOB_LEN) == 0);
     WANT(bw_seat_length(&seat, &len) == BW_OK && len == BLOB_LEN);
     free(found);
-    bw_seat_free(&seat), bw_seat_free(&other);
+    bw_free(&seat), bw_free(&other);
 }
 
 /* A store of a part of a blob counts chunks, groups and positions from its first chunk. No length is recorded in it, and what needs one says so. */
@@ -328,16 +306,16 @@ static void parts(const uint8_t *blob, const uint8_t *root, const holder *good) 
     uint8_t hash[BW_HASH_LEN];
     size_t used = 0, count = 7, outboard_len = 0;
     uint8_t *found = room(BLOB_LEN), *outboard = room((size_t)bw_outboard_len(BLOB_LEN));
-    WANT(bw_store_part(&unknown, root, most + 1, 0, &seat) == BW_NO_MODE && seat.at == NULL);
-    WANT(bw_store_part(&plain, root, first, 0, &seat) == BW_CAPACITY && bw_store_part(&plain, root, first, 65537, &seat) == BW_CAPACITY);
-    WANT(bw_store_part(&plain, root, most + 1, 1, &seat) == BW_CAPACITY && bw_store_part(&plain, root, UINT64_MAX, 1, &seat) == BW_CAPACITY && seat.at == NULL);
-    WANT(bw_store_part(&plain, root, most, 65536, &seat) == BW_OK && seat.at != NULL);
-    WANT(bw_store_part(&plain, root, first, 0, &seat) == BW_CAPACITY && seat.at == NULL);
+    WANT(bw_seat_new(&unknown, root, most + 1, 0, &seat) == BW_NO_MODE && seat.at == NULL);
+    WANT(bw_seat_new(&plain, root, first, 0, &seat) == BW_CAPACITY && bw_seat_new(&plain, root, first, 65537, &seat) == BW_CAPACITY);
+    WANT(bw_seat_new(&plain, root, most + 1, 1, &seat) == BW_CAPACITY && bw_seat_new(&plain, root, UINT64_MAX, 1, &seat) == BW_CAPACITY && seat.at == NULL);
+    WANT(bw_seat_new(&plain, root, most, 65536, &seat) == BW_OK && seat.at != NULL);
+    WANT(bw_seat_new(&plain, root, first, 0, &seat) == BW_CAPACITY && seat.at == NULL);
     WANT(bw_seat_commit_chunks(&seat, 0, UINT64_MAX, good->text, good->len, &committed, &at) == BW_NO_HANDLE);
     WANT(bw_hasher_new(&plain, AS(bw_hasher, seat)) == BW_OK);
     WANT(bw_seat_commit_chunks(&seat, 0, UINT64_MAX, good->text, good->len, &committed, &at) == BW_NO_HANDLE);
-    WANT(bw_hasher_finish(AS(bw_hasher, seat), hash) == BW_OK && committed == 7 && at == 7);
-    WANT(bw_store_part(&plain, root, first, (uint32_t)chunks, &seat) == BW_OK);
+    WANT(bw_hasher_finish(AS(bw_hasher, seat), 0, hash, BW_HASH_LEN) == BW_OK && committed == 7 && at == 7);
+    WANT(bw_seat_new(&plain, root, first, (uint32_t)chunks, &seat) == BW_OK);
     WANT(bw_seat_take(&seat, 0, UINT64_MAX, &mask) == BW_OK && mask == UINT64_MAX && bw_seat_take(&seat, 2, 1, &mask) == BW_NO_GROUP);
     WANT(bw_seat_take(&seat, 1, UINT64_MAX, &mask) == BW_OK && mask == (UINT64_C(1) << 36) - 1);
     /* The store's group 0 are chunks 200 to 263 of the blob: their slice is asked by the blob's bytes. */
@@ -350,7 +328,7 @@ static void parts(const uint8_t *blob, const uint8_t *root, const holder *good) 
     WANT(bw_seat_commit_chunks(&seat, start, GROUP_LEN - 1024, slice, used, &committed, &at) == BW_TRAILING && at == used - 1024);
     WANT(bw_seat_commit_chunks(&seat, start, GROUP_LEN, NULL, 0, &committed, &at) == BW_SHORT && at == 0 && committed == 7);
     WANT(bw_seat_read(&seat, 0, out, 1, &at) == BW_MISSING && at == 0);
-    WANT(bw_seat_commit(&seat, 0, start, GROUP_LEN, slice, used, &mask, &at) == BW_OK && mask == UINT64_MAX);
+    WANT(bw_seat_commit_chunks(&seat, start, GROUP_LEN, slice, used, &committed, &at) == BW_OK && committed == 64);
     WANT(bw_seat_held(&seat, 0, &mask) == BW_OK && mask == UINT64_MAX && bw_seat_held(&seat, 1, &mask) == BW_OK && mask == 0);
     WANT(bw_seat_held(&seat, 2, &mask) == BW_NO_GROUP);
     WANT(bw_seat_read(&seat, 5, out, GROUP_LEN - 5, &at) == BW_OK && memcmp(out, blob + start + 5, GROUP_LEN - 5) == 0);
@@ -369,48 +347,48 @@ static void parts(const uint8_t *blob, const uint8_t *root, const holder *good) 
     WANT(bw_outboard(&plain, blob, BLOB_LEN, outboard, (size_t)bw_outboard_len(BLOB_LEN), &outboard_len, hash) == BW_OK);
     WANT(bw_outline_new(&plain, root, outboard, outboard_len, &outline, &at) == BW_OK);
     committed = parents = 7;
-    WANT(bw_seat_commit_all(&seat, 150 * 1024, 200 * 1024, slice, used, &committed, &parents, &at) == BW_OTHER_LENGTH);
-    WANT(bw_outline_commit(&outline, &seat, first, 1, blob + start, 1024, &committed, &parents, &at) == BW_OTHER_LENGTH);
-    WANT(bw_seat_commit_parents(&seat, 0, 150 * 1024, 200 * 1024, slice, used, &parents, &at) == BW_OTHER_LENGTH && committed == 7 && parents == 7);
+    WANT(bw_seat_commit(&seat, 150 * 1024, 200 * 1024, slice, used, &committed, &parents, &at) == BW_OTHER_LENGTH);
+    WANT(bw_outline_commit(&outline, &seat, CHUNKS(first, 1), blob + start, 1024, &committed, &parents, &at) == BW_OTHER_LENGTH);
+    WANT(committed == 7 && parents == 7);
     WANT(bw_cut_slice(good->text, good->len, UINT64_MAX, 1, slice, sizeof slice, &used) == BW_OK && bw_seat_settle(&seat, slice, used, &at) == BW_TOO_LARGE);
-    WANT(bw_decode(&plain, root, UINT64_MAX, 1, slice, used, NULL, 0, &count, &len, &at) == BW_OK && count == 0 && len == BLOB_LEN);
+    WANT(bw_decode(of(&plain, root, UINT64_MAX, 1), slice, used, NULL, 0, &count, &len, &at) == BW_OK && count == 0 && len == BLOB_LEN);
     count = len = 7;
     WANT(bw_seat_length(&seat, &len) == BW_UNFINISHED && len == 7);
     WANT(bw_seat_finish(&seat, out, sizeof out, &count) == BW_UNFINISHED && count == 7);
-    WANT(bw_seat_serve_slice(&seat, 0, 1, out, sizeof out, &count, &lacking) == BW_NO_LENGTH && count == 7 && lacking.kind == 7);
-    WANT(bw_gather(&seat, 0, 1, good->text, good->len, &report) == BW_OK && report.committed == 0 && report.too_large == 1);
+    WANT(bw_seat_slice(&seat, 0, 1, out, sizeof out, &count, &lacking) == BW_NO_LENGTH && count == 7 && lacking.kind == 7);
+    WANT(bw_seat_gather(&seat, 0, 1, good->text, good->len, &report) == BW_OK && report.committed == 0 && report.too_large == 1);
     WANT(bw_seat_salvage(&seat, good->text, good->len, &report) == BW_OK && report.committed == 0 && report.parents == 0);
     /* Seats of parts from other chunks on can be told apart. */
     WANT(bw_seat_join(&seat, &other) == BW_OK && other.at == NULL);
-    WANT(bw_store_part(&plain, root, first + 1, (uint32_t)chunks, &other) == BW_OK);
-    WANT(bw_seat_join(&seat, &other) == BW_OTHER_STORE && bw_seat_meet(&seat, &other) == BW_OTHER_STORE && other.at != NULL);
+    WANT(bw_seat_new(&plain, root, first + 1, (uint32_t)chunks, &other) == BW_OK);
+    WANT(bw_seat_join(&seat, &other) == BW_OTHER_STORE && other.at != NULL);
     /* Parts in which the blob ends, and behind its end. */
-    WANT(bw_store_part(&plain, root, 970, 64, &seat) == BW_OK);
+    WANT(bw_seat_new(&plain, root, 970, 64, &seat) == BW_OK);
     WANT(bw_cut_slice(good->text, good->len, 970 * 1024, GROUP_LEN, slice, sizeof slice, &used) == BW_OK);
     WANT(bw_seat_commit_chunks(&seat, 970 * 1024, GROUP_LEN, slice, used, &committed, &at) == BW_OK && committed == 7);
     WANT(bw_seat_read(&seat, 0, out, GROUP_LEN, &at) == BW_MISSING && at == BLOB_LEN - 970 * 1024 && memcmp(out, blob + 970 * 1024, (size_t)at) == 0);
-    WANT(bw_store_part(&plain, root, 977, 64, &seat) == BW_OK);
+    WANT(bw_seat_new(&plain, root, 977, 64, &seat) == BW_OK);
     WANT(bw_seat_commit_chunks(&seat, 970 * 1024, GROUP_LEN, slice, used, &committed, &at) == BW_OK && committed == 0);
     /* Parts one after another are the blob. */
     for (uint64_t from = 0; from < 977; from += 150) {
         uint64_t n = from + 150 < 977 ? 150 : 977 - from;
         size_t bytes = (size_t)((from + n) * 1024 < BLOB_LEN ? n * 1024 : BLOB_LEN - from * 1024);
-        WANT(bw_store_part(&plain, root, from, (uint32_t)n, &seat) == BW_OK);
+        WANT(bw_seat_new(&plain, root, from, (uint32_t)n, &seat) == BW_OK);
         WANT(bw_cut_slice(good->text, good->len, from * 1024, n * 1024, slice, sizeof slice, &used) == BW_OK);
         WANT(bw_seat_commit_chunks(&seat, from * 1024, n * 1024, slice, used, &committed, &at) == BW_OK && committed == n);
         WANT(bw_seat_read(&seat, 0, found + from * 1024, bytes, &at) == BW_OK);
     }
     WANT(memcmp(found, blob, BLOB_LEN) == 0);
-    /* From chunk 0 on it is what bw_store_new makes. Where the blob has no room there, no length is recorded either. */
+    /* Where the blob has no room there, no length is recorded either. */
     WANT(bw_cut_slice(good->text, good->len, UINT64_MAX, 1, slice, sizeof slice, &used) == BW_OK);
-    WANT(bw_store_part(&plain, root, 0, 976, &seat) == BW_OK && bw_seat_settle(&seat, slice, used, &at) == BW_TOO_LARGE);
+    WANT(bw_seat_new(&plain, root, 0, 976, &seat) == BW_OK && bw_seat_settle(&seat, slice, used, &at) == BW_TOO_LARGE);
     WANT(bw_seat_commit_chunks(&seat, 0, UINT64_MAX, good->text, good->len, &committed, &at) == BW_OK && committed == 976);
-    WANT(bw_store_part(&plain, root, 0, 977, &seat) == BW_OK && bw_seat_settle(&seat, slice, used, &at) == BW_OK);
+    WANT(bw_seat_new(&plain, root, 0, 977, &seat) == BW_OK && bw_seat_settle(&seat, slice, used, &at) == BW_OK);
     WANT(bw_seat_commit_chunks(&seat, 0, UINT64_MAX, good->text, good->len, &committed, &at) == BW_OK && committed == 977);
-    WANT(bw_seat_serve_slice(&seat, 0, 1, out, sizeof out, &count, &lacking) == BW_LACKING && lacking.kind == 0 && lacking.number == 512);
-    WANT(bw_seat_commit_all(&seat, 0, UINT64_MAX, good->text, good->len, &committed, &parents, &at) == BW_OK && committed == 0 && parents == 976);
+    WANT(bw_seat_slice(&seat, 0, 1, out, sizeof out, &count, &lacking) == BW_LACKING && lacking.kind == 0 && lacking.number == 512);
+    WANT(bw_seat_commit(&seat, 0, UINT64_MAX, good->text, good->len, &committed, &parents, &at) == BW_OK && committed == 0 && parents == 976);
     WANT(bw_seat_finish(&seat, found, BLOB_LEN, &count) == BW_OK && count == BLOB_LEN && memcmp(found, blob, BLOB_LEN) == 0);
-    bw_seat_free(&seat), bw_seat_free(&other), bw_outline_free(&outline);
+    bw_free(&seat), bw_free(&other), bw_free(&outline);
     free(found), free(outboard);
 }
 
@@ -421,25 +399,19 @@ static void rows(void) {
     for (size_t k = 0; k < sizeof rows_of_b3sum / sizeof *rows_of_b3sum; k++) {
         const row *it = &rows_of_b3sum[k];
         uint8_t out[ROW_OUT_LEN], part[7];
-        if (it->kind == 2) {
-            WANT(bw_derive_key((const uint8_t *)ROW_CONTEXT, sizeof ROW_CONTEXT - 1, bytes, it->len, out, sizeof out) == BW_OK);
-            WANT(memcmp(out, it->out, sizeof out) == 0);
-        }
         bw_mode mode = {it->kind, {0}};
         memcpy(mode.key, ROW_KEY, sizeof mode.key);
         if (it->kind == 2) WANT(bw_mode_derive((const uint8_t *)ROW_CONTEXT, sizeof ROW_CONTEXT - 1, &mode) == BW_OK && mode.kind == BW_MODE_DERIVE_KEY);
-        bw_hash(&mode, bytes, it->len, out);
-        WANT(memcmp(out, it->out, BW_HASH_LEN) == 0);
-        WANT(bw_xof(&mode, bytes, it->len, 0, out, sizeof out) == BW_OK);
+        WANT(bw_hash(&mode, bytes, it->len, 0, out, sizeof out) == BW_OK);
         WANT(memcmp(out, it->out, sizeof out) == 0);
-        WANT(bw_xof(&mode, bytes, it->len, 61, part, sizeof part) == BW_OK && memcmp(part, it->out + 61, sizeof part) == 0);
+        WANT(bw_hash(&mode, bytes, it->len, 61, part, sizeof part) == BW_OK && memcmp(part, it->out + 61, sizeof part) == 0);
         bw_hasher hasher = BW_EMPTY;
         WANT(bw_hasher_new(&mode, &hasher) == BW_OK);
         WANT(bw_hasher_update(&hasher, bytes, it->len / 3) == BW_OK);
         WANT(bw_hasher_update(&hasher, bytes + it->len / 3, it->len - it->len / 3) == BW_OK);
-        WANT(bw_hasher_xof(&hasher, 61, part, sizeof part) == BW_OK && memcmp(part, it->out + 61, sizeof part) == 0);
-        WANT(bw_hasher_finish(&hasher, out) == BW_OK && memcmp(out, it->out, BW_HASH_LEN) == 0);
-        bw_hasher_free(&hasher);
+        WANT(bw_hasher_finish(&hasher, 61, part, sizeof part) == BW_OK && memcmp(part, it->out + 61, sizeof part) == 0);
+        WANT(bw_hasher_finish(&hasher, 0, out, BW_HASH_LEN) == BW_OK && memcmp(out, it->out, BW_HASH_LEN) == 0);
+        bw_free(&hasher);
     }
 }
 
@@ -447,40 +419,35 @@ static void hashes(const uint8_t *blob, size_t len, const uint8_t *root) {
     uint8_t out[BW_HASH_LEN];
     static const uint8_t of_nothing[BW_HASH_LEN] = {0xaf, 0x13, 0x49, 0xb9, 0xf5, 0xf9, 0xa1, 0xa6, 0xa0, 0x40, 0x4d, 0xea, 0x36, 0xdc, 0xc9, 0x49,
                                                     0x9b, 0xcb, 0x25, 0xc9, 0xad, 0xc1, 0x12, 0xb7, 0xcc, 0x9a, 0x93, 0xca, 0xe4, 0x1f, 0x32, 0x62};
-    bw_hash(&plain, blob, 0, out);
-    WANT(memcmp(out, of_nothing, sizeof out) == 0);
-    bw_hash(&plain, blob, len, out);
-    WANT(memcmp(out, root, sizeof out) == 0);
+    WANT(bw_hash(&plain, blob, 0, 0, out, sizeof out) == BW_OK && memcmp(out, of_nothing, sizeof out) == 0);
+    WANT(bw_hash(&plain, blob, len, 0, out, sizeof out) == BW_OK && memcmp(out, root, sizeof out) == 0);
 
     bw_hasher hasher = BW_EMPTY;
     WANT(bw_hasher_update(&hasher, blob, 1) == BW_NO_HANDLE);
-    WANT(bw_hasher_finish(&hasher, out) == BW_NO_HANDLE);
+    WANT(bw_hasher_finish(&hasher, 0, out, BW_HASH_LEN) == BW_NO_HANDLE);
     WANT(bw_hasher_new(&plain, &hasher) == BW_OK);
     for (size_t at = 0, step = 1; at < len; at += step, step = step * 3 % 8191 + 1) {
         if (step > len - at) step = len - at;
         WANT(bw_hasher_update(&hasher, blob + at, step) == BW_OK);
     }
     memset(out, 0, sizeof out);
-    WANT(bw_hasher_finish(&hasher, out) == BW_OK);
+    WANT(bw_hasher_finish(&hasher, 0, out, BW_HASH_LEN) == BW_OK);
     WANT(memcmp(out, root, sizeof out) == 0);
     uint64_t mask = 0;
     WANT(bw_seat_take(AS(bw_seat, hasher), 0, 1, &mask) == BW_NO_HANDLE);
-    WANT(bw_xof(&plain, blob, 1, UINT64_MAX, out, 1) == BW_PAST_OUTPUT);
-    WANT(bw_hasher_xof(&hasher, UINT64_MAX, out, 1) == BW_PAST_OUTPUT);
-    WANT(bw_xof(&plain, blob, 1, UINT64_MAX, out, 0) == BW_OK);
-    WANT(bw_derive_key((const uint8_t *)"\xff", 1, blob, 1, out, 1) == BW_NOT_UTF8);
+    WANT(bw_hash(&plain, blob, 1, UINT64_MAX, out, 1) == BW_PAST_OUTPUT);
+    WANT(bw_hasher_finish(&hasher, UINT64_MAX, out, 1) == BW_PAST_OUTPUT);
+    WANT(bw_hash(&plain, blob, 1, UINT64_MAX, out, 0) == BW_OK);
     WANT(strcmp(bw_strerror(BW_OK), "success") == 0 && strcmp(bw_strerror(1), bw_strerror(2)) == 0);
     WANT(bw_hasher_new(&plain, &hasher) == BW_OK);
-    WANT(bw_hasher_finish(&hasher, out) == BW_OK);
+    WANT(bw_hasher_finish(&hasher, 0, out, BW_HASH_LEN) == BW_OK);
     WANT(memcmp(out, of_nothing, sizeof out) == 0);
-    bw_hasher_free(&hasher);
-    bw_hasher_free(&hasher);
-    WANT(hasher.at == NULL);
+    bw_free(&hasher);
     bw_free(&hasher);
     WANT(hasher.at == NULL && bw_hasher_new(&plain, &hasher) == BW_OK && hasher.at != NULL);
     bw_free(&hasher);
     WANT(hasher.at == NULL);
-    bw_free(NULL), bw_hasher_free(NULL), bw_feed_free(NULL), bw_outline_free(NULL), bw_seat_free(NULL);
+    bw_free(NULL);
 }
 
 /* NULL beside a length of 0 is as good as any address: here each call that takes bytes or a buffer has none, of a blob of no bytes. */
@@ -497,39 +464,33 @@ static void nothings(void) {
     bw_report report = {0, 0, 0, 0, 0, 0, 0};
     uint64_t at = 7, total = 7, committed = 7, parents = 7;
     size_t used = 7, other = 8, taken = 7, filled = 7;
-    bw_hash(&plain, NULL, 0, hash), bw_hash(&plain, one, 0, also);
+    WANT(bw_hash(&plain, NULL, 0, 0, NULL, 0) == BW_OK && bw_hash(&plain, NULL, 0, 0, hash, 32) == BW_OK && bw_hash(&plain, one, 0, 0, also, 32) == BW_OK);
     WANT(memcmp(hash, also, sizeof hash) == 0);
-    WANT(bw_xof(&plain, NULL, 0, 0, NULL, 0) == BW_OK && bw_xof(&plain, NULL, 0, 0, also, 32) == BW_OK && memcmp(hash, also, sizeof hash) == 0);
-    WANT(bw_derive_key(NULL, 0, NULL, 0, NULL, 0) == BW_OK && bw_derive_key(NULL, 0, NULL, 0, also, 32) == BW_OK);
-    WANT(bw_mode_derive(NULL, 0, &mode) == BW_OK && bw_hasher_new(&mode, &hasher) == BW_OK && bw_hasher_update(&hasher, NULL, 0) == BW_OK);
-    WANT(bw_hasher_xof(&hasher, 0, NULL, 0) == BW_OK && bw_hasher_finish(&hasher, hash) == BW_OK && memcmp(hash, also, sizeof hash) == 0);
-    bw_hash(&plain, NULL, 0, hash);
+    WANT(bw_mode_derive(NULL, 0, &mode) == BW_OK && bw_hash(&mode, NULL, 0, 0, also, 32) == BW_OK && bw_hasher_new(&mode, &hasher) == BW_OK && bw_hasher_update(&hasher, NULL, 0) == BW_OK);
+    WANT(bw_hasher_finish(&hasher, 0, NULL, 0) == BW_OK && bw_hasher_finish(&hasher, 0, hash, BW_HASH_LEN) == BW_OK && memcmp(hash, also, sizeof hash) == 0);
+    WANT(bw_hash(&plain, NULL, 0, 0, hash, 32) == BW_OK);
     WANT(bw_encode(&plain, NULL, 0, NULL, 0, &used, also) == BW_ROOM && used == 8 && bw_encode(&plain, NULL, 0, one, 8, &used, also) == BW_OK);
     WANT(bw_outboard(&plain, NULL, 0, NULL, 0, &used, also) == BW_ROOM && used == 8 && bw_outboard(&plain, NULL, 0, one, 8, &used, also) == BW_OK);
-    WANT(bw_slice(&plain, NULL, 0, 0, 1, NULL, 0, &used, also) == BW_ROOM && used == 8 && bw_slice(&plain, NULL, 0, 0, 1, one, 8, &used, also) == BW_OK);
     WANT(memcmp(hash, also, sizeof hash) == 0 && memcmp(one, claim, sizeof claim) == 0);
     WANT(bw_cut_slice(NULL, 0, 0, 1, NULL, 0, &used) == bw_cut_slice(one, 0, 0, 1, also, 0, &other) && used == other);
     WANT(bw_slice_ranges(5000, 0, 1, NULL, 0, &used) == BW_ROOM && bw_outboard_ranges(5000, 0, 1, NULL, 0, &used) == BW_ROOM);
-    WANT(bw_check_slice(&plain, hash, 0, 1, NULL, 0, &at) == BW_SHORT && at == 0 && bw_check_combined(&plain, hash, NULL, 0, &at) == BW_SHORT);
-    WANT(bw_check_outboard(&plain, hash, NULL, 0, &at) == BW_SHORT && bw_check_bare(&plain, hash, NULL, 0, 0, 1, NULL, 0, &at) == BW_NO_OUTBOARD);
-    WANT(bw_check_bare(&plain, hash, claim, 8, 0, 1, NULL, 0, &at) == BW_OK && bw_audit(&plain, hash, 0, 1, claim, 8, NULL, 0, &at, &ours, &theirs) == BW_OK);
-    WANT(bw_decode(&plain, hash, 0, 1, claim, 8, NULL, 0, &used, &total, &at) == BW_OK && used == 0 && total == 0);
-    WANT(bw_feed_combined(&plain, hash, &feed) == BW_OK && bw_feed_take(&feed, NULL, 0, &at) == BW_OTHER_SIZE);
-    WANT(bw_feed_take_many(&feed, NULL, 0, NULL, 0, &taken, &filled, &at) == BW_OK && taken == 0 && filled == 0);
-    WANT(bw_feed_finish(&feed, NULL, 0, &at) == BW_SHORT && bw_feed_take(&feed, claim, 8, &at) == BW_OK && bw_feed_finish(&feed, NULL, 0, &at) == BW_OK);
-    WANT(bw_store_new(&plain, hash, 1, &seat) == BW_OK && bw_seat_commit(&seat, 0, 0, 1, NULL, 0, &committed, &at) == BW_SHORT);
+    WANT(bw_check(of(&plain, hash, 0, 1), NULL, 0, &at) == BW_SHORT && at == 0);
+    WANT(bw_audit(of(&plain, hash, 0, 1), claim, 8, NULL, 0, &at, &ours, &theirs) == BW_OK);
+    WANT(bw_decode(of(&plain, hash, 0, 1), claim, 8, NULL, 0, &used, &total, &at) == BW_OK && used == 0 && total == 0);
+    WANT(bw_feed_new(of(&plain, hash, 0, UINT64_MAX), &feed) == BW_OK && bw_feed_finish(&feed, NULL, 0, &at) == BW_SHORT);
+    WANT(bw_feed_take(&feed, NULL, 0, NULL, 0, &taken, &filled, &at) == BW_OK && taken == 0 && filled == 0);
+    WANT(bw_feed_take(&feed, claim, 8, also, 8, &taken, &filled, &at) == BW_OK && bw_feed_finish(&feed, NULL, 0, &at) == BW_OK);
+    WANT(bw_seat_new(&plain, hash, 0, 1, &seat) == BW_OK && bw_seat_commit_chunks(&seat, 0, 1, NULL, 0, &committed, &at) == BW_SHORT);
     WANT(bw_seat_settle(&seat, NULL, 0, &at) == BW_SHORT && bw_seat_settle(&seat, claim, 8, &at) == BW_OK);
-    WANT(bw_seat_commit_parents(&seat, 0, 0, 1, NULL, 0, &parents, &at) == BW_SHORT && bw_seat_commit_all(&seat, 0, 1, NULL, 0, &committed, &parents, &at) == BW_SHORT);
-    WANT(bw_gather(&seat, 0, 1, NULL, 0, &report) == BW_OK && bw_seat_salvage(&seat, NULL, 0, &report) == BW_OK);
+    WANT(bw_seat_commit(&seat, 0, 1, NULL, 0, &committed, &parents, &at) == BW_SHORT);
+    WANT(bw_seat_gather(&seat, 0, 1, NULL, 0, &report) == BW_OK && bw_seat_salvage(&seat, NULL, 0, &report) == BW_OK);
     WANT(bw_outline_new(&plain, hash, NULL, 0, &outline, &at) == BW_SHORT && bw_outline_new(&plain, hash, claim, 8, &outline, &at) == BW_OK);
-    WANT(bw_feed_outboard(&plain, hash, &feed) == BW_OK && bw_feed_push(&feed, NULL, 0, &at) == BW_OK && bw_feed_outline(&feed, &outline, &at) == BW_SHORT && at == 0);
-    WANT(bw_feed_push(&feed, claim, 8, &at) == BW_OK && bw_feed_push(&feed, NULL, 0, &at) == BW_OK && bw_feed_outline(&feed, &outline, &at) == BW_OK);
-    WANT(bw_outline_check(&outline, 0, 1, NULL, 0, &at) == BW_OK && bw_outline_slice(&outline, 0, 1, NULL, 0, NULL, 0, &used, &at) == BW_ROOM && used == 8);
-    WANT(bw_outline_slice(&outline, 0, 1, NULL, 0, one, 8, &used, &at) == BW_OK && used == 8 && memcmp(one, claim, sizeof claim) == 0);
-    WANT(bw_outline_commit(&outline, &seat, 0, 1, NULL, 0, &committed, &parents, &at) == BW_OK && committed == 1 && parents == 0);
-    WANT(bw_seat_commit_all(&seat, 0, 1, claim, 8, &committed, &parents, &at) == BW_OK && bw_seat_read(&seat, 0, NULL, 0, &at) == BW_OK);
-    WANT(bw_seat_serve_slice(&seat, 0, 1, NULL, 0, &used, &lacking) == BW_ROOM && used == 8 && bw_seat_finish(&seat, NULL, 0, &used) == BW_OK && used == 0);
-    bw_hasher_free(&hasher), bw_feed_free(&feed), bw_seat_free(&seat), bw_outline_free(&outline);
+    WANT(bw_outline_check(&outline, CHUNKS(0, 1), NULL, 0, &at) == BW_OK && bw_outline_slice(&outline, CHUNKS(0, 1), NULL, 0, NULL, 0, &used, &at) == BW_ROOM && used == 8);
+    WANT(bw_outline_slice(&outline, CHUNKS(0, 1), NULL, 0, one, 8, &used, &at) == BW_OK && used == 8 && memcmp(one, claim, sizeof claim) == 0);
+    WANT(bw_outline_commit(&outline, &seat, CHUNKS(0, 1), NULL, 0, &committed, &parents, &at) == BW_OK && committed == 1 && parents == 0);
+    WANT(bw_seat_commit(&seat, 0, 1, claim, 8, &committed, &parents, &at) == BW_OK && bw_seat_read(&seat, 0, NULL, 0, &at) == BW_OK);
+    WANT(bw_seat_slice(&seat, 0, 1, NULL, 0, &used, &lacking) == BW_ROOM && used == 8 && bw_seat_finish(&seat, NULL, 0, &used) == BW_OK && used == 0);
+    bw_free(&hasher), bw_free(&feed), bw_free(&seat), bw_free(&outline);
 }
 
 /* A mode with a derived key is as good as any other, and one of an unknown kind is refused by each call that can. */
@@ -542,20 +503,20 @@ static void modes(const uint8_t *blob) {
     bw_input ours, theirs;
     uint8_t root[BW_HASH_LEN], hash[BW_HASH_LEN];
     uint64_t at = 7, total = 7, committed = 7, parents = 7;
-    size_t used = 7, len = 7;
+    size_t used = 7, len = 7, taken = 7, filled = 7;
     WANT(bw_mode_derive((const uint8_t *)"\xc0\x80", 2, &mode) == BW_NOT_UTF8 && mode.kind == 7 && mode.key[0] == 5);
     WANT(bw_mode_derive((const uint8_t *)"a use", 5, &derived) == BW_OK && derived.kind == 2);
     /* The key is the hash of the context, and no secret: without it the same mode isn't made of another context. */
     WANT(bw_mode_derive((const uint8_t *)"a use", 4, &mode) == BW_OK && memcmp(mode.key, derived.key, sizeof mode.key) != 0);
     WANT(bw_encode(&derived, blob, 5000, text, sizeof text, &used, root) == BW_OK);
-    WANT(bw_derive_key((const uint8_t *)"a use", 5, blob, 5000, hash, sizeof hash) == BW_OK && memcmp(hash, root, sizeof hash) == 0);
-    WANT(bw_check_combined(&derived, root, text, used, &at) == BW_OK && bw_check_combined(&mode, root, text, used, &at) == BW_MISMATCH && at == 8);
-    WANT(bw_decode(&derived, root, 0, UINT64_MAX, text, used, out, sizeof out, &len, &total, &at) == BW_OK && len == 5000 && memcmp(out, blob, len) == 0);
-    WANT(bw_feed_combined(&derived, root, &feed) == BW_OK && bw_store_new(&derived, root, 5, &seat) == BW_OK);
-    WANT(bw_feed_take(&feed, text, 8, &at) == BW_OK && bw_feed_take(&feed, text + 8, 64, &at) == BW_OK);
+    WANT(bw_hash(&derived, blob, 5000, 0, hash, sizeof hash) == BW_OK && memcmp(hash, root, sizeof hash) == 0);
+    WANT(bw_check(of(&derived, root, 0, UINT64_MAX), text, used, &at) == BW_OK && bw_check(of(&mode, root, 0, UINT64_MAX), text, used, &at) == BW_MISMATCH && at == 8);
+    WANT(bw_decode(of(&derived, root, 0, UINT64_MAX), text, used, out, sizeof out, &len, &total, &at) == BW_OK && len == 5000 && memcmp(out, blob, len) == 0);
+    WANT(bw_feed_new(of(&derived, root, 0, UINT64_MAX), &feed) == BW_OK && bw_seat_new(&derived, root, 0, 5, &seat) == BW_OK);
+    WANT(bw_feed_take(&feed, text, 72, out, 72, &taken, &filled, &at) == BW_OK && taken == 72 && filled == 0);
     WANT(bw_seat_settle(&seat, text, used, &at) == BW_MISMATCH);
-    WANT(bw_slice(&derived, blob, 5000, UINT64_MAX, 1, out, sizeof out, &len, hash) == BW_OK && bw_seat_settle(&seat, out, len, &at) == BW_OK);
-    WANT(bw_seat_commit_all(&seat, 0, UINT64_MAX, text, used, &committed, &parents, &at) == BW_OK && committed == 5 && parents == 4);
+    WANT(bw_cut_slice(text, used, UINT64_MAX, 1, out, sizeof out, &len) == BW_OK && bw_seat_settle(&seat, out, len, &at) == BW_OK);
+    WANT(bw_seat_commit(&seat, 0, UINT64_MAX, text, used, &committed, &parents, &at) == BW_OK && committed == 5 && parents == 4);
     WANT(bw_seat_finish(&seat, out, sizeof out, &len) == BW_OK && len == 5000 && memcmp(out, blob, len) == 0);
     WANT(bw_hasher_new(&derived, &hasher) == BW_OK);
 
@@ -563,28 +524,21 @@ static void modes(const uint8_t *blob) {
     for (size_t k = 0; k < sizeof kinds / sizeof *kinds; k++) {
         const bw_mode unknown = {kinds[k], {0}};
         WANT(bw_encode(&plain, blob, 5000, text, sizeof text, &used, root) == BW_OK);
-        bw_hash(&unknown, blob, 5000, hash);
-        WANT(memcmp(hash, root, sizeof hash) == 0);
         at = 7, total = 7, len = 7, out[0] = 9, hash[0] = 9;
-        WANT(bw_xof(&unknown, blob, 5000, 0, out, 1) == BW_NO_MODE && bw_xof(&unknown, blob, 5000, UINT64_MAX, out, 1) == BW_NO_MODE);
+        WANT(bw_hash(&unknown, blob, 5000, 0, out, 1) == BW_NO_MODE && bw_hash(&unknown, blob, 5000, UINT64_MAX, out, 1) == BW_NO_MODE);
         WANT(bw_encode(&unknown, blob, 5000, out, sizeof out, &len, hash) == BW_NO_MODE && bw_encode(&unknown, blob, 5000, out, 1, &len, hash) == BW_NO_MODE);
         WANT(bw_outboard(&unknown, blob, 5000, out, sizeof out, &len, hash) == BW_NO_MODE && bw_outboard(&unknown, blob, 5000, out, 1, &len, hash) == BW_NO_MODE);
-        WANT(bw_slice(&unknown, blob, 5000, 0, 1, out, sizeof out, &len, hash) == BW_NO_MODE);
-        WANT(bw_check_slice(&unknown, root, 0, UINT64_MAX, text, used, &at) == BW_NO_MODE && bw_check_slice(&unknown, root, 0, 1, text, 7, &at) == BW_NO_MODE);
-        WANT(bw_check_combined(&unknown, root, text, used, &at) == BW_NO_MODE && bw_check_outboard(&unknown, root, text, used, &at) == BW_NO_MODE);
-        WANT(bw_check_bare(&unknown, root, text, used, 0, 0, blob, 1, &at) == BW_NO_MODE);
-        WANT(bw_decode(&unknown, root, 0, UINT64_MAX, text, used, out, 1, &len, &total, &at) == BW_NO_MODE);
-        WANT(bw_audit(&unknown, root, 0, UINT64_MAX, text, used, blob, 5000, &at, &ours, &theirs) == BW_NO_MODE);
+        WANT(bw_check(of(&unknown, root, 0, UINT64_MAX), text, used, &at) == BW_NO_MODE && bw_check(of(&unknown, root, 0, 1), text, 7, &at) == BW_NO_MODE);
+        WANT(bw_decode(of(&unknown, root, 0, UINT64_MAX), text, used, out, 1, &len, &total, &at) == BW_NO_MODE);
+        WANT(bw_audit(of(&unknown, root, 0, UINT64_MAX), text, used, blob, 5000, &at, &ours, &theirs) == BW_NO_MODE);
         WANT(at == 7 && total == 7 && len == 7 && out[0] == 9 && hash[0] == 9);
         /* A handle that was to be filled is empty. */
         WANT(bw_hasher_new(&plain, &hasher) == BW_OK && bw_hasher_new(&unknown, &hasher) == BW_NO_MODE && hasher.at == NULL);
-        WANT(bw_feed_combined(&plain, root, &feed) == BW_OK && bw_feed_combined(&unknown, root, &feed) == BW_NO_MODE && feed.at == NULL);
-        WANT(bw_feed_slice(&plain, root, 0, 1, &feed) == BW_OK && bw_feed_slice(&unknown, root, 0, 1, &feed) == BW_NO_MODE && feed.at == NULL);
-        WANT(bw_feed_outboard(&plain, root, &feed) == BW_OK && bw_feed_outboard(&unknown, root, &feed) == BW_NO_MODE && feed.at == NULL);
-        WANT(bw_store_new(&plain, root, 5, &seat) == BW_OK && bw_store_new(&unknown, root, 0, &seat) == BW_NO_MODE && seat.at == NULL);
+        WANT(bw_feed_new(of(&plain, root, 0, 1), &feed) == BW_OK && bw_feed_new(of(&unknown, root, 0, 1), &feed) == BW_NO_MODE && feed.at == NULL);
+        WANT(bw_seat_new(&plain, root, 0, 5, &seat) == BW_OK && bw_seat_new(&unknown, root, 0, 0, &seat) == BW_NO_MODE && seat.at == NULL);
     }
     WANT(strcmp(bw_strerror(BW_NO_MODE), bw_strerror(1)) != 0);
-    bw_feed_free(&feed), bw_seat_free(&seat), bw_hasher_free(&hasher);
+    bw_free(&feed), bw_free(&seat), bw_free(&hasher);
 }
 
 static void texts(const uint8_t *blob, const uint8_t *root, holder *good) {
@@ -595,158 +549,27 @@ static void texts(const uint8_t *blob, const uint8_t *root, holder *good) {
     WANT(bw_encode(&plain, blob, BLOB_LEN, outboard, outboard_len, &used, again) == BW_ROOM);
     WANT(bw_outboard(&plain, blob, BLOB_LEN, outboard, outboard_len, &used, again) == BW_OK);
     WANT(used == outboard_len && memcmp(again, root, sizeof again) == 0);
-    WANT(bw_check_outboard(&plain, root, outboard, used, &at) == BW_OK && at == 7);
-    uint64_t all = (BLOB_LEN + BW_CHUNK_LEN - 1) / BW_CHUNK_LEN;
-    WANT(bw_check_bare(&plain, root, outboard, used, 0, all, blob, BLOB_LEN, &at) == BW_OK);
-    WANT(bw_check_bare(&plain, root, outboard, used, 5, 3, blob + 5 * 1024, 3 * 1024, &at) == BW_OK && at == 7);
-    WANT(bw_check_bare(&plain, root, outboard, used, 5, 3, blob + 5 * 1024, 3 * 1024 - 1, &at) == BW_SHORT && at == 2 * 1024);
-    WANT(bw_check_bare(&plain, root, outboard, used, 5, 3, blob + 5 * 1024, 3 * 1024 + 1, &at) == BW_TRAILING && at == 3 * 1024);
-    WANT(bw_check_bare(&plain, root, outboard, used, 6, 3, blob + 5 * 1024, 3 * 1024, &at) == BW_MISMATCH && at == 0);
-    WANT(bw_check_bare(&plain, root, outboard, used, 0, all + 1, blob, BLOB_LEN, &at) == BW_NO_CHUNKS);
-    WANT(bw_check_bare(&plain, root, outboard, used, 0, 0, blob, 0, &at) == BW_NO_CHUNKS);
-    WANT(bw_check_bare(&plain, root, outboard, used - 1, 0, 1, blob, 1024, &at) == BW_NO_OUTBOARD);
-    outboard[8] ^= 1;
-    WANT(bw_check_outboard(&plain, root, outboard, used, &at) == BW_MISMATCH && at == 8);
     free(outboard);
 
-    WANT(bw_check_combined(&plain, root, good->text, good->len, &at) == BW_OK);
-    WANT(bw_check_combined(&plain, root, good->text, good->len - 1, &at) == BW_SHORT);
+    WANT(bw_check(of(&plain, root, 0, UINT64_MAX), good->text, good->len, &at) == BW_OK);
+    WANT(bw_check(of(&plain, root, 0, UINT64_MAX), good->text, good->len - 1, &at) == BW_SHORT);
     uint8_t *longer = room(good->len + 1);
     memcpy(longer, good->text, good->len);
     longer[good->len] = 0;
-    WANT(bw_check_combined(&plain, root, longer, good->len + 1, &at) == BW_TRAILING && at == good->len);
+    WANT(bw_check(of(&plain, root, 0, UINT64_MAX), longer, good->len + 1, &at) == BW_TRAILING && at == good->len);
     free(longer);
 
     bw_input ours, theirs;
     size_t cut_len = (size_t)bw_encoded_len(4096) + 64 * 64;
     uint8_t *cut = room(cut_len);
     WANT(bw_cut_slice(good->text, good->len, 5000, 3000, cut, cut_len, &used) == BW_OK);
-    WANT(bw_check_slice(&plain, root, 5000, 3000, cut, used, &at) == BW_OK);
-    uint8_t *whole = room(cut_len);
-    size_t whole_len = 0;
-    WANT(bw_slice(&plain, blob, BLOB_LEN, 5000, 3000, whole, cut_len, &whole_len, again) == BW_OK);
-    WANT(whole_len == used && memcmp(whole, cut, used) == 0 && memcmp(again, root, sizeof again) == 0);
-    WANT(bw_slice(&plain, blob, BLOB_LEN, 5000, 3000, whole, used - 1, &whole_len, again) == BW_ROOM);
-    free(whole);
-    WANT(bw_audit(&plain, root, 5000, 3000, cut, used, blob, BLOB_LEN, &at, &ours, &theirs) == BW_OK);
-    WANT(bw_audit(&plain, root, 5000, 3000, cut, used, blob, BLOB_LEN - 1, &at, &ours, &theirs) == BW_OTHER_BLOB);
+    WANT(bw_check(of(&plain, root, 5000, 3000), cut, used, &at) == BW_OK);
+    WANT(bw_audit(of(&plain, root, 5000, 3000), cut, used, blob, BLOB_LEN, &at, &ours, &theirs) == BW_OK);
+    WANT(bw_audit(of(&plain, root, 5000, 3000), cut, used, blob, BLOB_LEN - 1, &at, &ours, &theirs) == BW_OTHER_BLOB);
     cut[used - 1] ^= 128;
-    WANT(bw_check_slice(&plain, root, 5000, 3000, cut, used, &at) == BW_MISMATCH && at < used);
-    WANT(bw_audit(&plain, root, 5000, 3000, cut, used, blob, BLOB_LEN, &at, &ours, &theirs) == BW_MISMATCH);
+    WANT(bw_check(of(&plain, root, 5000, 3000), cut, used, &at) == BW_MISMATCH && at < used);
+    WANT(bw_audit(of(&plain, root, 5000, 3000), cut, used, blob, BLOB_LEN, &at, &ours, &theirs) == BW_MISMATCH);
     free(cut);
-}
-
-/* Hands a check in pieces a text, node by node as far as it goes, and then its rest. Answers what the check says. */
-static bw_status fed(bw_feed *feed, const uint8_t *text, size_t len, uint64_t *at) {
-    size_t taken = 0, size = 0;
-    uint32_t kind = 0;
-    for (; bw_feed_wants(feed, &kind, &size) == BW_OK && size != 0 && size <= len - taken; taken += size) {
-        bw_status status = bw_feed_take(feed, text + taken, size, at);
-        if (status != BW_OK) return status;
-    }
-    return bw_feed_finish(feed, text + taken, len - taken, at);
-}
-
-/* A slice that is checked in pieces has the status and the place that it has at once: cut at and beside the end of each node, with a byte
- * changed in each, and with a byte more. A node that is refused changes nothing. */
-static void pieces(const bw_mode *mode, const uint8_t *root, uint64_t start, uint64_t slice_len, uint8_t *text, size_t len) {
-    bw_feed feed = BW_EMPTY, other = BW_EMPTY;
-    size_t taken = 0, size = 7;
-    uint32_t kind = 7;
-    uint64_t at = 7, wanted = 7, total = 0;
-    bw_placed refused;
-    uint8_t *longer = room(len + 1);
-    for (int i = 8; i--;) total = total << 8 | text[i];
-    WANT(bw_check_slice(mode, root, start, slice_len, text, len, &at) == BW_OK);
-    WANT(bw_feed_slice(mode, root, start, slice_len, &feed) == BW_OK);
-    while (bw_feed_wants(&feed, &kind, &size) == BW_OK && size != 0) {
-        WANT(size <= len - taken && size <= BW_CHUNK_LEN && (taken != 0 || size == 8));
-        WANT((kind == BW_NODE_LENGTH) == (taken == 0) && (kind != BW_NODE_PARENT || size == 64) && kind != BW_NODE_NONE);
-        for (size_t cut = taken; cut < taken + size; cut += cut == taken && size > 2 ? size - 2 : 1) {
-            WANT(bw_check_slice(mode, root, start, slice_len, text, cut, &wanted) == BW_SHORT && wanted == taken);
-            WANT(bw_feed_finish(&feed, text + taken, cut - taken, &at) == BW_SHORT && at == wanted);
-            WANT(bw_feed_slice(mode, root, start, slice_len, &other) == BW_OK);
-            WANT(fed(&other, text, cut, &at) == BW_SHORT && at == wanted);
-        }
-        at = 7;
-        WANT(bw_feed_finish(&feed, text + taken, size, &at) == BW_OTHER_SIZE);
-        WANT(bw_feed_take(&feed, text + taken, size - 1, &at) == BW_OTHER_SIZE);
-        memcpy(longer, text + taken, size);
-        longer[size] = 0;
-        WANT(bw_feed_take(&feed, longer, size + 1, &at) == BW_OTHER_SIZE && at == 7);
-        if (taken != 0) { /* another length may have another first node */
-            text[taken + size / 2] ^= 16;
-            WANT(bw_check_slice(mode, root, start, slice_len, text, len, &wanted) == BW_MISMATCH && wanted == taken);
-            WANT(bw_node_at(total, start, slice_len, wanted, &refused) == BW_OK && refused.kind == kind && refused.size == size);
-            WANT(bw_feed_take(&feed, text + taken, size, &at) == BW_MISMATCH && at == wanted);
-            WANT(bw_feed_slice(mode, root, start, slice_len, &other) == BW_OK);
-            WANT(fed(&other, text, len, &at) == BW_MISMATCH && at == wanted);
-            text[taken + size / 2] ^= 16;
-            at = 7;
-        }
-        WANT(bw_feed_take(&feed, text + taken, size, &at) == BW_OK && at == 7);
-        taken += size;
-    }
-    WANT(taken == len && size == 0);
-    WANT(bw_feed_finish(&feed, text, 0, &at) == BW_OK && at == 7);
-    WANT(bw_feed_take(&feed, text, 0, &at) == BW_OTHER_SIZE && bw_feed_take(&feed, text, 1, &at) == BW_OTHER_SIZE && at == 7);
-    WANT(bw_feed_finish(&feed, text, 1, &at) == BW_TRAILING && at == len);
-    memcpy(longer, text, len);
-    longer[len] = 0;
-    WANT(bw_feed_slice(mode, root, start, slice_len, &other) == BW_OK);
-    WANT(fed(&other, longer, len + 1, &at) == BW_TRAILING && at == len);
-    WANT(bw_check_slice(mode, root, start, slice_len, longer, len + 1, &wanted) == BW_TRAILING && wanted == len);
-    for (size_t i = 0; i < 8; i++) { /* another length, which no slice without the last chunk tells */
-        text[i] ^= 1;
-        at = wanted = 7;
-        bw_status status = bw_check_slice(mode, root, start, slice_len, text, len, &wanted);
-        WANT(bw_feed_slice(mode, root, start, slice_len, &other) == BW_OK);
-        WANT(fed(&other, text, len, &at) == status && at == wanted);
-        text[i] ^= 1;
-    }
-    bw_feed_free(&feed), bw_feed_free(&other);
-    free(longer);
-}
-
-static void feeds(const uint8_t *blob, const uint8_t *root, holder *good) {
-    bw_feed feed = BW_EMPTY;
-    bw_hasher hasher = BW_EMPTY;
-    uint64_t at = 7;
-    size_t size = 7, used = 0;
-    uint32_t kind = 7;
-    uint8_t text[9000], hash[BW_HASH_LEN];
-    WANT(bw_feed_wants(&feed, &kind, &size) == BW_NO_HANDLE && size == 7 && kind == 7);
-    WANT(bw_feed_take(&feed, text, 8, &at) == BW_NO_HANDLE && bw_feed_finish(&feed, text, 0, &at) == BW_NO_HANDLE && at == 7);
-    WANT(bw_hasher_new(&plain, &hasher) == BW_OK);
-    WANT(bw_feed_wants(AS(bw_feed, hasher), &kind, &size) == BW_NO_HANDLE && bw_feed_take(AS(bw_feed, hasher), text, 8, &at) == BW_NO_HANDLE);
-    WANT(bw_feed_finish(AS(bw_feed, hasher), text, 0, &at) == BW_NO_HANDLE);
-    WANT(bw_feed_combined(&plain, root, &feed) == BW_OK);
-    WANT(bw_hasher_update(AS(bw_hasher, feed), blob, 1) == BW_NO_HANDLE && bw_hasher_finish(AS(bw_hasher, feed), hash) == BW_NO_HANDLE);
-    WANT(bw_seat_length(AS(bw_seat, feed), &at) == BW_NO_HANDLE && at == 7);
-    WANT(fed(&feed, good->text, good->len, &at) == BW_OK && at == 7);
-    WANT(bw_feed_combined(&plain, root, &feed) == BW_OK);
-    good->text[good->len / 2] ^= 1;
-    uint64_t wanted = 0;
-    WANT(bw_check_combined(&plain, root, good->text, good->len, &wanted) == BW_MISMATCH);
-    WANT(fed(&feed, good->text, good->len, &at) == BW_MISMATCH && at == wanted);
-    good->text[good->len / 2] ^= 1;
-    WANT(bw_feed_combined(&plain, root, AS(bw_feed, hasher)) == BW_OK && bw_feed_wants(AS(bw_feed, hasher), &kind, &size) == BW_OK && size == 8);
-    bw_hasher_free(&hasher);
-    bw_feed_free(&feed);
-    WANT(feed.at == NULL && bw_feed_wants(&feed, &kind, &size) == BW_NO_HANDLE);
-
-    WANT(bw_cut_slice(good->text, good->len, 5000, 3000, text, sizeof text, &used) == BW_OK);
-    pieces(&plain, root, 5000, 3000, text, used);
-    WANT(bw_cut_slice(good->text, good->len, UINT64_MAX, 1, text, sizeof text, &used) == BW_OK);
-    pieces(&plain, root, UINT64_MAX, 1, text, used);
-    bw_mode keyed = {1, {3}};
-    for (size_t len = 0; len < 7000; len += len < 2 ? 1 : 1023) {
-        WANT(bw_encode(&keyed, blob, len, text, sizeof text, &used, hash) == BW_OK);
-        pieces(&keyed, hash, 0, UINT64_MAX, text, used);
-        WANT(bw_feed_combined(&keyed, hash, &feed) == BW_OK && fed(&feed, text, used, &at) == BW_OK);
-        WANT(bw_feed_combined(&plain, hash, &feed) == BW_OK && fed(&feed, text, used, &at) == BW_MISMATCH && at == 8);
-    }
-    bw_feed_free(&feed);
 }
 
 /* Hands a check in pieces a text, `step` bytes at a time and more where the next node has more, and then its rest. Answers what the check
@@ -758,7 +581,7 @@ static bw_status poured(bw_feed *feed, const uint8_t *text, size_t len, size_t s
     for (;;) {
         size_t count = window < len - done ? window : len - done;
         memset(part, 9, count + 9);
-        bw_status status = bw_feed_take_many(feed, text + done, count, part, count + 5, &taken, &gained, at);
+        bw_status status = bw_feed_take(feed, text + done, count, part, count + 5, &taken, &gained, at);
         for (size_t i = status == BW_OK ? gained : 0; i < count + 9; i++) WANT(part[i] == (i < count ? 0 : 9));
         if (status != BW_OK) {
             WANT(status == BW_MISMATCH);
@@ -786,29 +609,29 @@ static void pours(const bw_mode *mode, const uint8_t *root, uint64_t start, uint
     uint64_t at, wanted;
     for (size_t k = 0; k < sizeof steps / sizeof *steps; k++) {
         at = 7;
-        WANT(bw_feed_slice(mode, root, start, slice_len, &feed) == BW_OK);
+        WANT(bw_feed_new(of(mode, root, start, slice_len), &feed) == BW_OK);
         WANT(poured(&feed, text, len, steps[k], out, &filled, &at) == BW_OK && at == 7);
         WANT(filled == count && memcmp(out, blob, count) == 0);
         for (size_t cut = 0; cut < len; cut += cut < 9 ? 1 : len / 16 + 1) {
-            WANT(bw_check_slice(mode, root, start, slice_len, text, cut, &wanted) == BW_SHORT);
-            WANT(bw_feed_slice(mode, root, start, slice_len, &feed) == BW_OK);
+            WANT(bw_check(of(mode, root, start, slice_len), text, cut, &wanted) == BW_SHORT);
+            WANT(bw_feed_new(of(mode, root, start, slice_len), &feed) == BW_OK);
             WANT(poured(&feed, text, cut, steps[k], out, &filled, &at) == BW_SHORT && at == wanted);
             WANT(filled <= count && memcmp(out, blob, filled) == 0);
             if (cut < 8) continue; /* another length may have another first node */
             text[cut] ^= 32;
-            WANT(bw_check_slice(mode, root, start, slice_len, text, len, &wanted) == BW_MISMATCH);
-            WANT(bw_feed_slice(mode, root, start, slice_len, &feed) == BW_OK);
+            WANT(bw_check(of(mode, root, start, slice_len), text, len, &wanted) == BW_MISMATCH);
+            WANT(bw_feed_new(of(mode, root, start, slice_len), &feed) == BW_OK);
             WANT(poured(&feed, text, len, steps[k], out, &filled, &at) == BW_MISMATCH && at == wanted);
             WANT(filled <= count && memcmp(out, blob, filled) == 0);
             text[cut] ^= 32;
         }
         memcpy(longer, text, len);
         longer[len] = 0;
-        WANT(bw_feed_slice(mode, root, start, slice_len, &feed) == BW_OK);
+        WANT(bw_feed_new(of(mode, root, start, slice_len), &feed) == BW_OK);
         WANT(poured(&feed, longer, len + 1, steps[k], out, &filled, &at) == BW_TRAILING && at == len);
         WANT(filled == count && memcmp(out, blob, count) == 0);
     }
-    bw_feed_free(&feed);
+    bw_free(&feed);
     free(out), free(longer);
 }
 
@@ -816,14 +639,17 @@ static void pouring(const uint8_t *blob, const uint8_t *root, const holder *good
     static uint8_t text[90000], out[90000];
     bw_feed feed = BW_EMPTY;
     uint8_t hash[BW_HASH_LEN];
-    size_t used = 0, taken = 7, filled = 7, size = 0;
-    uint32_t kind = 7;
+    size_t used = 0, taken = 7, filled = 7;
     uint64_t at = 7;
-    WANT(bw_feed_take_many(&feed, text, 8, out, 8, &taken, &filled, &at) == BW_NO_HANDLE);
-    WANT(bw_feed_take_many(&feed, text, 8, out, 7, &taken, &filled, &at) == BW_ROOM);
+    WANT(bw_feed_finish(&feed, text, 0, &at) == BW_NO_HANDLE && bw_feed_take(&feed, text, 8, out, 8, &taken, &filled, &at) == BW_NO_HANDLE);
+    WANT(bw_feed_take(&feed, text, 8, out, 7, &taken, &filled, &at) == BW_ROOM);
     WANT(bw_hasher_new(&plain, AS(bw_hasher, feed)) == BW_OK);
-    WANT(bw_feed_take_many(&feed, text, 8, out, 8, &taken, &filled, &at) == BW_NO_HANDLE);
-    WANT(bw_hasher_finish(AS(bw_hasher, feed), hash) == BW_OK && taken == 7 && filled == 7 && at == 7);
+    WANT(bw_feed_take(&feed, text, 8, out, 8, &taken, &filled, &at) == BW_NO_HANDLE);
+    WANT(bw_feed_finish(&feed, text, 0, &at) == BW_NO_HANDLE);
+    WANT(bw_hasher_finish(AS(bw_hasher, feed), 0, hash, BW_HASH_LEN) == BW_OK && taken == 7 && filled == 7 && at == 7);
+    /* A new check frees the hasher, and is none. */
+    WANT(bw_feed_new(of(&plain, root, 0, UINT64_MAX), &feed) == BW_OK && bw_hasher_finish(AS(bw_hasher, feed), 0, hash, BW_HASH_LEN) == BW_NO_HANDLE);
+    WANT(bw_hasher_update(AS(bw_hasher, feed), blob, 1) == BW_NO_HANDLE && bw_seat_length(AS(bw_seat, feed), &at) == BW_NO_HANDLE && at == 7);
     static const struct { uint64_t start, len, from, to; } slices[] = {
         {5000, 3000, 4096, 8192}, {0, 1, 0, 1024}, {70000, 70000, 69632, 140288}, {UINT64_MAX, 1, 976 * 1024, BLOB_LEN}, {999000, UINT64_MAX, 975 * 1024, BLOB_LEN},
     };
@@ -836,31 +662,34 @@ static void pouring(const uint8_t *blob, const uint8_t *root, const holder *good
     for (size_t k = 0; k < sizeof lens / sizeof *lens; k++) {
         WANT(bw_encode(&keyed, blob, lens[k], text, sizeof text, &used, hash) == BW_OK);
         if (lens[k] < 9000) pours(&keyed, hash, 0, UINT64_MAX, text, used, blob, lens[k]);
-        WANT(bw_feed_combined(&keyed, hash, &feed) == BW_OK);
+        WANT(bw_feed_new(of(&keyed, hash, 0, UINT64_MAX), &feed) == BW_OK);
         WANT(poured(&feed, text, used, sizeof text, out, &filled, &at) == BW_OK && filled == lens[k] && memcmp(out, blob, filled) == 0);
-        WANT(bw_feed_take_many(&feed, text, 8, out, 8, &taken, &filled, &at) == BW_OK && taken == 0 && filled == 0);
-        WANT(bw_feed_wants(&feed, &kind, &size) == BW_OK && size == 0 && kind == BW_NODE_NONE);
+        WANT(bw_feed_take(&feed, text, 8, out, 8, &taken, &filled, &at) == BW_OK && taken == 0 && filled == 0);
+        WANT(bw_feed_finish(&feed, text, 0, &at) == BW_OK && bw_feed_finish(&feed, text, 1, &at) == BW_TRAILING && at == used);
+        WANT(bw_feed_new(of(&plain, hash, 0, UINT64_MAX), &feed) == BW_OK);
+        if (lens[k] > 1024) WANT(poured(&feed, text, used, sizeof text, out, &filled, &at) == BW_MISMATCH && at == 8);
     }
     /* Node by node, it tells the chunks apart from the parents: also a last chunk of 64 bytes, as many as a parent has. */
-    WANT(bw_encode(&plain, blob, 3136, text, sizeof text, &used, hash) == BW_OK && bw_feed_combined(&plain, hash, &feed) == BW_OK);
+    WANT(bw_encode(&plain, blob, 3136, text, sizeof text, &used, hash) == BW_OK && bw_feed_new(of(&plain, hash, 0, UINT64_MAX), &feed) == BW_OK);
     static const size_t sizes[] = {8, 64, 64, 1024, 1024, 64, 1024, 64}, chunks[] = {0, 0, 0, 1, 1, 0, 1, 1};
     for (size_t k = 0, done = 0; k < 8; done += sizes[k], k++) {
-        WANT(bw_feed_wants(&feed, &kind, &size) == BW_OK && size == sizes[k]);
-        WANT(kind == (chunks[k] ? BW_NODE_CHUNK : k == 0 ? BW_NODE_LENGTH : BW_NODE_PARENT));
-        WANT(bw_feed_take_many(&feed, text + done, size, out, size, &taken, &filled, &at) == BW_OK && taken == size && filled == (chunks[k] ? size : 0));
+        size_t size = sizes[k];
+        WANT(bw_feed_take(&feed, text + done, size - 1, out, size, &taken, &filled, &at) == BW_OK && taken == 0 && filled == 0);
+        WANT(bw_feed_finish(&feed, text + done, size - 1, &at) == BW_SHORT && at == done && bw_feed_finish(&feed, text + done, size, &at) == BW_OTHER_SIZE);
+        WANT(bw_feed_take(&feed, text + done, size, out, size, &taken, &filled, &at) == BW_OK && taken == size && filled == (chunks[k] ? size : 0));
     }
     /* Whole groups of eight chunks, and a fault among them. */
     uint8_t *big = room(BLOB_LEN + 1), *many = room(good->len);
-    WANT(bw_feed_combined(&plain, root, &feed) == BW_OK);
+    WANT(bw_feed_new(of(&plain, root, 0, UINT64_MAX), &feed) == BW_OK);
     WANT(poured(&feed, good->text, good->len, 65536, many, &filled, &at) == BW_OK && filled == BLOB_LEN && memcmp(many, blob, filled) == 0);
     memcpy(many, good->text, good->len);
     many[good->len / 2] ^= 1;
     uint64_t wanted = 0;
-    WANT(bw_check_combined(&plain, root, many, good->len, &wanted) == BW_MISMATCH);
-    WANT(bw_feed_combined(&plain, root, &feed) == BW_OK);
+    WANT(bw_check(of(&plain, root, 0, UINT64_MAX), many, good->len, &wanted) == BW_MISMATCH);
+    WANT(bw_feed_new(of(&plain, root, 0, UINT64_MAX), &feed) == BW_OK);
     WANT(poured(&feed, many, good->len, 65536, big, &filled, &at) == BW_MISMATCH && at == wanted && memcmp(big, blob, filled) == 0);
     free(big), free(many);
-    bw_feed_free(&feed);
+    bw_free(&feed);
 }
 
 /* What an accepted encoding is decoded to: the range's bytes, and the length where it is certified. Nothing is written for any other. */
@@ -880,22 +709,22 @@ static void decoding(const uint8_t *blob, const uint8_t *root, const holder *goo
         memset(out, 9, sizeof out);
         if (count != 0) {
             used = total = 7;
-            WANT(bw_decode(&plain, root, start, slices[k].len, text, len, out, count - 1, &need, &total, &at) == BW_ROOM && need == count && total == 7 && out[0] == 9);
+            WANT(bw_decode(of(&plain, root, start, slices[k].len), text, len, out, count - 1, &need, &total, &at) == BW_ROOM && need == count && total == 7 && out[0] == 9);
         }
-        WANT(bw_decode(&plain, root, start, slices[k].len, text, len, out, count, &used, &total, &at) == BW_OK && used == count && at == 7);
+        WANT(bw_decode(of(&plain, root, start, slices[k].len), text, len, out, count, &used, &total, &at) == BW_OK && used == count && at == 7);
         WANT(total == (slices[k].has_last ? BLOB_LEN : UINT64_MAX) && memcmp(out, blob + (count ? start : 0), count) == 0 && out[count] == 9);
-        WANT(bw_decode(&plain, root, start, slices[k].len, text, len, out, sizeof out, &used, &total, &at) == BW_OK && used == count && out[count] == 9);
+        WANT(bw_decode(of(&plain, root, start, slices[k].len), text, len, out, sizeof out, &used, &total, &at) == BW_OK && used == count && out[count] == 9);
         /* Another root, a byte changed, bytes cut off or appended: nothing is written. */
         for (size_t cut = 0; cut < len; cut += cut < 9 ? 1 : len / 16 + 1) {
             memset(out, 9, 100);
             used = total = 7;
             uint64_t wanted = 7;
-            bw_status status = bw_check_slice(&plain, root, start, slices[k].len, text, cut, &wanted);
-            WANT(bw_decode(&plain, root, start, slices[k].len, text, cut, out, sizeof out, &used, &total, &at) == status && status == BW_SHORT && at == wanted);
+            bw_status status = bw_check(of(&plain, root, start, slices[k].len), text, cut, &wanted);
+            WANT(bw_decode(of(&plain, root, start, slices[k].len), text, cut, out, sizeof out, &used, &total, &at) == status && status == BW_SHORT && at == wanted);
             if (cut >= 8) {
                 text[cut] ^= 1;
-                status = bw_check_slice(&plain, root, start, slices[k].len, text, len, &wanted);
-                WANT(bw_decode(&plain, root, start, slices[k].len, text, len, out, sizeof out, &used, &total, &at) == status && status == BW_MISMATCH && at == wanted);
+                status = bw_check(of(&plain, root, start, slices[k].len), text, len, &wanted);
+                WANT(bw_decode(of(&plain, root, start, slices[k].len), text, len, out, sizeof out, &used, &total, &at) == status && status == BW_MISMATCH && at == wanted);
                 text[cut] ^= 1;
             }
             WANT(used == 7 && total == 7);
@@ -903,19 +732,19 @@ static void decoding(const uint8_t *blob, const uint8_t *root, const holder *goo
             at = 7;
         }
         text[len] = 0;
-        WANT(bw_decode(&plain, root, start, slices[k].len, text, len + 1, out, sizeof out, &used, &total, &at) == BW_TRAILING && at == len);
+        WANT(bw_decode(of(&plain, root, start, slices[k].len), text, len + 1, out, sizeof out, &used, &total, &at) == BW_TRAILING && at == len);
         at = 7;
     }
     const bw_mode keyed = {1, {5}};
     for (size_t n = 0; n < 12000; n += n < 2 ? 1 : 1023) {
         WANT(bw_encode(&keyed, blob, n, text, sizeof text, &len, hash) == BW_OK && bw_slice_len(n, 0, UINT64_MAX) == len);
-        WANT(bw_decode(&keyed, hash, 0, UINT64_MAX, text, len, out, n, &used, &total, &at) == BW_OK && used == n && total == n && memcmp(out, blob, n) == 0);
-        WANT(bw_decode(&plain, hash, 0, UINT64_MAX, text, len, out, n, &used, &total, &at) == BW_MISMATCH && at == 8);
+        WANT(bw_decode(of(&keyed, hash, 0, UINT64_MAX), text, len, out, n, &used, &total, &at) == BW_OK && used == n && total == n && memcmp(out, blob, n) == 0);
+        WANT(bw_decode(of(&plain, hash, 0, UINT64_MAX), text, len, out, n, &used, &total, &at) == BW_MISMATCH && at == 8);
     }
     /* A length that is claimed and can't be: the room that it asks for is told, and where it is there the check says what is wrong. */
     memset(text, 255, 8);
-    WANT(bw_decode(&plain, root, 0, UINT64_MAX, text, 8, out, sizeof out, &used, &total, &at) == BW_ROOM && used == SIZE_MAX);
-    WANT(bw_decode(&plain, root, 0, 10, text, 8, out, sizeof out, &used, &total, &at) == BW_SHORT && at == 8);
+    WANT(bw_decode(of(&plain, root, 0, UINT64_MAX), text, 8, out, sizeof out, &used, &total, &at) == BW_ROOM && used == SIZE_MAX);
+    WANT(bw_decode(of(&plain, root, 0, 10), text, 8, out, sizeof out, &used, &total, &at) == BW_SHORT && at == 8);
     WANT(bw_slice_len(UINT64_MAX, 0, UINT64_MAX) == 0 && bw_slice_len(UINT64_MAX, 5, 1) == 8 + 54 * 64 + 1024);
 }
 
@@ -958,15 +787,15 @@ static void salvaging(const uint8_t *blob, const uint8_t *root, holder *good) {
     good->text[300000] ^= 1;
     other[310000] ^= 1;
     report = (bw_report){0, 0, 0, 0, 0, 0, 0};
-    WANT(bw_store_new(&plain, root, 977, &seat) == BW_OK);
-    WANT(bw_gather(&seat, 0, 1, good->text, good->len, &report) == BW_OK && bw_gather(&seat, 0, 1, other, good->len, &report) == BW_OK);
+    WANT(bw_seat_new(&plain, root, 0, 977, &seat) == BW_OK);
+    WANT(bw_seat_gather(&seat, 0, 1, good->text, good->len, &report) == BW_OK && bw_seat_gather(&seat, 0, 1, other, good->len, &report) == BW_OK);
     /* Each call asks for the damaged group once, and once more for its parents. */
     WANT(report.committed == 977 - 64 && report.refused == 4 && bw_seat_finish(&seat, found, BLOB_LEN, &used) == BW_UNFINISHED);
     WANT(bw_seat_salvage(&seat, good->text, good->len, &report) == BW_OK && report.committed == 976 && report.refused == 5);
     WANT(bw_seat_salvage(&seat, other, good->len, &report) == BW_OK && report.committed == 977 && report.refused == 5 && report.parents == 976);
     WANT(bw_seat_finish(&seat, found, BLOB_LEN, &used) == BW_OK && memcmp(found, blob, BLOB_LEN) == 0);
     good->text[300000] ^= 1;
-    bw_seat_free(&seat);
+    bw_free(&seat);
     free(found), free(other);
 }
 
@@ -992,41 +821,40 @@ static void by_ranges(const uint8_t *blob, const uint8_t *root, const holder *fi
     bw_seat seat = BW_EMPTY;
     uint8_t *found = room(BLOB_LEN);
     for (int i = 7; i >= 0; i--) total = total << 8 | file->text[i];
-    WANT(bw_store_new(&plain, root, (uint32_t)(total / BW_CHUNK_LEN + 1), &seat) == BW_OK);
+    WANT(bw_seat_new(&plain, root, 0, (uint32_t)(total / BW_CHUNK_LEN + 1), &seat) == BW_OK);
     WANT(bw_seat_settle(&seat, slice, read_ranges(file, total, UINT64_MAX, 1, slice), &at) == BW_OK);
     for (uint64_t start = 0; start < total; start += 77777) {
         size_t len = read_ranges(file, total, start, 77777, slice);
         WANT(len == bw_slice_len(total, start, 77777));
-        WANT(bw_seat_commit_all(&seat, start, 77777, slice, len, &committed, &parents, &at) == BW_OK);
+        WANT(bw_seat_commit(&seat, start, 77777, slice, len, &committed, &parents, &at) == BW_OK);
         chunks += committed;
-        WANT(bw_seat_serve_slice(&seat, start, 77777, served, sizeof served, &used, &lacking) == BW_OK && used == len && memcmp(served, slice, len) == 0);
+        WANT(bw_seat_slice(&seat, start, 77777, served, sizeof served, &used, &lacking) == BW_OK && used == len && memcmp(served, slice, len) == 0);
     }
     WANT(chunks == 977 && bw_seat_finish(&seat, found, BLOB_LEN, &used) == BW_OK && used == total && memcmp(found, blob, used) == 0);
-    bw_seat_free(&seat);
+    bw_free(&seat);
     free(found);
 }
 
 /* The ranges of an outboard encoding that have a slice's parents, one after another, are the slice without its chunks, none of which has 64 bytes. */
-static void outboard_ranges(const uint8_t *blob, const uint8_t *root, const holder *good) {
+static void outboard_ranges(const uint8_t *blob, const holder *good) {
     static uint8_t slice[4 * GROUP_LEN], parents[4 * GROUP_LEN];
-    bw_feed feed = BW_EMPTY;
+    static bw_placed nodes[BW_NODES_MAX(130)];
     bw_range ranges[BW_RANGES_MAX];
     uint8_t hash[BW_HASH_LEN];
-    uint64_t at = 7, all = (BLOB_LEN + BW_CHUNK_LEN - 1) / BW_CHUNK_LEN;
+    uint64_t all = (BLOB_LEN + BW_CHUNK_LEN - 1) / BW_CHUNK_LEN;
     size_t used = 7, count = 7, text_len = (size_t)bw_outboard_len(BLOB_LEN);
     uint8_t *text = room(text_len);
     WANT(bw_outboard(&plain, blob, BLOB_LEN, text, text_len, &used, hash) == BW_OK);
     for (uint64_t first = 0; first < all; first += 61)
         for (uint64_t n = 1; n <= 128; n *= 2) {
             uint64_t from = first * BW_CHUNK_LEN + first % 7, len = n * BW_CHUNK_LEN;
-            size_t cut_len = 0, taken = 0, size = 0, kept = 0, sum = 0;
-            uint32_t kind = 7;
+            size_t cut_len = 0, taken = 8, kept = 8, sum = 0, number = 0;
             WANT(bw_cut_slice(good->text, good->len, from, len, slice, sizeof slice, &cut_len) == BW_OK);
-            WANT(bw_feed_slice(&plain, root, from, len, &feed) == BW_OK);
-            for (; bw_feed_wants(&feed, &kind, &size) == BW_OK && size != 0; taken += size) {
-                WANT(bw_feed_take(&feed, slice + taken, size, &at) == BW_OK);
-                if (kind != BW_NODE_CHUNK) memcpy(parents + kept, slice + taken, size), kept += size;
-            }
+            WANT(bw_slice_nodes(BLOB_LEN, from, len, nodes, BW_NODES_MAX(130), &number) == BW_OK);
+            memcpy(parents, slice, 8);
+            for (size_t k = 0; k < number; taken += nodes[k].size, k++)
+                if (nodes[k].kind == BW_NODE_PARENT) memcpy(parents + kept, slice + taken, 64), kept += 64;
+            WANT(taken == cut_len);
             WANT(bw_outboard_ranges(BLOB_LEN, from, len, ranges, BW_RANGES_MAX, &count) == BW_OK && count >= 1 && ranges[0].at == 0);
             for (size_t k = 0; k < count; sum += (size_t)ranges[k].len, k++) {
                 WANT(ranges[k].at + ranges[k].len <= text_len && (k == 0 || ranges[k].at > ranges[k - 1].at + ranges[k - 1].len));
@@ -1042,7 +870,6 @@ static void outboard_ranges(const uint8_t *blob, const uint8_t *root, const hold
     WANT(bw_outboard_ranges(UINT64_MAX, 0, 1, ranges, BW_RANGES_MAX, &count) == BW_OK && count == 1 && ranges[0].len == 8 + 54 * 64);
     WANT(bw_outboard_ranges(UINT64_MAX, UINT64_MAX, 1, ranges, BW_RANGES_MAX, &count) == BW_OK && count == 54 && ranges[53].len == 64);
     WANT(bw_outboard_ranges(UINT64_C(1) << 63, UINT64_MAX, 1, ranges, BW_RANGES_MAX, &count) == BW_OK && count == 53 && ranges[52].len == 64);
-    bw_feed_free(&feed);
     free(text);
 }
 
@@ -1139,87 +966,6 @@ static void slice_nodes(void) {
     WANT(bw_slice_nodes(UINT64_MAX, 0, 1, NULL, 0, &count) == BW_TOO_LONG && bw_slice_nodes(5000, 0, 1, NULL, 0, &count) == BW_ROOM && count == 7);
 }
 
-/* A slice is put together of what its nodes say of the encodings and of the blob. */
-/* An outboard encoding in pieces of `step` bytes: the first fault, its place, and that nothing of a piece that is refused is kept. Else its outline. */
-static bw_status pushed(bw_feed *feed, const uint8_t *text, size_t len, size_t step, bw_outline *outline, uint64_t *at) {
-    for (size_t done = 0; done < len;) {
-        size_t some = len - done < step ? len - done : step;
-        uint64_t again = 0;
-        bw_status status = bw_feed_push(feed, text + done, some, at);
-        if (status == BW_OK) done += some;
-        else {
-            WANT(bw_feed_push(feed, text + done, some, &again) == status && again == *at);
-            return status;
-        }
-    }
-    return bw_feed_outline(feed, outline, at);
-}
-
-static void pushing(const uint8_t *blob, const uint8_t *root) {
-    static const size_t steps[] = {1, 7, 8, 63, 64, 65, 4096, SIZE_MAX};
-    size_t len = (size_t)bw_outboard_len(BLOB_LEN), used = 0;
-    uint8_t *text = room(len + 1), *slice = room(80000), *also = room(80000), hash[BW_HASH_LEN];
-    bw_feed feed = BW_EMPTY, whole = BW_EMPTY;
-    bw_hasher hasher = BW_EMPTY;
-    bw_outline outline = BW_EMPTY, other = BW_EMPTY;
-    uint64_t at = 7, wanted = 0, claimed = 0;
-    size_t size = 7, filled = 7, more = 7;
-    uint32_t kind = 7;
-    WANT(bw_outboard(&plain, blob, BLOB_LEN, text, len, &used, hash) == BW_OK && used == len);
-    WANT(bw_outline_new(&plain, root, text, len, &other, &at) == BW_OK && at == 7);
-    for (size_t k = 0; k < sizeof steps / sizeof *steps; k++) {
-        size_t step = steps[k];
-        at = 7;
-        WANT(bw_feed_outboard(&plain, root, &feed) == BW_OK && pushed(&feed, text, len, step, &outline, &at) == BW_OK && at == 7 && feed.at == NULL);
-        WANT(bw_outline_length(&outline, &claimed) == BW_OK && claimed == BLOB_LEN);
-        WANT(bw_outline_slice(&outline, 0, 64, blob, 65536, slice, 80000, &used, &at) == BW_OK);
-        WANT(bw_outline_slice(&other, 0, 64, blob, 65536, also, 80000, &filled, &at) == BW_OK && filled == used && memcmp(slice, also, used) == 0);
-        /* Each beginning goes on at its next node, and what follows the last is trailing. */
-        for (size_t cut = 0; cut < len; cut += cut < 300 ? 1 : 9973) {
-            WANT(bw_check_outboard(&plain, root, text, cut, &wanted) == BW_SHORT);
-            WANT(bw_feed_outboard(&plain, root, &feed) == BW_OK && pushed(&feed, text, cut, step < 64 ? 64 : step, &outline, &at) == BW_SHORT);
-            WANT(at == wanted && outline.at == NULL && feed.at != NULL);
-            if (cut % 5 == 0) WANT(pushed(&feed, text + cut, len - cut, 4096, &outline, &at) == BW_OK && feed.at == NULL);
-        }
-        text[len] = 1;
-        WANT(bw_feed_outboard(&plain, root, &feed) == BW_OK && pushed(&feed, text, len + 1, step, &outline, &at) == BW_TRAILING && at == len);
-        /* Where that byte came by itself, all before it was taken. */
-        if (step <= 8 && len % step == 0) WANT(bw_feed_outline(&feed, &outline, &at) == BW_OK && bw_outline_length(&outline, &claimed) == BW_OK);
-        /* A false parent is refused as soon as its last byte is there, and a true one is taken in its place. */
-        for (size_t bad = 8; bad < len; bad += bad < 300 ? 3 : 7919) {
-            size_t end = 8 + ((bad - 8) / 64 + 1) * 64;
-            text[bad] ^= 4;
-            WANT(bw_check_outboard(&plain, root, text, len, &wanted) == BW_MISMATCH && wanted == end - 64);
-            WANT(bw_feed_outboard(&plain, root, &feed) == BW_OK && pushed(&feed, text, len, step, &outline, &at) == BW_MISMATCH && at == wanted);
-            WANT(bw_feed_outboard(&plain, root, &feed) == BW_OK && bw_feed_push(&feed, text, end - 1, &at) == BW_OK);
-            WANT(bw_feed_push(&feed, text + end - 1, 1, &at) == BW_MISMATCH && at == wanted && bw_feed_outline(&feed, &outline, &at) == BW_SHORT && at == wanted);
-            text[bad] ^= 4;
-        }
-    }
-    /* The length that is claimed has no proof of its own: another one that has so many parents is accepted, and one that hasn't is short or trailing. */
-    for (size_t bit = 0; bit < 20; bit++) {
-        text[bit / 8] ^= (uint8_t)(1 << bit % 8);
-        bw_status status = bw_check_outboard(&plain, root, text, len, &wanted);
-        WANT(bw_feed_outboard(&plain, root, &feed) == BW_OK && pushed(&feed, text, len, 1000, &outline, &at) == status && (status == BW_OK || at == wanted));
-        text[bit / 8] ^= (uint8_t)(1 << bit % 8);
-    }
-    /* Handles of another kind, and none. */
-    bw_feed_free(&feed), bw_outline_free(&outline), at = 7;
-    WANT(bw_feed_push(&feed, text, 8, &at) == BW_NO_HANDLE && bw_feed_outline(&feed, &outline, &at) == BW_NO_HANDLE && at == 7);
-    WANT(bw_hasher_new(&plain, &hasher) == BW_OK && bw_feed_push(AS(bw_feed, hasher), text, 8, &at) == BW_NO_HANDLE);
-    WANT(bw_feed_outline(AS(bw_feed, hasher), &other, &at) == BW_NO_HANDLE && other.at == NULL && bw_hasher_finish(&hasher, hash) == BW_OK);
-    WANT(bw_feed_combined(&plain, root, &whole) == BW_OK && bw_feed_push(&whole, text, 8, &at) == BW_NO_HANDLE);
-    WANT(bw_feed_outline(&whole, &outline, &at) == BW_NO_HANDLE && bw_feed_wants(&whole, &kind, &size) == BW_OK && kind == BW_NODE_LENGTH && size == 8);
-    WANT(bw_feed_outboard(&plain, root, &feed) == BW_OK && bw_feed_push(&feed, text, 100, &at) == BW_OK);
-    WANT(bw_feed_wants(&feed, &kind, &size) == BW_NO_HANDLE && bw_feed_take(&feed, text, 8, &at) == BW_NO_HANDLE && bw_feed_finish(&feed, text, 0, &at) == BW_NO_HANDLE);
-    WANT(bw_feed_take_many(&feed, text, 8, slice, 8, &more, &filled, &at) == BW_NO_HANDLE && bw_outline_length(AS(bw_outline, feed), &claimed) == BW_NO_HANDLE);
-    WANT(bw_hasher_update(AS(bw_hasher, feed), text, 8) == BW_NO_HANDLE && bw_seat_length(AS(bw_seat, feed), &claimed) == BW_NO_HANDLE && at == 7);
-    WANT(bw_feed_push(&feed, text + 100, len - 100, &at) == BW_OK && bw_feed_outline(&feed, &outline, &at) == BW_OK && bw_feed_outline(&feed, &outline, &at) == BW_NO_HANDLE);
-    WANT(outline.at == NULL);
-    bw_feed_free(&whole), bw_hasher_free(&hasher), bw_outline_free(&other);
-    free(text), free(slice), free(also);
-}
-
 static void by_nodes(const uint8_t *blob, const holder *good) {
     static uint8_t slice[4 * GROUP_LEN], ours[4 * GROUP_LEN];
     static bw_placed nodes[BW_NODES_MAX(256)];
@@ -1245,7 +991,7 @@ static void by_nodes(const uint8_t *blob, const holder *good) {
     free(outboard);
 }
 
-/* An outline: its bytes are copied, plain chunks are checked beside it as bw_check_bare does, and made the slices that the blob has. */
+/* An outline: its bytes are copied, plain chunks are checked beside it, and made the slices that the blob has. */
 static void outlining(const uint8_t *blob, const uint8_t *root, const holder *good) {
     static uint8_t slice[4 * GROUP_LEN], cut[4 * GROUP_LEN];
     const bw_mode keyed = {1, {7}};
@@ -1260,12 +1006,12 @@ static void outlining(const uint8_t *blob, const uint8_t *root, const holder *go
     for (int k = 0; k < 2; k++) {
         used = 7;
         WANT(bw_outline_length(&outline, &len) == BW_NO_HANDLE && len == 7);
-        WANT(bw_outline_check(&outline, 0, 1, blob, 1024, &at) == BW_NO_HANDLE && bw_outline_check(&outline, 0, 0, blob, 0, &at) == BW_NO_HANDLE && at == 7);
-        WANT(bw_outline_slice(&outline, 0, 1, blob, 1024, slice, sizeof slice, &used, &at) == BW_NO_HANDLE && used == 7);
+        WANT(bw_outline_check(&outline, CHUNKS(0, 1), blob, 1024, &at) == BW_NO_HANDLE && bw_outline_check(&outline, CHUNKS(0, 0), blob, 0, &at) == BW_NO_HANDLE && at == 7);
+        WANT(bw_outline_slice(&outline, CHUNKS(0, 1), blob, 1024, slice, sizeof slice, &used, &at) == BW_NO_HANDLE && used == 7);
         WANT(bw_outline_share(&outline, &other) == BW_NO_HANDLE && other.at == NULL);
         if (k == 0) WANT(bw_hasher_new(&plain, AS(bw_hasher, outline)) == BW_OK);
     }
-    WANT(bw_hasher_finish(AS(bw_hasher, outline), hash) == BW_OK);
+    WANT(bw_hasher_finish(AS(bw_hasher, outline), 0, hash, BW_HASH_LEN) == BW_OK);
     /* What isn't accepted leaves an empty handle, and so does a mode of an unknown kind. */
     const bw_mode unknown = {3, {0}};
     WANT(bw_outline_new(&unknown, root, text, text_len, &outline, &at) == BW_NO_MODE && outline.at == NULL && at == 7);
@@ -1288,48 +1034,48 @@ static void outlining(const uint8_t *blob, const uint8_t *root, const holder *go
         for (size_t k = 0; k < sizeof counts / sizeof *counts; k++) {
             uint64_t first = firsts[i], n = counts[k], from = first * BW_CHUNK_LEN, end = from + n * BW_CHUNK_LEN;
             if (first + n > all) {
-                WANT(bw_outline_check(&outline, first, n, blob, 0, &at) == BW_NO_CHUNKS && at == 7);
-                WANT(bw_outline_slice(&outline, first, n, blob, 0, slice, sizeof slice, &used, &at) == BW_NO_CHUNKS);
+                WANT(bw_outline_check(&outline, CHUNKS(first, n), blob, 0, &at) == BW_NO_CHUNKS && at == 7);
+                WANT(bw_outline_slice(&outline, CHUNKS(first, n), blob, 0, slice, sizeof slice, &used, &at) == BW_NO_CHUNKS);
                 continue;
             }
             size_t bytes = (size_t)((end < BLOB_LEN ? end : BLOB_LEN) - from);
             uint8_t *part = room(bytes + 1);
             memcpy(part, blob + from, bytes);
             part[bytes] = 0;
-            WANT(bw_outline_check(&outline, first, n, part, bytes, &at) == BW_OK && bw_outline_check(&other, first, n, part, bytes, &at) == BW_OK && at == 7);
+            WANT(bw_outline_check(&outline, CHUNKS(first, n), part, bytes, &at) == BW_OK && bw_outline_check(&other, CHUNKS(first, n), part, bytes, &at) == BW_OK && at == 7);
             WANT(bw_cut_slice(good->text, good->len, from, n * BW_CHUNK_LEN, cut, sizeof cut, &cut_len) == BW_OK);
             memset(slice, 9, sizeof slice);
-            WANT(bw_outline_slice(&outline, first, n, part, bytes, slice, cut_len - 1, &used, &at) == BW_ROOM && used == cut_len && slice[0] == 9);
-            WANT(bw_outline_slice(&outline, first, n, part, bytes, slice, cut_len, &used, &at) == BW_OK && used == cut_len);
+            WANT(bw_outline_slice(&outline, CHUNKS(first, n), part, bytes, slice, cut_len - 1, &used, &at) == BW_ROOM && used == cut_len && slice[0] == 9);
+            WANT(bw_outline_slice(&outline, CHUNKS(first, n), part, bytes, slice, cut_len, &used, &at) == BW_OK && used == cut_len);
             WANT(memcmp(slice, cut, cut_len) == 0 && slice[cut_len] == 9 && used == bw_slice_len(BLOB_LEN, from, n * BW_CHUNK_LEN));
-            /* Each refusal is that of bw_check_bare. */
+            /* One byte fewer or more, or a false one. */
             for (int way = 0; way < 3; way++) {
                 size_t given = way == 0 ? bytes - 1 : way == 1 ? bytes + 1 : bytes;
                 if (way == 2) part[bytes / 2] ^= 1;
-                bw_status status = bw_check_bare(&plain, root, text, text_len, first, n, part, given, &wanted);
-                WANT(status == (way == 0 ? BW_SHORT : way == 1 ? BW_TRAILING : BW_MISMATCH));
-                WANT(bw_outline_check(&outline, first, n, part, given, &at) == status && at == wanted);
+                bw_status status = way == 0 ? BW_SHORT : way == 1 ? BW_TRAILING : BW_MISMATCH;
+                wanted = way == 0 ? (bytes - 1) / 1024 * 1024 : way == 1 ? bytes : bytes / 2 / 1024 * 1024;
+                WANT(bw_outline_check(&outline, CHUNKS(first, n), part, given, &at) == status && at == wanted);
                 used = 7;
-                WANT(bw_outline_slice(&other, first, n, part, given, slice, 0, &used, &at) == status && at == wanted && used == 7);
+                WANT(bw_outline_slice(&other, CHUNKS(first, n), part, given, slice, 0, &used, &at) == status && at == wanted && used == 7);
             }
             at = 7;
             free(part);
         }
-    WANT(bw_outline_check(&outline, 0, 0, blob, 0, &at) == BW_NO_CHUNKS && bw_outline_check(&outline, UINT64_MAX, UINT64_MAX, blob, 0, &at) == BW_NO_CHUNKS);
+    WANT(bw_outline_check(&outline, CHUNKS(0, 0), blob, 0, &at) == BW_NO_CHUNKS && bw_outline_check(&outline, CHUNKS(UINT64_MAX, UINT64_MAX), blob, 0, &at) == BW_NO_CHUNKS);
     /* The last handle frees it. */
-    bw_outline_free(&outline);
-    WANT(bw_outline_check(&other, 0, all, blob, BLOB_LEN, &at) == BW_OK);
-    bw_outline_free(&other);
+    bw_free(&outline);
+    WANT(bw_outline_check(&other, CHUNKS(0, all), blob, BLOB_LEN, &at) == BW_OK);
+    bw_free(&other);
     /* A blob of at most one chunk has no parent: any such outboard encoding is accepted, and the chunk decides. */
     for (size_t n = 0; n < 2; n++) {
         WANT(bw_outboard(&keyed, blob, n, text, text_len, &used, hash) == BW_OK && used == 8);
         WANT(bw_outline_new(&keyed, hash, text, 8, &outline, &at) == BW_OK && bw_outline_length(&outline, &len) == BW_OK && len == n);
-        WANT(bw_outline_check(&outline, 0, 1, blob, n, &at) == BW_OK && bw_outline_check(&outline, 0, 1, blob, n + 1, &at) == BW_TRAILING);
-        WANT(bw_outline_slice(&outline, 0, 1, blob, n, slice, 100, &used, &at) == BW_OK && used == 8 + n && memcmp(slice, text, 8) == 0);
-        WANT(bw_outline_new(&plain, hash, text, 8, &outline, &at) == BW_OK && bw_outline_check(&outline, 0, 1, blob, n, &at) == BW_MISMATCH);
+        WANT(bw_outline_check(&outline, CHUNKS(0, 1), blob, n, &at) == BW_OK && bw_outline_check(&outline, CHUNKS(0, 1), blob, n + 1, &at) == BW_TRAILING);
+        WANT(bw_outline_slice(&outline, CHUNKS(0, 1), blob, n, slice, 100, &used, &at) == BW_OK && used == 8 + n && memcmp(slice, text, 8) == 0);
+        WANT(bw_outline_new(&plain, hash, text, 8, &outline, &at) == BW_OK && bw_outline_check(&outline, CHUNKS(0, 1), blob, n, &at) == BW_MISMATCH);
         at = 7;
     }
-    bw_outline_free(&outline);
+    bw_free(&outline);
     free(text);
 }
 
@@ -1346,33 +1092,33 @@ static void beside(const uint8_t *blob, const uint8_t *root) {
     size_t used = 0, text_len = (size_t)bw_outboard_len(BLOB_LEN);
     uint8_t *text = room(text_len), *found = room(BLOB_LEN), *shorter = room(text_len);
     WANT(bw_outboard(&plain, blob, BLOB_LEN, text, text_len, &used, hash) == BW_OK);
-    WANT(bw_store_new(&plain, root, (uint32_t)all, &seat) == BW_OK);
-    WANT(bw_outline_commit(&outline, &seat, 0, 1, blob, 1024, &committed, &parents, &at) == BW_NO_HANDLE);
-    WANT(bw_outline_commit(AS(bw_outline, seat), AS(bw_seat, outline), 0, 1, blob, 1024, &committed, &parents, &at) == BW_NO_HANDLE);
-    WANT(bw_hasher_new(&plain, AS(bw_hasher, alien)) == BW_OK && bw_outline_commit(&alien, &seat, 0, 1, blob, 1024, &committed, &parents, &at) == BW_NO_HANDLE);
+    WANT(bw_seat_new(&plain, root, 0, (uint32_t)all, &seat) == BW_OK);
+    WANT(bw_outline_commit(&outline, &seat, CHUNKS(0, 1), blob, 1024, &committed, &parents, &at) == BW_NO_HANDLE);
+    WANT(bw_outline_commit(AS(bw_outline, seat), AS(bw_seat, outline), CHUNKS(0, 1), blob, 1024, &committed, &parents, &at) == BW_NO_HANDLE);
+    WANT(bw_hasher_new(&plain, AS(bw_hasher, alien)) == BW_OK && bw_outline_commit(&alien, &seat, CHUNKS(0, 1), blob, 1024, &committed, &parents, &at) == BW_NO_HANDLE);
     WANT(bw_outline_new(&plain, root, text, text_len, &outline, &at) == BW_OK);
-    WANT(bw_outline_commit(&outline, AS(bw_seat, alien), 0, 1, blob, 1024, &committed, &parents, &at) == BW_NO_HANDLE && bw_hasher_finish(AS(bw_hasher, alien), hash) == BW_OK);
+    WANT(bw_outline_commit(&outline, AS(bw_seat, alien), CHUNKS(0, 1), blob, 1024, &committed, &parents, &at) == BW_NO_HANDLE && bw_hasher_finish(AS(bw_hasher, alien), 0, hash, BW_HASH_LEN) == BW_OK);
     WANT(bw_seat_held(AS(bw_seat, alien), 0, &mask) == BW_NO_HANDLE && bw_seat_held(AS(bw_seat, outline), 0, &mask) == BW_NO_HANDLE && mask == 7);
     WANT(bw_seat_held(&seat, 16, &mask) == BW_NO_GROUP && bw_seat_held(&seat, UINT32_MAX, &mask) == BW_NO_GROUP && mask == 7);
     WANT(bw_seat_held(&seat, 15, &mask) == BW_OK && mask == 0);
     WANT(committed == 7 && parents == 7 && at == 7);
     /* An outline of another mode or root, and of another length. */
     WANT(bw_outboard(&keyed, blob, BLOB_LEN, shorter, text_len, &used, hash) == BW_OK && bw_outline_new(&keyed, hash, shorter, used, &alien, &at) == BW_OK);
-    WANT(bw_outline_commit(&alien, &seat, 0, 0, blob, 0, &committed, &parents, &at) == BW_OTHER_ROOT);
+    WANT(bw_outline_commit(&alien, &seat, CHUNKS(0, 0), blob, 0, &committed, &parents, &at) == BW_OTHER_ROOT);
     WANT(bw_outboard(&plain, blob, 5000, shorter, text_len, &used, hash) == BW_OK && bw_outline_new(&plain, hash, shorter, used, &alien, &at) == BW_OK);
-    WANT(bw_outline_commit(&alien, &seat, 0, 1, blob, 1024, &committed, &parents, &at) == BW_OTHER_ROOT);
-    WANT(bw_outline_commit(&outline, &seat, 0, 1, blob, 1024, &committed, &parents, &at) == BW_OTHER_LENGTH);
+    WANT(bw_outline_commit(&alien, &seat, CHUNKS(0, 1), blob, 1024, &committed, &parents, &at) == BW_OTHER_ROOT);
+    WANT(bw_outline_commit(&outline, &seat, CHUNKS(0, 1), blob, 1024, &committed, &parents, &at) == BW_OTHER_LENGTH);
     WANT(committed == 7 && parents == 7 && bw_seat_held(&seat, 0, &mask) == BW_OK && mask == 0);
     /* The last chunk beside the outline settles the length. */
     uint64_t last = all - 1;
-    WANT(bw_outline_slice(&outline, last, 1, blob + last * BW_CHUNK_LEN, BLOB_LEN - last * BW_CHUNK_LEN, slice, sizeof slice, &used, &at) == BW_OK);
+    WANT(bw_outline_slice(&outline, CHUNKS(last, 1), blob + last * BW_CHUNK_LEN, BLOB_LEN - last * BW_CHUNK_LEN, slice, sizeof slice, &used, &at) == BW_OK);
     WANT(bw_seat_settle(&seat, slice, used, &at) == BW_OK);
-    WANT(bw_outline_commit(&outline, &seat, 0, 0, blob, 0, &committed, &parents, &at) == BW_NO_CHUNKS);
-    WANT(bw_outline_commit(&outline, &seat, 0, 2, blob, 2047, &committed, &parents, &at) == BW_SHORT && at == 1024);
-    WANT(bw_outline_commit(&outline, &seat, 0, 2, blob, 2049, &committed, &parents, &at) == BW_TRAILING && at == 2048);
-    WANT(bw_outline_commit(&outline, &seat, 1, 2, blob, 2048, &committed, &parents, &at) == BW_MISMATCH && at == 0);
+    WANT(bw_outline_commit(&outline, &seat, CHUNKS(0, 0), blob, 0, &committed, &parents, &at) == BW_NO_CHUNKS);
+    WANT(bw_outline_commit(&outline, &seat, CHUNKS(0, 2), blob, 2047, &committed, &parents, &at) == BW_SHORT && at == 1024);
+    WANT(bw_outline_commit(&outline, &seat, CHUNKS(0, 2), blob, 2049, &committed, &parents, &at) == BW_TRAILING && at == 2048);
+    WANT(bw_outline_commit(&outline, &seat, CHUNKS(1, 2), blob, 2048, &committed, &parents, &at) == BW_MISMATCH && at == 0);
     WANT(committed == 7 && parents == 7);
-    WANT(bw_outline_commit(&outline, &seat, 3, 2, blob + 3072, 2048, &committed, &parents, &at) == BW_OK && committed == 2);
+    WANT(bw_outline_commit(&outline, &seat, CHUNKS(3, 2), blob + 3072, 2048, &committed, &parents, &at) == BW_OK && committed == 2);
     WANT(64 * parents == bw_slice_len(BLOB_LEN, 3072, 2048) - 8 - 2048);
     WANT(bw_seat_held(&seat, 0, &mask) == BW_OK && mask == 24);
     WANT(bw_seat_take(&seat, 0, UINT64_MAX, &mask) == BW_OK && mask == ~UINT64_C(24) && bw_seat_held(&seat, 0, &mask) == BW_OK && mask == 24);
@@ -1381,19 +1127,19 @@ static void beside(const uint8_t *blob, const uint8_t *root) {
     for (uint64_t k = 0, first = 0; k < all; k += 50, first = k * 7 % all) {
         uint64_t n = first + 57 < all ? 57 : all - first, from = first * BW_CHUNK_LEN, end = (first + n) * BW_CHUNK_LEN;
         size_t bytes = (size_t)((end < BLOB_LEN ? end : BLOB_LEN) - from);
-        WANT(bw_outline_commit(&outline, &seat, first, n, blob + from, bytes, &committed, &parents, &at) == BW_OK && committed <= n);
+        WANT(bw_outline_commit(&outline, &seat, CHUNKS(first, n), blob + from, bytes, &committed, &parents, &at) == BW_OK && committed <= n);
         stored += committed, stored_parents += parents;
-        WANT(bw_outline_slice(&outline, first, n, blob + from, bytes, slice, sizeof slice, &used, &at) == BW_OK);
+        WANT(bw_outline_slice(&outline, CHUNKS(first, n), blob + from, bytes, slice, sizeof slice, &used, &at) == BW_OK);
         size_t len = 0;
-        WANT(bw_seat_serve_slice(&seat, from, n * BW_CHUNK_LEN, served, sizeof served, &len, &lacking) == BW_OK && len == used && memcmp(served, slice, len) == 0);
+        WANT(bw_seat_slice(&seat, from, n * BW_CHUNK_LEN, served, sizeof served, &len, &lacking) == BW_OK && len == used && memcmp(served, slice, len) == 0);
     }
-    WANT(bw_outline_commit(&outline, &seat, 0, all, blob, BLOB_LEN, &committed, &parents, &at) == BW_OK);
+    WANT(bw_outline_commit(&outline, &seat, CHUNKS(0, all), blob, BLOB_LEN, &committed, &parents, &at) == BW_OK);
     WANT(stored + committed == all && stored_parents + parents == all - 1);
     for (uint32_t group = 0; group < 16; group++)
         WANT(bw_seat_held(&seat, group, &mask) == BW_OK && mask == (group < 15 ? UINT64_MAX : (UINT64_C(1) << (all - 960)) - 1));
     WANT(bw_seat_finish(&seat, found, BLOB_LEN, &used) == BW_OK && used == BLOB_LEN && memcmp(found, blob, BLOB_LEN) == 0);
     WANT(strcmp(bw_strerror(BW_OTHER_ROOT), bw_strerror(1)) != 0);
-    bw_seat_free(&seat), bw_outline_free(&outline), bw_outline_free(&alien);
+    bw_free(&seat), bw_free(&outline), bw_free(&alien);
     free(text), free(found), free(shorter);
 }
 
@@ -1405,26 +1151,26 @@ static void holding(const uint8_t *blob, const uint8_t *root, const holder *good
     uint64_t at = 7, mask = 7, committed = 0, parents = 0;
     size_t used = 0;
     WANT(bw_seat_held(&seat, 0, &mask) == BW_NO_HANDLE && bw_hasher_new(&plain, AS(bw_hasher, seat)) == BW_OK && bw_seat_held(&seat, 0, &mask) == BW_NO_HANDLE);
-    WANT(bw_hasher_finish(AS(bw_hasher, seat), out) == BW_OK && mask == 7);
-    WANT(bw_store_new(&plain, root, 977, &seat) == BW_OK && bw_seat_split(&seat, &other) == BW_OK);
+    WANT(bw_hasher_finish(AS(bw_hasher, seat), 0, out, BW_HASH_LEN) == BW_OK && mask == 7);
+    WANT(bw_seat_new(&plain, root, 0, 977, &seat) == BW_OK && bw_seat_split(&seat, &other) == BW_OK);
     WANT(bw_seat_held(&seat, 16, &mask) == BW_NO_GROUP && bw_seat_held(&seat, UINT32_MAX, &mask) == BW_NO_GROUP && mask == 7);
     WANT(bw_seat_held(&seat, 15, &mask) == BW_OK && mask == 0 && bw_seat_held(&seat, 0, &mask) == BW_OK && mask == 0);
     WANT(bw_cut_slice(good->text, good->len, UINT64_MAX, 1, slice, sizeof slice, &used) == BW_OK && bw_seat_settle(&seat, slice, used, &at) == BW_OK);
-    WANT(bw_seat_commit_all(&seat, UINT64_MAX, 1, slice, used, &committed, &parents, &at) == BW_OK && committed == 1);
+    WANT(bw_seat_commit(&seat, UINT64_MAX, 1, slice, used, &committed, &parents, &at) == BW_OK && committed == 1);
     WANT(bw_seat_held(&seat, 15, &mask) == BW_OK && mask == UINT64_C(1) << 16);
     WANT(bw_cut_slice(good->text, good->len, 3 * 1024, 2 * 1024, slice, sizeof slice, &used) == BW_OK);
-    WANT(bw_seat_commit_all(&seat, 3 * 1024, 2 * 1024, slice, used, &committed, &parents, &at) == BW_OK && committed == 2);
+    WANT(bw_seat_commit(&seat, 3 * 1024, 2 * 1024, slice, used, &committed, &parents, &at) == BW_OK && committed == 2);
     WANT(bw_seat_take(&other, 0, 255, &mask) == BW_OK && mask == 255 - 24 && bw_seat_held(&seat, 0, &mask) == BW_OK && mask == 24);
     /* Nothing was claimed: all others are still free, or the other seat's. */
     WANT(bw_seat_take(&seat, 0, UINT64_MAX, &mask) == BW_OK && mask == ~UINT64_C(255) && bw_seat_held(&other, 0, &mask) == BW_OK && mask == 24);
     WANT(bw_seat_give(&seat, 0, UINT64_MAX, &mask) == BW_OK && bw_seat_give(&other, 0, UINT64_MAX, &mask) == BW_OK && mask == 255 - 24);
-    WANT(bw_seat_commit_all(&seat, 0, UINT64_MAX, good->text, good->len, &committed, &parents, &at) == BW_OK && committed == 974);
+    WANT(bw_seat_commit(&seat, 0, UINT64_MAX, good->text, good->len, &committed, &parents, &at) == BW_OK && committed == 974);
     for (uint32_t group = 0; group < 16; group++) WANT(bw_seat_held(&other, group, &mask) == BW_OK && mask == (group < 15 ? UINT64_MAX : (UINT64_C(1) << 17) - 1));
     /* A chunk of no bytes has no first byte. */
-    WANT(bw_encode(&plain, blob, 0, slice, sizeof slice, &used, out) == BW_OK && bw_store_new(&plain, out, 1, &seat) == BW_OK);
-    WANT(bw_seat_settle(&seat, slice, used, &at) == BW_OK && bw_seat_commit_all(&seat, 0, 1, slice, used, &committed, &parents, &at) == BW_OK && committed == 1);
+    WANT(bw_encode(&plain, blob, 0, slice, sizeof slice, &used, out) == BW_OK && bw_seat_new(&plain, out, 0, 1, &seat) == BW_OK);
+    WANT(bw_seat_settle(&seat, slice, used, &at) == BW_OK && bw_seat_commit(&seat, 0, 1, slice, used, &committed, &parents, &at) == BW_OK && committed == 1);
     WANT(bw_seat_held(&seat, 0, &mask) == BW_OK && mask == 0);
-    bw_seat_free(&seat), bw_seat_free(&other);
+    bw_free(&seat), bw_free(&other);
 }
 
 /* With no room, each call that writes tells how long what it would write is. */
@@ -1437,25 +1183,20 @@ static void sizes(const uint8_t *blob, const uint8_t *root, const holder *good) 
     bw_seat seat = BW_EMPTY;
     WANT(bw_encode(&plain, blob, BLOB_LEN, out, 0, &used, hash) == BW_ROOM && used == bw_encoded_len(BLOB_LEN));
     WANT(bw_outboard(&plain, blob, BLOB_LEN, out, 100, &used, hash) == BW_ROOM && used == bw_outboard_len(BLOB_LEN));
-    WANT(bw_slice(&plain, blob, BLOB_LEN, 5000, 3000, out, 100, &used, hash) == BW_ROOM && used == bw_slice_len(BLOB_LEN, 5000, 3000));
     WANT(bw_cut_slice(good->text, good->len, 5000, 3000, out, 100, &used) == BW_ROOM && used == bw_slice_len(BLOB_LEN, 5000, 3000));
-    WANT(bw_store_new(&plain, root, 1024, &seat) == BW_OK);
+    WANT(bw_seat_new(&plain, root, 0, 1024, &seat) == BW_OK);
     WANT(bw_cut_slice(good->text, good->len, UINT64_MAX, 1, out, sizeof out, &used) == BW_OK && bw_seat_settle(&seat, out, used, &at) == BW_OK);
-    WANT(bw_seat_commit_all(&seat, 0, UINT64_MAX, good->text, good->len, &committed, &parents, &at) == BW_OK && committed == 977 && parents == 976);
-    WANT(bw_seat_serve_slice(&seat, 5000, 3000, out, 100, &used, &lacking) == BW_ROOM && used == bw_slice_len(BLOB_LEN, 5000, 3000));
+    WANT(bw_seat_commit(&seat, 0, UINT64_MAX, good->text, good->len, &committed, &parents, &at) == BW_OK && committed == 977 && parents == 976);
+    WANT(bw_seat_slice(&seat, 5000, 3000, out, 100, &used, &lacking) == BW_ROOM && used == bw_slice_len(BLOB_LEN, 5000, 3000));
     WANT(bw_seat_finish(&seat, out, sizeof out, &used) == BW_ROOM && used == BLOB_LEN);
-    bw_seat_free(&seat);
-    static const bw_status memory[] = {BW_TEXT_MEMORY, BW_STORE_MEMORY, BW_SPLIT_MEMORY, BW_SERVE_MEMORY, BW_MEMORY};
-    for (bw_status status = 0, found = 0; status < 2000; status++) {
-        uint32_t is = 0;
-        for (size_t k = 0; k < sizeof memory / sizeof *memory; k++) is |= memory[k] == status;
-        WANT(bw_is_memory(status) == is);
-        found += is;
-        WANT(status != 1999 || found == 5);
+    bw_free(&seat);
+    for (bw_status status = 0; status < 2000; status++) {
+        const char *words = bw_strerror(status);
+        WANT(BW_IS_MEMORY(status) == (strncmp(words, "no memory", 9) == 0));
     }
     size_t named = 0;
     for (bw_status status = 0; status < 2000; status++) named += strcmp(bw_strerror(status), bw_strerror(1)) != 0;
-    WANT(named == 36); /* as many as the header has */
+    WANT(named == 35); /* as many as the header has */
     WANT(bw_version() == BW_VERSION);
 }
 
@@ -1476,16 +1217,14 @@ int main(void) {
     nothings();
     modes(blob);
     texts(blob, root, &holders[0]);
-    feeds(blob, root, &holders[0]);
     pouring(blob, root, &holders[0]);
     decoding(blob, root, &holders[0]);
     ranges(&holders[0]);
     by_ranges(blob, root, &holders[0]);
-    outboard_ranges(blob, root, &holders[0]);
+    outboard_ranges(blob, &holders[0]);
     slice_nodes();
     by_nodes(blob, &holders[0]);
     outlining(blob, root, &holders[0]);
-    pushing(blob, root);
     beside(blob, root);
     holding(blob, root, &holders[0]);
     salvaging(blob, root, &holders[0]);
@@ -1503,23 +1242,22 @@ int main(void) {
 
     bw_seat first = BW_EMPTY;
     uint64_t at = 0, len = 0, missing = 0;
-    WANT(bw_store_new(&plain, root, 0, &first) == BW_CAPACITY && first.at == NULL);
-    WANT(bw_store_new(&plain, root, 1024, &first) == BW_OK);
+    WANT(bw_seat_new(&plain, root, 0, 0, &first) == BW_CAPACITY && first.at == NULL);
+    WANT(bw_seat_new(&plain, root, 0, 1024, &first) == BW_OK);
     WANT(bw_seat_length(&first, &len) == BW_UNFINISHED);
     bw_node none = {7, 7};
     size_t nothing = 7;
-    WANT(bw_seat_serve_slice(&first, 0, 1, found, BLOB_LEN, &nothing, &none) == BW_NO_LENGTH && nothing == 7 && none.kind == 7);
+    WANT(bw_seat_slice(&first, 0, 1, found, BLOB_LEN, &nothing, &none) == BW_NO_LENGTH && nothing == 7 && none.kind == 7);
     uint8_t tail[8 + 64 * 64 + BW_CHUNK_LEN];
     size_t used = 0;
     WANT(bw_cut_slice(holders[0].text, holders[0].len, UINT64_MAX, 1, tail, sizeof tail, &used) == BW_OK);
-    WANT(bw_seat_commit_parents(&first, 0, UINT64_MAX, 1, tail, used, &at, &missing) == BW_OTHER_LENGTH);
     WANT(bw_seat_settle(&first, tail, used - 1, &at) == BW_SHORT);
     WANT(bw_seat_settle(&first, tail, used, &at) == BW_OK);
     WANT(bw_seat_length(&first, &len) == BW_OK && len == BLOB_LEN);
     WANT(bw_seat_settle(&first, tail, used, &at) == BW_OK);
     WANT(bw_seat_take(&first, 16, 1, &at) == BW_NO_GROUP);
     bw_node lacking = {7, 7};
-    WANT(bw_seat_serve_slice(&first, 0, 1, found, BLOB_LEN, &used, &lacking) == BW_LACKING && lacking.kind == 0 && lacking.number == 512);
+    WANT(bw_seat_slice(&first, 0, 1, found, BLOB_LEN, &used, &lacking) == BW_LACKING && lacking.kind == 0 && lacking.number == 512);
     WANT(bw_seat_finish(&first, found, BLOB_LEN - 1, &used) == BW_ROOM);
     WANT(bw_seat_finish(&first, found, BLOB_LEN, &used) == BW_UNFINISHED);
 
@@ -1535,21 +1273,21 @@ int main(void) {
         WANT(pthread_join(threads[k], NULL) == 0);
         stored += workers[k].stored;
         parents += workers[k].parents;
-        bw_seat_free(&workers[k].seat);
+        bw_free(&workers[k].seat);
     }
     WANT(stored == (BLOB_LEN + BW_CHUNK_LEN - 1) / BW_CHUNK_LEN && parents == stored - 1);
     /* The finished store serves the whole encoding, as it would be written. */
     size_t text_len = 0;
     uint8_t *text = room(holders[0].len);
-    WANT(bw_seat_serve_slice(&first, 0, UINT64_MAX, text, holders[0].len - 1, &text_len, &lacking) == BW_ROOM);
-    WANT(bw_seat_serve_slice(&first, 0, UINT64_MAX, text, holders[0].len, &text_len, &lacking) == BW_OK);
+    WANT(bw_seat_slice(&first, 0, UINT64_MAX, text, holders[0].len - 1, &text_len, &lacking) == BW_ROOM);
+    WANT(bw_seat_slice(&first, 0, UINT64_MAX, text, holders[0].len, &text_len, &lacking) == BW_OK);
     WANT(text_len == holders[0].len && memcmp(text, holders[0].text, text_len) == 0);
     free(text);
     WANT(bw_seat_read(&first, BLOB_LEN - 5, found, 5, &missing) == BW_OK && memcmp(found, blob + BLOB_LEN - 5, 5) == 0);
     WANT(bw_seat_read(&first, BLOB_LEN - 5, found, 6, &missing) == BW_MISSING && missing == BLOB_LEN);
     WANT(bw_seat_finish(&first, found, BLOB_LEN, &used) == BW_OK && used == BLOB_LEN);
     WANT(memcmp(found, blob, BLOB_LEN) == 0);
-    bw_seat_free(&first);
+    bw_free(&first);
     WANT(bw_seat_finish(&first, found, BLOB_LEN, &used) == BW_NO_HANDLE);
     for (int k = 0; k < HOLDERS; k++) free(holders[k].text);
     free(blob);

@@ -128,7 +128,7 @@ static void two_holders(void) {
     WANT(takes(&plan, 0, 1, UINT64_MAX, UINT64_MAX - 1) && is_done(&plan, 1) && lacks_chunks(&plan, 3, 0));
     /* Others gave its chunks: that is no failure of its own. */
     WANT(ends(&plan, 0, 65, 131, BW_ENDED_OVER, 0, 720, 0) && has_nothing(&plan, 0, 720) && has_nothing(&plan, 1, 720));
-    bw_plan_free(&plan);
+    bw_free(&plan);
     WANT(plan.at == NULL);
 }
 
@@ -160,12 +160,12 @@ static void shares(void) {
     bw_hasher hasher = BW_EMPTY;
     const bw_mode plain = {0, {0}};
     uint8_t hash[BW_HASH_LEN];
-    WANT(bw_hasher_finish((bw_hasher *)(void *)&plan, hash) == BW_NO_HANDLE && lacks_chunks(&plan, 0, UINT64_MAX - 1));
+    WANT(bw_hasher_finish((bw_hasher *)(void *)&plan, 0, hash, BW_HASH_LEN) == BW_NO_HANDLE && lacks_chunks(&plan, 0, UINT64_MAX - 1));
     WANT(bw_hasher_new(&plain, &hasher) == BW_OK);
     no_plan((bw_plan *)(void *)&hasher);
-    bw_hasher_free(&hasher);
-    bw_plan_free(&plan);
-    bw_plan_free(&plan);
+    bw_free(&hasher);
+    bw_free(&plan);
+    bw_free(&plan);
     no_plan(&plan);
 }
 

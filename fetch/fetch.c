@@ -47,7 +47,7 @@ void fetch_free(fetch *f) {
     if (!f) return;
     for (peer *it = f->peers, *next; it; it = next) next = it->next, source_free(&it->at), free(it->spine), free(it);
     for (opener *it = f->openers, *next; it; it = next) next = it->next, free(it);
-    bw_plan_free(&f->length), bw_plan_free(&f->chunks), bw_plan_free(&f->parents), bw_hasher_free(&f->hasher);
+    bw_free(&f->length), bw_free(&f->chunks), bw_free(&f->parents), bw_free(&f->hasher);
     free(f->own.at.shown), free(f->drain_bytes);
     out_free(&f->out);
     free(f->name), free(f);
@@ -246,7 +246,7 @@ void fetch_settle(fetch *f, uint64_t total) {
 void fetch_certify(fetch *f) {
     f->believed = NULL, f->changes++;
     let_all_in(f);
-    bw_plan_free(&f->length);
+    bw_free(&f->length);
     int status = out_certify(&f->out);
     if (status) fetch_stop(f, status);
 }
@@ -295,7 +295,7 @@ static void was_drained(job *of) {
 static void run_finish(job *of) {
     fetch *f = of->with;
     uint8_t found[BW_HASH_LEN];
-    bool same = !bw_hasher_finish(&f->hasher, found) && !memcmp(found, f->root, BW_HASH_LEN);
+    bool same = !bw_hasher_finish(&f->hasher, 0, found, BW_HASH_LEN) && !memcmp(found, f->root, BW_HASH_LEN);
     f->drain_status = !same ? OTHER_ROOT : out_finish(&f->out) ? DONE : FILE_FAULT;
 }
 

@@ -60,8 +60,8 @@ bool out_is_right(const output *it, const bw_mode *mode, uint64_t *len) {
     *len = 0;
     bool ok = fd >= 0 && !bw_hasher_new(mode, &hasher);
     while (ok && (n = read(fd, bytes, sizeof bytes)) > 0) ok = !bw_hasher_update(&hasher, bytes, (size_t)n), *len += (uint64_t)n;
-    ok = ok && !n && !bw_hasher_finish(&hasher, found) && !memcmp(found, it->root, BW_HASH_LEN);
-    bw_hasher_free(&hasher);
+    ok = ok && !n && !bw_hasher_finish(&hasher, 0, found, BW_HASH_LEN) && !memcmp(found, it->root, BW_HASH_LEN);
+    bw_free(&hasher);
     if (fd >= 0) close(fd);
     return ok;
 }

@@ -35,6 +35,12 @@ static void keep(exchange *e, unsigned group, span it, uint64_t start, size_t us
     e->kept[group] |= mask_of(it), e->taken++;
 }
 
+static bw_slice slice_named(const fetch *f, uint64_t start, uint64_t len) {
+    bw_slice it = {f->set->mode, {0}, start, len};
+    memcpy(it.root, f->root, sizeof it.root);
+    return it;
+}
+
 /* Verifies some chunks of a group as a slice, out of what came. The first node that is refused is at *refused. */
 static taken take(exchange *e, unsigned group, span it, bw_placed *refused) {
     fetch *f = e->fetch;
@@ -44,7 +50,8 @@ static taken take(exchange *e, unsigned group, span it, bw_placed *refused) {
     size_t used;
     size_t text_len = slice_put(f->total, start, len, &from, text, sizeof text);
     if (!text_len) return NOT_THERE;
-    if (bw_decode(&f->set->mode, f->root, start, len, text, text_len, chunks, sizeof chunks, &used, &certified, &at)) {
+    const bw_slice named = slice_named(f, start, len);
+    if (bw_decode(&named, text, text_len, chunks, sizeof chunks, &used, &certified, &at)) {
         return bw_node_at(f->total, start, len, at, refused) ? NOT_THERE : REFUTED;
     }
     keep(e, group, it, start, used);
@@ -88,12 +95,11 @@ static void run_unit(job *of) {
 
 static void run_proof(job *of) {
     exchange *e = of->with;
-    const bw_mode *mode = &e->fetch->set->mode;
     uint64_t last = (chunks_of(e->claimed) - 1) * BW_CHUNK_LEN, certified, at = 0;
     const origin from = origin_of(e, NULL, !e->by);
     e->slice_len = slice_put(e->claimed, last, BW_CHUNK_LEN, &from, text, sizeof text);
-    bw_status r = !e->slice_len ? BW_SHORT : bw_decode(mode, e->fetch->root, last, BW_CHUNK_LEN, text, e->slice_len, e->chunk,
-                                                       sizeof e->chunk, &e->chunk_len, &certified, &at);
+    const bw_slice named = slice_named(e->fetch, last, BW_CHUNK_LEN);
+    bw_status r = !e->slice_len ? BW_SHORT : bw_decode(&named, text, e->slice_len, e->chunk, sizeof e->chunk, &e->chunk_len, &certified, &at);
     bw_placed refused = {0};
     e->is_certified = !r && certified == e->claimed, e->is_refuted = !e->is_certified;
     if (r && e->slice_len && !bw_node_at(e->claimed, last, BW_CHUNK_LEN, at, &refused)) e->is_parent_false = refused.kind == BW_NODE_PARENT;

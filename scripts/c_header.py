@@ -40,7 +40,7 @@ def parameter(text):
 
 for name, body in STRUCT.findall(TEXT):
     types[name] = struct(name, body)
-Mode, Node = types["bw_mode"], types["bw_node"]
+Mode, Node, Slice, Chunks = (types[f"bw_{it}"] for it in ("mode", "node", "slice", "chunks"))
 STATUSES = {name: int(number) for name, number in STATUS.findall(TEXT)}
 # The result of each function, and then its parameters.
 FUNCTIONS = {

@@ -65,10 +65,12 @@ def handle(name, before):
     return kind
 
 
-def field(kind):
-    """The size, the alignment and the C type of a pointer to a field."""
+def field(kind, laid):
+    """The size, the alignment and the C type of a pointer to a field. `laid` has the sizes and alignments of structs."""
     if kind.startswith("*"):
         return 8, 8, "void **"
+    if kind in laid:
+        return *laid[kind], f"{c_struct(kind)} *"
     array = ARRAY.fullmatch(kind)
     one, count = (array[1], int(array[2])) if array else (kind, 1)
     if one not in NUMBERS:
@@ -77,19 +79,20 @@ def field(kind):
     return size * count, size, f"{name} (*)[{count}]" if array else f"{name} *"
 
 
-def struct_lines(name, fields):
-    """The assertions for the struct that the header calls by this name."""
-    at, widest = 0, 1
+def struct_lines(name, fields, laid):
+    """The assertions for the struct that the header calls by this name, and its size and alignment."""
+    lines, at, widest = [], 0, 1
     for field_name, kind in fields:
         if kind == "Global":  # it takes no bytes
             continue
-        size, align, pointer = field(kind)
+        size, align, pointer = field(kind, laid)
         at = -(-at // align) * align
         place = f"{name}, {field_name}"
-        yield f'_Static_assert(offsetof({place}) == {at}, "{place}");'
-        yield f'_Static_assert(_Generic(&(({name} *)0)->{field_name}, {pointer}: 1, default: 0), "{place}");'
+        lines.append(f'_Static_assert(offsetof({place}) == {at}, "{place}");')
+        lines.append(f'_Static_assert(_Generic(&(({name} *)0)->{field_name}, {pointer}: 1, default: 0), "{place}");')
         at, widest = at + size, max(widest, align)
-    yield f'_Static_assert(sizeof({name}) == {-(-at // widest) * widest}, "{name}");'
+    size = -(-at // widest) * widest
+    return [*lines, f'_Static_assert(sizeof({name}) == {size}, "{name}");'], (size, widest)
 
 
 def function_line(name, parameters, result, structs, marked):
@@ -129,11 +132,12 @@ def main(folder, archive):
             stop(f"the header has no status {number}, {name}")
     marked = {name: [int(it) for it in numbers.split(", ")] if numbers else [] for name, numbers in MARKED.findall(header)}
     print('#include "berylwool.h"\n')
-    for name, fields in structs.items():
+    laid = {}
+    # (a struct within others has numbers alone)
+    for name, fields in sorted(structs.items(), key=lambda it: any(kind in structs for _, kind in it[1])):
         for it in [f"bw_{kind}" for kind in HANDLES] if name == HANDLE else [c_struct(name)]:
-            print("\n".join(struct_lines(it, fields)))
-    for kind in HANDLES:
-        print(f'_Static_assert(_Generic(&bw_{kind}_free, void (*)(bw_{kind} *): 1, default: 0), "bw_{kind}_free");')
+            lines, laid[name] = struct_lines(it, fields, laid)
+            print("\n".join(lines))
     for name, parameters, result in exports:
         print(function_line(name, parameters, result, structs, marked.get(name, [])))
     lines = subprocess.run(["nm", "-g", "--defined-only", archive], capture_output=True, text=True, check=True).stdout

@@ -50,12 +50,12 @@ COPY = "a plain copy"
 TAKES_OF_ONE = "a group taken 1,000 times, of one"
 TAKES_OF_ALL = "a group taken 1,000 times, of 1,024"
 READ = "bw_seat_read of 1 MiB"
-SERVED = "bw_seat_serve_slice of 1 MiB"
+SERVED = "bw_seat_slice of 1 MiB"
 C_HASH = "bw_hash"
-C_CHECK = "bw_check_combined"
-C_CHECK_REFUSED = "bw_check_combined, damaged in its last byte"
-C_COMMITS_ONE = "bw_seat_commit by one thread"
-C_COMMITS_FOUR = "bw_seat_commit by four threads"
+C_CHECK = "bw_check"
+C_CHECK_REFUSED = "bw_check, damaged in its last byte"
+C_COMMITS_ONE = "bw_seat_commit_chunks by one thread"
+C_COMMITS_FOUR = "bw_seat_commit_chunks by four threads"
 C_READS_ONE = "bw_seat_read by one thread"
 C_READS_FOUR = "bw_seat_read by four threads"
 C_HASH_FIRST = "bw_hash of the first 64 MiB"
@@ -63,17 +63,16 @@ C_UPDATE_SMALL = "bw_hasher_update in pieces of 64 KiB"
 C_UPDATE_LARGE = "bw_hasher_update in pieces of 1 MiB"
 C_AUDIT = "bw_audit"
 C_OUTLINE_NEW = "bw_outline_new"
-C_FEED_SMALL = "bw_feed_take_many in pieces of 64 KiB"
-C_FEED_LARGE = "bw_feed_take_many in pieces of 256 KiB"
-C_FEED_NODES = "bw_feed_take"
+C_FEED_SMALL = "bw_feed_take in pieces of 64 KiB"
+C_FEED_LARGE = "bw_feed_take in pieces of 256 KiB"
 C_DECODE = "bw_decode"
 C_OUTLINE = "bw_outline_check"
-C_COMMIT_ALL = "bw_seat_commit_all"
+C_COMMIT = "bw_seat_commit"
 C_COMMIT_CHUNKS = "bw_seat_commit_chunks"
 C_OUTLINE_COMMIT = "bw_outline_commit"
-C_GATHER = "bw_gather"
-C_GATHER_FOUR = "bw_gather by four threads"
-C_WHOLE = "bw_gather and bw_seat_finish"
+C_GATHER = "bw_seat_gather"
+C_GATHER_FOUR = "bw_seat_gather by four threads"
+C_WHOLE = "bw_seat_gather and bw_seat_finish"
 
 # The table: a name of what was timed, and how it worked. Those of calls have their names from c/compare.c and c/pieces.c.
 ROWS = [
@@ -118,36 +117,30 @@ ROWS = [
     (C_HASH, "C library in one process, one thread"),
     (C_CHECK, "C library in one process, one thread, of the file's combined encoding"),
     (C_CHECK_REFUSED, "as before, where that isn't accepted"),
-    (C_COMMITS_ONE, "C library in one process, one POSIX thread with a seat, of the slices of the groups of the first 64 MiB, which it checks and had claimed"),
+    (C_COMMITS_ONE, "C library in one process, one POSIX thread with a seat, of the slices of the groups of the first 64 MiB, which it checks and claims"),
     (C_COMMITS_FOUR, "as before, four POSIX threads with a seat each"),
     (C_READS_ONE, "C library in one process, one POSIX thread with a seat, of these bytes, the mean of four reads"),
     (C_READS_FOUR, "as before, four POSIX threads with a seat each, a quarter by each"),
     (C_HASH_FIRST, "C library in one process, one thread, as all that follow"),
     (C_UPDATE_SMALL, "of the same, with the hash"),
     (C_UPDATE_LARGE, "as before"),
-    ("bw_xof of 1 MiB", "of output, of no bytes"),
+    ("bw_hash with 1 MiB of output", "of no bytes"),
     ("bw_encode", "of the same 64 MiB, in the caller's memory"),
     ("bw_outboard", "as before"),
-    ("bw_slice of 1 MiB", "of the same, all of which is hashed"),
     ("bw_cut_slice of 1 MiB", "from their combined encoding"),
-    ("bw_check_slice of 1 MiB", "of that slice"),
-    ("bw_check_outboard", "of their outboard encoding"),
-    ("bw_check_bare", "of the same beside their outboard encoding, which is checked before"),
-    (C_AUDIT, "of the same and their combined encoding, which agree"),
+    ("bw_check of 1 MiB", "of that slice"),
+    (C_AUDIT, "of the first 64 MiB and their combined encoding, which agree"),
     (C_DECODE, "of their combined encoding"),
     (C_FEED_SMALL, "as before"),
     (C_FEED_LARGE, "as before"),
-    (C_FEED_NODES, "as before, node by node, each asked for by bw_feed_wants"),
-    ("bw_feed_push", "of their outboard encoding, in pieces of 64 KiB, with the outline of it"),
     (C_OUTLINE_NEW, "of their outboard encoding"),
     (C_OUTLINE, "of the same beside it, 64 KiB at a time"),
     ("bw_outline_slice", "as before"),
-    ("bw_store_new", "with room for them"),
-    ("bw_store_part of 4 MiB", "of the second 4 MiB"),
+    ("bw_seat_new", "with room for them"),
+    ("bw_seat_new of 4 MiB", "of the second 4 MiB"),
     (C_COMMIT_CHUNKS, "of their combined encoding, into an empty store"),
-    (C_COMMIT_ALL, "as before, with the parents"),
+    (C_COMMIT, "as before, with the parents"),
     (C_OUTLINE_COMMIT, "of the same beside the outline, 64 KiB at a time, into an empty store"),
-    ("bw_seat_commit_parents", "of the slice of each group, which is cut out of their combined encoding"),
     ("bw_seat_settle", "of the slice of the last byte"),
     (C_GATHER, "of their combined encoding, into an empty store"),
     (C_GATHER_FOUR, "as before, by four POSIX threads with a seat each"),
@@ -165,13 +158,10 @@ CALLS = [
     ("bw_seat_take and bw_seat_give", ""),
     ("bw_seat_held", ""),
     ("bw_seat_split and bw_seat_join", ""),
-    ("bw_seat_split and bw_seat_meet", ""),
     ("bw_hasher_new", ""),
     ("bw_hasher_finish of no bytes", ""),
     ("bw_hash of no bytes", ""),
-    ("bw_derive_key of no bytes", ""),
-    ("bw_feed_slice", ""),
-    ("bw_feed_wants", ""),
+    ("bw_feed_new", ""),
     ("bw_slice_len of 64 KiB", ""),
     ("bw_slice_ranges of 64 KiB", ""),
     ("bw_outboard_ranges of 64 KiB", ""),
@@ -246,10 +236,9 @@ RATIOS = [
     ("one thread", C_DECODE, C_HASH_FIRST, ""),
     ("one thread", C_FEED_SMALL, C_HASH_FIRST, "at most 1.3"),
     ("one thread", C_FEED_LARGE, C_HASH_FIRST, ""),
-    ("one thread", C_FEED_NODES, C_HASH_FIRST, ""),
     ("one thread", C_COMMIT_CHUNKS, C_HASH_FIRST, ""),
-    ("one thread", C_COMMIT_ALL, C_COMMIT_CHUNKS, ""),
-    ("one thread", C_OUTLINE_COMMIT, C_COMMIT_ALL, ""),
+    ("one thread", C_COMMIT, C_COMMIT_CHUNKS, ""),
+    ("one thread", C_OUTLINE_COMMIT, C_COMMIT, ""),
     ("one thread", C_GATHER, C_HASH_FIRST, ""),
 ]
 
@@ -320,7 +309,8 @@ PLOTTED = [
 ]
 
 
-# The figures that were measured through the Rust crates until 2026-11-30, in one process: each with the one that goes through the C library now, or None.
+# The figures that were measured through the Rust crates, or by former calls of the C library, until 2026-11-30, in one process: each with the one that goes
+# through the C library now, or None.
 FORMER = {
     "one thread: b3sum --num-threads 1 / hash": ratio_name("one thread", B3SUM_ONE, C_HASH),
     "one thread: Hasher, pieces of 64 KiB / hash": ratio_name("one thread", C_UPDATE_SMALL, C_HASH_FIRST),
@@ -334,6 +324,8 @@ FORMER = {
     "one thread: a plain copy / reads by one seat": ratio_name("one thread", COPY, C_READS_ONE),
     "one thread: 1 MiB served by a shared store / 1 MiB read from a shared store": ratio_name("one thread", SERVED, READ),
     "several threads: run by one worker / run by four workers": ratio_name("several threads", C_GATHER, C_GATHER_FOUR),
+    "several threads: bw_seat_commit by one thread / bw_seat_commit by four threads": ratio_name("several threads", C_COMMITS_ONE, C_COMMITS_FOUR),
+    "one thread: bw_feed_take_many in pieces of 64 KiB / bw_hash of the first 64 MiB": ratio_name("one thread", C_FEED_SMALL, C_HASH_FIRST),
     "several threads: hash / hash_join": None,
     "several threads: hash / hash_pool, 4 workers": None,
     "several threads: check_combined / check_combined_join": None,

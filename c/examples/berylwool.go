@@ -1,15 +1,14 @@
 // The C library from Go, by cgo: a blob is gathered by four goroutines out of two damaged copies of its encoding.
 //
-//	make c-library && CGO_ENABLED=1 go run c/examples/berylwool.go
+// `go run c/examples/berylwool.go` builds it with the C library that pkg-config finds.
 //
 // A goroutine calls on a thread of the system, whose stack is large enough. Go's memory is lent for the time of a call alone, and a handle
 // in it has no pointer but the library's own, so cgo's rules on pointers are kept. What passes a Seat from one goroutine to another, a
 // channel, a WaitGroup or a Mutex, orders memory as the library asks.
 package main
 
-// #cgo CFLAGS: -I${SRCDIR}/..
-// #cgo LDFLAGS: ${SRCDIR}/../../out/libberylwool.a
-// #include "berylwool.h"
+// #cgo pkg-config: berylwool
+// #include <berylwool.h>
 import "C"
 
 import (
@@ -71,7 +70,7 @@ func size(text []byte) C.size_t { return C.size_t(len(text)) }
 
 // HashOf is the hash of bytes.
 func HashOf(blob []byte) (hash Hash) {
-	C.bw_hash(&plain, at(blob), size(blob), hash.ptr())
+	must(told(C.bw_hash(&plain, at(blob), size(blob), 0, hash.ptr(), C.BW_HASH_LEN)))
 	return hash
 }
 
@@ -94,8 +93,11 @@ func CutSlice(text []byte, start, count uint64) ([]byte, error) {
 // CheckSlice says whether a text is the slice of `count` bytes from `start` on, under the root; a Fault is its first one.
 func CheckSlice(root Hash, start, count uint64, text []byte) error {
 	var place C.uint64_t
-	status := C.bw_check_slice(&plain, root.ptr(), C.uint64_t(start), C.uint64_t(count), at(text), size(text), &place)
-	return toldAt(status, place)
+	slice := C.bw_slice{mode: plain, start: C.uint64_t(start), len: C.uint64_t(count)}
+	for i, it := range root {
+		slice.root[i] = C.uint8_t(it)
+	}
+	return toldAt(C.bw_check(&slice, at(text), size(text), &place), place)
 }
 
 // A Seat is one goroutine's at a time. Close it at the end.
@@ -107,7 +109,7 @@ type Seat struct {
 // NewStore makes a store of so many chunks at most, and its first seat.
 func NewStore(root Hash, capacity uint32) (*Seat, error) {
 	seat := &Seat{store: new(byte)}
-	return seat, told(C.bw_store_new(&plain, root.ptr(), C.uint32_t(capacity), &seat.handle))
+	return seat, told(C.bw_seat_new(&plain, root.ptr(), 0, C.uint32_t(capacity), &seat.handle))
 }
 
 // Split gives another seat of the store, which claims nothing.
@@ -126,14 +128,14 @@ func (seat *Seat) Join(other *Seat) error {
 
 // Gather is one worker's round over an encoding that nobody trusts. The report goes on from what it was.
 func (seat *Seat) Gather(number, workers uint32, text []byte, report *C.bw_report) error {
-	return told(C.bw_gather(&seat.handle, C.uint32_t(number), C.uint32_t(workers), at(text), size(text), report))
+	return told(C.bw_seat_gather(&seat.handle, C.uint32_t(number), C.uint32_t(workers), at(text), size(text), report))
 }
 
 // ServeSlice puts the text of a slice to the start of `out`, and answers how long it is.
 func (seat *Seat) ServeSlice(start, count uint64, out []byte) (int, error) {
 	var used C.size_t
 	var lacking C.bw_node
-	status := C.bw_seat_serve_slice(&seat.handle, C.uint64_t(start), C.uint64_t(count), at(out), size(out), &used, &lacking)
+	status := C.bw_seat_slice(&seat.handle, C.uint64_t(start), C.uint64_t(count), at(out), size(out), &used, &lacking)
 	return int(used), told(status)
 }
 
@@ -145,7 +147,7 @@ func (seat *Seat) Finish(out []byte) (int, error) {
 }
 
 // Close frees the seat, and the store with its last seat.
-func (seat *Seat) Close() { C.bw_seat_free(&seat.handle) }
+func (seat *Seat) Close() { C.bw_free(unsafe.Pointer(&seat.handle)) }
 
 func must(err error) {
 	if err != nil {

@@ -1,14 +1,25 @@
 //! The C library from Rust: safe wrappers over `extern "C"`, and a blob gathered by four threads.
 //!
-//! rustc --edition 2021 -L FOLDER_OF_THE_ARCHIVE c/examples/berylwool.rs
+//! In this folder `cargo run` builds it with an installed library. Without cargo:
+//! rustc --edition 2021 -L FOLDER_OF_THE_ARCHIVE -l static=berylwool c/examples/berylwool.rs
 use std::io::{self, Read};
 use std::ptr;
 use std::sync::Arc;
 
 #[repr(C)]
+#[derive(Clone, Copy)]
 pub struct Mode {
     kind: u32,
     key: [u8; 32],
+}
+
+/// Which slice of which blob.
+#[repr(C)]
+struct Slice {
+    mode: Mode,
+    root: [u8; 32],
+    start: u64,
+    len: u64,
 }
 
 #[repr(C)]
@@ -23,27 +34,25 @@ struct Handle {
     at: *mut u8,
 }
 
-#[link(name = "berylwool", kind = "static")]
 unsafe extern "C" {
     fn bw_free(handle: &mut Handle);
-    fn bw_hash(mode: &Mode, bytes: *const u8, len: usize, out: &mut [u8; 32]);
+    fn bw_hash(mode: &Mode, bytes: *const u8, len: usize, at: u64, out: *mut u8, out_len: usize) -> u32;
     fn bw_encoded_len(len: u64) -> u64;
     fn bw_encode(mode: &Mode, bytes: *const u8, len: usize, out: *mut u8, out_len: usize, used: &mut usize, root: &mut [u8; 32]) -> u32;
     fn bw_cut_slice(text: *const u8, text_len: usize, start: u64, len: u64, out: *mut u8, out_len: usize, used: &mut usize) -> u32;
-    fn bw_check_slice(mode: &Mode, root: &[u8; 32], start: u64, len: u64, text: *const u8, text_len: usize, at: &mut u64) -> u32;
-    fn bw_feed_slice(mode: &Mode, root: &[u8; 32], start: u64, len: u64, feed: &mut Handle) -> u32;
-    fn bw_feed_wants(feed: &mut Handle, node: &mut u32, size: &mut usize) -> u32;
-    fn bw_feed_take(feed: &mut Handle, node: *const u8, node_len: usize, at: &mut u64) -> u32;
+    fn bw_check(slice: &Slice, text: *const u8, text_len: usize, at: &mut u64) -> u32;
+    fn bw_feed_new(slice: &Slice, feed: &mut Handle) -> u32;
+    fn bw_feed_take(feed: &mut Handle, bytes: *const u8, bytes_len: usize, out: *mut u8, out_len: usize, taken: &mut usize, filled: &mut usize, at: &mut u64) -> u32;
     fn bw_feed_finish(feed: &mut Handle, rest: *const u8, rest_len: usize, at: &mut u64) -> u32;
-    fn bw_store_new(mode: &Mode, root: &[u8; 32], capacity: u32, seat: &mut Handle) -> u32;
+    fn bw_seat_new(mode: &Mode, root: &[u8; 32], first_chunk: u64, capacity: u32, seat: &mut Handle) -> u32;
     fn bw_seat_split(seat: &mut Handle, other: &mut Handle) -> u32;
     fn bw_seat_join(seat: &mut Handle, other: &mut Handle) -> u32;
     fn bw_seat_take(seat: &mut Handle, group: u32, want: u64, granted: &mut u64) -> u32;
     fn bw_seat_give(seat: &mut Handle, group: u32, mask: u64, given: &mut u64) -> u32;
-    fn bw_seat_commit_all(seat: &mut Handle, start: u64, len: u64, text: *const u8, text_len: usize, committed: &mut u64, parents: &mut u64, at: &mut u64) -> u32;
+    fn bw_seat_commit(seat: &mut Handle, start: u64, len: u64, text: *const u8, text_len: usize, committed: &mut u64, parents: &mut u64, at: &mut u64) -> u32;
     fn bw_seat_settle(seat: &mut Handle, text: *const u8, text_len: usize, at: &mut u64) -> u32;
     fn bw_seat_read(seat: &mut Handle, from: u64, out: *mut u8, out_len: usize, missing: &mut u64) -> u32;
-    fn bw_seat_serve_slice(seat: &mut Handle, start: u64, len: u64, out: *mut u8, out_len: usize, used: &mut usize, lacking: &mut Node) -> u32;
+    fn bw_seat_slice(seat: &mut Handle, start: u64, len: u64, out: *mut u8, out_len: usize, used: &mut usize, lacking: &mut Node) -> u32;
     fn bw_seat_finish(seat: &mut Handle, out: *mut u8, out_len: usize, used: &mut usize) -> u32;
 }
 
@@ -62,7 +71,7 @@ fn told(status: u32, at: u64) -> Result<(), Fault> {
 
 pub fn hash(mode: &Mode, bytes: &[u8]) -> [u8; 32] {
     let mut out = [0; 32];
-    unsafe { bw_hash(mode, bytes.as_ptr(), bytes.len(), &mut out) };
+    told(unsafe { bw_hash(mode, bytes.as_ptr(), bytes.len(), 0, out.as_mut_ptr(), out.len()) }, 0).expect("a mode of a known kind");
     out
 }
 
@@ -94,8 +103,8 @@ pub struct Checked<'a> {
 impl<'a> Checked<'a> {
     pub fn new(mode: &Mode, root: &[u8; 32], start: u64, len: u64, text: &'a [u8]) -> Result<Checked<'a>, Fault> {
         let mut at = 0;
-        let status = unsafe { bw_check_slice(mode, root, start, len, text.as_ptr(), text.len(), &mut at) };
-        told(status, at)?;
+        let slice = Slice { mode: *mode, root: *root, start, len };
+        told(unsafe { bw_check(&slice, text.as_ptr(), text.len(), &mut at) }, at)?;
         Ok(Checked { start, len, text })
     }
 
@@ -114,22 +123,19 @@ unsafe impl Send for Feed {}
 impl Feed {
     pub fn new(mode: &Mode, root: &[u8; 32], start: u64, len: u64) -> Result<Feed, Fault> {
         let mut feed = Feed { handle: Handle { at: ptr::null_mut() } };
-        told(unsafe { bw_feed_slice(mode, root, start, len, &mut feed.handle) }, 0)?;
+        told(unsafe { bw_feed_new(&Slice { mode: *mode, root: *root, start, len }, &mut feed.handle) }, 0)?;
         Ok(feed)
     }
 
-    /// How many bytes the next node has: 0 once the text is accepted.
-    pub fn wants(&mut self) -> Result<usize, Fault> {
-        let (mut node, mut size) = (0, 0);
-        told(unsafe { bw_feed_wants(&mut self.handle, &mut node, &mut size) }, 0)?;
-        Ok(size)
-    }
-
-    /// Takes the next node. One that is refused changes nothing.
-    pub fn take(&mut self, node: &[u8]) -> Result<(), Fault> {
-        let mut at = 0;
-        let status = unsafe { bw_feed_take(&mut self.handle, node.as_ptr(), node.len(), &mut at) };
-        told(status, at)
+    /// Takes the whole nodes that `bytes` begins with, appends the blob's bytes among them to `blob`, and answers how many bytes were taken.
+    pub fn take(&mut self, bytes: &[u8], blob: &mut Vec<u8>) -> Result<usize, Fault> {
+        let (had, mut taken, mut filled, mut at) = (blob.len(), 0, 0, 0);
+        blob.resize(had + bytes.len(), 0);
+        let out = &mut blob[had..];
+        let status = unsafe { bw_feed_take(&mut self.handle, bytes.as_ptr(), bytes.len(), out.as_mut_ptr(), out.len(), &mut taken, &mut filled, &mut at) };
+        blob.truncate(had + filled);
+        told(status, at)?;
+        Ok(taken)
     }
 
     /// What is said of the whole text, where `rest` ends it.
@@ -139,22 +145,21 @@ impl Feed {
         told(status, at)
     }
 
-    /// Checks what a reader has, up to its end or the end of an accepted text.
-    pub fn check(&mut self, mut from: impl Read) -> io::Result<Result<(), Fault>> {
-        let mut node = Vec::new();
+    /// Checks what a reader has, up to its end, and appends the blob's bytes to `blob`.
+    pub fn check(&mut self, mut from: impl Read, blob: &mut Vec<u8>) -> io::Result<Result<(), Fault>> {
+        let (mut buffer, mut kept) = (vec![0; 1 << 16], 0);
         loop {
-            let size = match self.wants() {
-                Ok(0) => return Ok(Ok(())),
-                Ok(size) => size,
-                Err(fault) => return Ok(Err(fault)),
-            };
-            node.clear();
-            from.by_ref().take(size as u64).read_to_end(&mut node)?;
-            if node.len() < size {
-                return Ok(self.finish(&node));
+            let got = from.read(&mut buffer[kept..])?;
+            if got == 0 {
+                return Ok(self.finish(&buffer[..kept]));
             }
-            if let Err(fault) = self.take(&node) {
-                return Ok(Err(fault));
+            let end = kept + got;
+            match self.take(&buffer[..end], blob) {
+                Ok(taken) => {
+                    buffer.copy_within(taken..end, 0);
+                    kept = end - taken;
+                }
+                Err(fault) => return Ok(Err(fault)),
             }
         }
     }
@@ -184,7 +189,7 @@ impl Seat {
 
     pub fn new(mode: &Mode, root: &[u8; 32], capacity: u32) -> Result<Seat, Fault> {
         let mut seat = Seat::empty(Arc::new(()));
-        told(unsafe { bw_store_new(mode, root, capacity, &mut seat.handle) }, 0)?;
+        told(unsafe { bw_seat_new(mode, root, 0, capacity, &mut seat.handle) }, 0)?;
         Ok(seat)
     }
 
@@ -212,7 +217,7 @@ impl Seat {
     /// Stores all that the text has as this slice, so that it can be served: how many chunks and parents.
     pub fn commit(&mut self, start: u64, len: u64, text: &[u8]) -> Result<(u64, u64), Fault> {
         let (mut committed, mut parents, mut at) = (0, 0, 0);
-        let status = unsafe { bw_seat_commit_all(&mut self.handle, start, len, text.as_ptr(), text.len(), &mut committed, &mut parents, &mut at) };
+        let status = unsafe { bw_seat_commit(&mut self.handle, start, len, text.as_ptr(), text.len(), &mut committed, &mut parents, &mut at) };
         told(status, at)?;
         Ok((committed, parents))
     }
@@ -238,7 +243,7 @@ impl Seat {
 
     pub fn serve_slice(&mut self, start: u64, len: u64, out: &mut Vec<u8>) -> Result<(), Fault> {
         let (mut used, mut lacking) = (0, Node::default());
-        let status = unsafe { bw_seat_serve_slice(&mut self.handle, start, len, out.as_mut_ptr(), out.len(), &mut used, &mut lacking) };
+        let status = unsafe { bw_seat_slice(&mut self.handle, start, len, out.as_mut_ptr(), out.len(), &mut used, &mut lacking) };
         told(status, lacking.number)?;
         out.truncate(used);
         Ok(())
@@ -268,10 +273,13 @@ fn main() {
     assert_eq!(Checked::new(&PLAIN, &root, 5000, 10, &piece).unwrap().text(), &piece[..]);
     *piece.last_mut().unwrap() ^= 1;
     assert_eq!(Checked::new(&PLAIN, &root, 5000, 10, &piece).unwrap_err().status, 502);
-    assert_eq!(Feed::new(&PLAIN, &root, 5000, 10).unwrap().check(&piece[..]).unwrap().unwrap_err().status, 502);
+    let mut poured = Vec::new();
+    assert_eq!(Feed::new(&PLAIN, &root, 5000, 10).unwrap().check(&piece[..], &mut poured).unwrap().unwrap_err().status, 502);
+    assert!(poured.is_empty());
     let mut feed = Feed::new(&PLAIN, &root, 0, u64::MAX).unwrap();
-    assert_eq!(feed.check(&text[..]).unwrap(), Ok(()));
-    assert_eq!((feed.wants(), feed.finish(&[0])), (Ok(0), Err(Fault { status: 503, at: text.len() as u64 })));
+    assert_eq!(feed.check(&text[..], &mut poured).unwrap(), Ok(()));
+    assert!(poured == blob);
+    assert_eq!(feed.finish(&[0]), Err(Fault { status: 503, at: text.len() as u64 }));
     let mut first = Seat::new(&PLAIN, &root, 1024).unwrap();
     assert_eq!(first.read(5, &mut [0]), Err(Fault { status: 1204, at: 5 }));
     first.settle(&cut_slice(&text, u64::MAX, 1).unwrap()).unwrap();

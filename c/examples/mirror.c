@@ -58,8 +58,10 @@ static const size_t slice_room = 8 + 2 * GROUP_LEN;
 static void *work(void *arg) {
     worker *it = arg;
     uint8_t *slice = room(slice_room);
+    bw_slice served = {plain, {0}, 0, GROUP_LEN};
     uint64_t at = 0;
     size_t used = 0;
+    memcpy(served.root, it->root, sizeof served.root);
     for (uint32_t step = 0; step < it->groups; step++) {
         uint32_t group = (step + it->number * it->groups / THREADS) % it->groups;
         uint64_t left = 0, start = (uint64_t)group * GROUP_LEN;
@@ -68,12 +70,13 @@ static void *work(void *arg) {
             const copy *from = &it->copies[(it->number + k) % it->copy_count];
             uint64_t committed = 0, parents = 0;
             if (bw_cut_slice(from->text, from->len, start, GROUP_LEN, slice, slice_room, &used) != BW_OK) continue;
-            if (bw_seat_commit_all(&it->seat, start, GROUP_LEN, slice, used, &committed, &parents, &at) == BW_OK) left = 0;
+            if (bw_seat_commit(&it->seat, start, GROUP_LEN, slice, used, &committed, &parents, &at) == BW_OK) left = 0;
         }
         must("give", bw_seat_give(&it->seat, group, left, &left));
         bw_node lacking;
-        if (bw_seat_serve_slice(&it->seat, start, GROUP_LEN, slice, slice_room, &used, &lacking) == BW_OK) {
-            must("served slice", bw_check_slice(&plain, it->root, start, GROUP_LEN, slice, used, &at));
+        served.start = start;
+        if (bw_seat_slice(&it->seat, start, GROUP_LEN, slice, slice_room, &used, &lacking) == BW_OK) {
+            must("served slice", bw_check(&served, slice, used, &at));
             it->served++;
         }
     }
@@ -113,7 +116,7 @@ int main(int count, char **words) {
     }
 
     bw_seat seat = BW_EMPTY;
-    must("store", bw_store_new(&plain, root, chunks < 65536 ? (uint32_t)chunks : 65536, &seat));
+    must("store", bw_seat_new(&plain, root, 0, chunks < 65536 ? (uint32_t)chunks : 65536, &seat));
     uint64_t len = settle(&seat, copies, copy_count);
     worker workers[THREADS];
     pthread_t threads[THREADS];
@@ -127,14 +130,14 @@ int main(int count, char **words) {
     for (int k = 0; k < THREADS; k++) {
         pthread_join(threads[k], NULL);
         served += workers[k].served;
-        bw_seat_free(&workers[k].seat);
+        bw_free(&workers[k].seat);
     }
     uint8_t *blob = room((size_t)len);
     size_t used = 0;
     must("blob", bw_seat_finish(&seat, blob, (size_t)len, &used));
     fwrite(blob, 1, used, stdout);
     fprintf(stderr, "%zu bytes; %u slices served on the way\n", used, served);
-    bw_seat_free(&seat);
+    bw_free(&seat);
     for (uint32_t k = 0; k < copy_count; k++) free(copies[k].text);
     free(copies);
     free(blob);

@@ -108,7 +108,7 @@ static void fill(worker *workers, uint64_t first_chunk, uint32_t chunks) {
     for (uint32_t k = 0; k < THREADS; k++) {
         workers[k].first_chunk = first_chunk;
         workers[k].groups = (chunks + BW_GROUP_CHUNKS - 1) / BW_GROUP_CHUNKS;
-        if (k == 0) must("window", bw_store_part(&plain, workers[0].of->root, first_chunk, chunks, &workers[0].seat));
+        if (k == 0) must("window", bw_seat_new(&plain, workers[0].of->root, first_chunk, chunks, &workers[0].seat));
         else must("seat", bw_seat_split(&workers[0].seat, &workers[k].seat));
     }
     for (int k = 0; k < THREADS; k++)
@@ -134,13 +134,15 @@ static void put(bw_seat *seat, uint64_t len, bw_hasher *hasher) {
 /* The length that the last chunk certifies, of the first copy that has it. */
 static uint64_t certified(const task *of) {
     static slice_room slice;
+    bw_slice tail = {plain, {0}, UINT64_MAX, 1};
+    memcpy(tail.root, of->root, sizeof tail.root);
     for (uint32_t k = 0; k < of->copy_count; k++) {
         uint64_t claimed = 0, total = 0, at = 0;
         size_t used = 0;
         if (read_slice(of->copies[k], 0, 0, 1, slice, 8) != 8) continue; /* the length stands before all else */
         for (int i = 0; i < 8; i++) claimed |= (uint64_t)slice[i] << 8 * i;
         size_t len = read_slice(of->copies[k], claimed, UINT64_MAX, 1, slice, sizeof slice);
-        if (bw_decode(&plain, of->root, UINT64_MAX, 1, slice, len, NULL, 0, &used, &total, &at) == BW_OK && total != UINT64_MAX) return total;
+        if (bw_decode(&tail, slice, len, NULL, 0, &used, &total, &at) == BW_OK && total != UINT64_MAX) return total;
     }
     stop("length", "no copy has a true last chunk");
     return 0;
@@ -173,11 +175,11 @@ int main(int count, char **words) {
         fill(workers, at / BW_CHUNK_LEN, (uint32_t)((len + BW_CHUNK_LEN - 1) / BW_CHUNK_LEN));
         put(&workers[0].seat, len, &hasher);
     }
-    bw_seat_free(&workers[0].seat);
-    must("hash", bw_hasher_finish(&hasher, hash));
+    bw_free(&workers[0].seat);
+    must("hash", bw_hasher_finish(&hasher, 0, hash, BW_HASH_LEN));
     if (fflush(stdout)) stop("standard output", "can't be written");
     if (memcmp(hash, of.root, sizeof hash) != 0) stop("blob", bw_strerror(BW_NOT_THE_ROOT));
-    bw_hasher_free(&hasher);
+    bw_free(&hasher);
     free(copies);
     return 0;
 }

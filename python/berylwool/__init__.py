@@ -12,10 +12,12 @@ from ._c import CHUNK_LEN, GROUP_CHUNKS, HASH_LEN
 from .encodings import (
     Committed,
     Decoded,
+    Decoder,
     Encoded,
     Outline,
     cut_slice,
     decode,
+    decode_aiter,
     decode_iter,
     decode_slice,
     encode,
@@ -36,10 +38,10 @@ from .hashing import Blake3, blake3, hash_file
 from .store import Report, Seat, Store
 
 __all__ = [
-    "CHUNK_LEN", "GROUP_CHUNKS", "HASH_LEN", "BerylwoolError", "Blake3", "Committed", "Decoded", "Encoded",
+    "CHUNK_LEN", "GROUP_CHUNKS", "HASH_LEN", "BerylwoolError", "Blake3", "Committed", "Decoded", "Decoder", "Encoded",
     "NoMemoryError", "Node", "NodeKind", "NotHeldError", "Outline", "Report", "Seat", "Status", "Store", "UsageError",
-    "VerificationError", "blake3", "cut_slice", "decode", "decode_iter", "decode_slice", "encode", "hash_file",
-    "outboard", "slice",
+    "VerificationError", "blake3", "cut_slice", "decode", "decode_aiter", "decode_iter", "decode_slice", "encode",
+    "hash_file", "outboard", "slice",
 ]  # fmt: skip
 
 __version__ = "{}.{}.{}".format(*(_c.library.bw_version() // it % 100 for it in (10000, 100, 1)))

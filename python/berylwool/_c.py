@@ -7,7 +7,7 @@ import operator
 import os
 import threading
 import weakref
-from typing import TYPE_CHECKING, Any, Callable, Dict, Iterator, Optional, SupportsIndex, Tuple, Type, TypeVar
+from typing import TYPE_CHECKING, Any, Callable, Dict, Iterator, NoReturn, Optional, SupportsIndex, Tuple, Type, TypeVar
 
 from .errors import BerylwoolError, Node, NodeKind, NoMemoryError, NotHeldError, Status, UsageError, VerificationError
 
@@ -30,6 +30,16 @@ class Mode(ctypes.Structure):
     _fields_ = [("kind", u32), ("key", ctypes.c_uint8 * HASH_LEN)]
 
 
+class Slice(ctypes.Structure):
+    """Which slice of which blob."""
+
+    _fields_ = [("mode", Mode), ("root", ctypes.c_uint8 * HASH_LEN), ("start", u64), ("len", u64)]
+
+
+class Chunks(ctypes.Structure):
+    _fields_ = [("first", u64), ("count", u64)]
+
+
 class NodeStruct(ctypes.Structure):
     _fields_ = [("kind", u32), ("number", u64)]
 
@@ -46,47 +56,45 @@ class HandleStruct(ctypes.Structure):
     _fields_ = [("at", address)]
 
 
-_POINTED: Tuple[Any, ...] = (Mode, NodeStruct, Placed, ReportStruct, HandleStruct, size, u64)
-_mode, _node, _placed, _report, _handle, _size, _u64 = (ctypes.POINTER(it) for it in _POINTED)
+_POINTED: Tuple[Any, ...] = (Mode, Slice, Chunks, NodeStruct, Placed, ReportStruct, HandleStruct, size, u64)
+_mode, _slice, _chunks, _node, _placed, _report, _handle, _size, _u64 = (ctypes.POINTER(it) for it in _POINTED)
 _bytes, _hash = (address, size), address
 
 # The parameters of each function that returns a status.
 STATUS_FUNCTIONS: Dict[str, Tuple[Any, ...]] = {
     "bw_mode_derive": (*_bytes, _mode),
-    "bw_xof": (_mode, *_bytes, u64, *_bytes),
+    "bw_hash": (_mode, *_bytes, u64, *_bytes),
     "bw_hasher_new": (_mode, _handle),
     "bw_hasher_update": (_handle, *_bytes),
-    "bw_hasher_xof": (_handle, u64, *_bytes),
+    "bw_hasher_finish": (_handle, u64, *_bytes),
     "bw_encode": (_mode, *_bytes, *_bytes, _size, _hash),
     "bw_outboard": (_mode, *_bytes, *_bytes, _size, _hash),
-    "bw_slice": (_mode, *_bytes, u64, u64, *_bytes, _size, _hash),
     "bw_cut_slice": (*_bytes, u64, u64, *_bytes, _size),
     "bw_node_at": (u64, u64, u64, u64, _placed),
-    "bw_check_slice": (_mode, _hash, u64, u64, *_bytes, _u64),
-    "bw_decode": (_mode, _hash, u64, u64, *_bytes, *_bytes, _size, _u64, _u64),
-    "bw_feed_combined": (_mode, _hash, _handle),
-    "bw_feed_take_many": (_handle, *_bytes, *_bytes, _size, _size, _u64),
+    "bw_check": (_slice, *_bytes, _u64),
+    "bw_decode": (_slice, *_bytes, *_bytes, _size, _u64, _u64),
+    "bw_feed_new": (_slice, _handle),
+    "bw_feed_take": (_handle, *_bytes, *_bytes, _size, _size, _u64),
     "bw_feed_finish": (_handle, *_bytes, _u64),
     "bw_outline_new": (_mode, _hash, *_bytes, _handle, _u64),
     "bw_outline_share": (_handle, _handle),
     "bw_outline_length": (_handle, _u64),
-    "bw_outline_check": (_handle, u64, u64, *_bytes, _u64),
-    "bw_outline_slice": (_handle, u64, u64, *_bytes, *_bytes, _size, _u64),
-    "bw_outline_commit": (_handle, _handle, u64, u64, *_bytes, _u64, _u64, _u64),
-    "bw_store_part": (_mode, _hash, u64, u32, _handle),
+    "bw_outline_check": (_handle, _chunks, *_bytes, _u64),
+    "bw_outline_slice": (_handle, _chunks, *_bytes, *_bytes, _size, _u64),
+    "bw_outline_commit": (_handle, _handle, _chunks, *_bytes, _u64, _u64, _u64),
+    "bw_seat_new": (_mode, _hash, u64, u32, _handle),
     "bw_seat_split": (_handle, _handle),
     "bw_seat_take": (_handle, u32, u64, _u64),
     "bw_seat_give": (_handle, u32, u64, _u64),
     "bw_seat_held": (_handle, u32, _u64),
-    "bw_seat_commit": (_handle, u32, u64, u64, *_bytes, _u64, _u64),
-    "bw_seat_commit_all": (_handle, u64, u64, *_bytes, _u64, _u64, _u64),
+    "bw_seat_commit": (_handle, u64, u64, *_bytes, _u64, _u64, _u64),
     "bw_seat_commit_chunks": (_handle, u64, u64, *_bytes, _u64, _u64),
     "bw_seat_settle": (_handle, *_bytes, _u64),
     "bw_seat_length": (_handle, _u64),
     "bw_seat_read": (_handle, u64, *_bytes, _u64),
-    "bw_seat_serve_slice": (_handle, u64, u64, *_bytes, _size, _node),
+    "bw_seat_slice": (_handle, u64, u64, *_bytes, _size, _node),
     "bw_seat_finish": (_handle, *_bytes, _size),
-    "bw_gather": (_handle, u32, u32, *_bytes, _report),
+    "bw_seat_gather": (_handle, u32, u32, *_bytes, _report),
     "bw_seat_salvage": (_handle, *_bytes, _report),
 }
 # The result and the parameters of each function.
@@ -185,6 +193,10 @@ def mode(key: Key, context: Context) -> Mode:
     return made
 
 
+def slice_of(root: Buffer, start: int, length: int, key: Key, context: Context) -> Slice:
+    return Slice(mode(key, context), (ctypes.c_uint8 * HASH_LEN)(*hash_of(root)), *range_of(start, length))
+
+
 _KINDS = (VerificationError, NotHeldError, NoMemoryError, UsageError)
 _PLACED = (Status.SHORT, Status.MISMATCH, Status.TRAILING, Status.MISSING)
 _NAMED = (Status.SHORT, Status.MISMATCH, Status.LACKING)
@@ -250,6 +262,10 @@ class Handle:
             if not self._handle.at:
                 raise ValueError(f"this {type(self).__name__} is closed")
             yield self._handle
+
+    def __reduce_ex__(self, protocol: SupportsIndex) -> NoReturn:
+        """A copy would be the same object, so there is none."""
+        raise TypeError(f"a {type(self).__name__} can't be copied or pickled")
 
     def close(self) -> None:
         """Frees what the library owns. A closed object may be closed again."""

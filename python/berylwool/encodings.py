@@ -5,7 +5,8 @@ above them. A `length` of 0 counts as 1, and a `start` at or past the end select
 """
 from __future__ import annotations
 
-from typing import TYPE_CHECKING, Any, Iterable, Iterator, NamedTuple, Optional, Tuple
+import asyncio
+from typing import TYPE_CHECKING, Any, AsyncIterable, AsyncIterator, Iterable, Iterator, NamedTuple, Optional, Tuple
 
 from . import _c as c
 from .errors import Node, NodeKind, Status
@@ -36,10 +37,10 @@ class Committed(NamedTuple):
     parents: int
 
 
-def _encoded(name: str, length_of: str, data: Buffer, key: Key, context: Context, *range_: int) -> Encoded:
+def _encoded(name: str, length_of: str, data: Buffer, key: Key, context: Context) -> Encoded:
     with c.viewed(data) as text:
-        out, root = c.unfilled(getattr(c.library, length_of)(text[1], *range_)), c.unfilled(c.HASH_LEN)
-        c.must(getattr(c.library, name)(c.mode(key, context), *text, *range_, out, len(out), c.size(), root))
+        out, root = c.unfilled(getattr(c.library, length_of)(text[1])), c.unfilled(c.HASH_LEN)
+        c.must(getattr(c.library, name)(c.mode(key, context), *text, out, len(out), c.size(), root))
     return Encoded(root, out)
 
 
@@ -53,11 +54,6 @@ def outboard(data: Buffer, *, key: Key = None, context: Context = None) -> Encod
     return _encoded("bw_outboard", "bw_outboard_len", data, key, context)
 
 
-def slice(data: Buffer, start: int, length: int, *, key: Key = None, context: Context = None) -> Encoded:
-    """The slice (start, length) of a blob."""
-    return _encoded("bw_slice", "bw_slice_len", data, key, context, *c.range_of(start, length))
-
-
 def cut_slice(encoding: Buffer, start: int, length: int) -> bytes:
     """The slice (start, length) out of a combined encoding. It isn't verified, and what is missing is left out."""
     range_, used = c.range_of(start, length), c.size()
@@ -67,6 +63,12 @@ def cut_slice(encoding: Buffer, start: int, length: int) -> bytes:
     return out[: used.value]
 
 
+def slice(data: Buffer, start: int, length: int, *, key: Key = None, context: Context = None) -> Encoded:
+    """The slice (start, length) of a blob. It takes memory for the whole encoding."""
+    root, encoding = encode(data, key=key, context=context)
+    return Encoded(root, cut_slice(encoding, start, length))
+
+
 def decode_slice(
     root: Buffer, encoding: Buffer, start: int, length: int, *, key: Key = None, context: Context = None
 ) -> Decoded:
@@ -74,13 +76,13 @@ def decode_slice(
 
     Raises VerificationError, with the offset in `encoding`.
     """
-    range_, used, total, at = c.range_of(start, length), c.size(), c.u64(), c.u64()
+    slice_, used, total, at = c.slice_of(root, start, length, key, context), c.size(), c.u64(), c.u64()
     with c.viewed(encoding) as text:
-        asked, node_at = (c.mode(key, context), c.hash_of(root), *range_, *text), c.nodes(c.claim_of(text), *range_)
+        asked, node_at = (slice_, *text), c.nodes(c.claim_of(text), slice_.start, slice_.len)
         out = b""
         status = c.library.bw_decode(*asked, out, 0, used, total, at)
         if status == Status.ROOM and used.value > text[1]:  # it claims more bytes than it can have
-            status = c.library.bw_check_slice(*asked, at)
+            status = c.library.bw_check(*asked, at)
         elif status == Status.ROOM:
             out = c.unfilled(used.value)
             status = c.library.bw_decode(*asked, out, len(out), used, total, at)
@@ -111,33 +113,71 @@ def decode(
     return decode_slice(root, text, *range_, key=key, context=context).data
 
 
-def decode_iter(root: Buffer, parts: Iterable[Buffer], *, key: Key = None, context: Context = None) -> Iterator[bytes]:
-    """Verifies a combined encoding while it arrives, in little memory, and yields the blob's bytes.
+class Decoder(c.Handle):
+    """Verifies a combined encoding, or the slice (start, length), while it arrives, in little memory.
 
-    What it yields is the blob's beginning, even if it raises VerificationError in the end. Parts of 256 KiB take less
-    time than small ones.
+    Of a slice it returns the bytes of all its chunks. What `update` has returned is verified, even if a later call
+    raises VerificationError, which closes it. Parts of 256 KiB take less time than small ones.
     """
-    feed, at, rest, claim = c.Handle(), c.u64(), b"", b""
-    c.must(c.library.bw_feed_combined(c.mode(key, context), c.hash_of(root), feed._handle))
 
-    def node_at(offset: int) -> Optional[Node]:
-        return c.nodes(int.from_bytes(claim, "little"), 0, c.ALL)(offset)
+    def __init__(
+        self, root: Buffer, start: int = 0, length: int = c.ALL, *, key: Key = None, context: Context = None
+    ) -> None:
+        super().__init__()
+        self._slice, self._claim, self._rest = c.slice_of(root, start, length, key, context), b"", b""
+        c.must(c.library.bw_feed_new(self._slice, self._handle))
 
-    with feed:
+    def _node_at(self, offset: int) -> Optional[Node]:
+        return c.nodes(int.from_bytes(self._claim, "little"), self._slice.start, self._slice.len)(offset)
+
+    def update(self, part: Buffer) -> bytes:
+        """Takes the encoding's next bytes, and returns the blob's bytes that are verified now."""
+        at, taken, filled = c.u64(), c.size(), c.size()
+        with self._open() as handle:
+            if len(self._rest) > c.CHUNK_LEN:  # more than a node has: it follows the last one
+                self._finished(handle)
+            text = self._rest + memoryview(part).tobytes()
+            self._claim = self._claim if len(self._claim) == 8 else text[:8]
+            out = c.unfilled(len(text))
+            status = c.library.bw_feed_take(handle, text, len(text), out, len(out), taken, filled, at)
+            if status:
+                self._free()
+            c.must(status, at, self._node_at)
+            self._rest = text[taken.value :]
+        return out[: filled.value]
+
+    def finish(self) -> None:
+        """Raises VerificationError unless all that came is an accepted encoding. More may follow."""
+        with self._open() as handle:
+            self._finished(handle)
+
+    def _finished(self, handle: c.HandleStruct) -> None:
+        at = c.u64()
+        c.must(c.library.bw_feed_finish(handle, self._rest, len(self._rest), at), at, self._node_at)
+
+
+def decode_iter(root: Buffer, parts: Iterable[Buffer], *, key: Key = None, context: Context = None) -> Iterator[bytes]:
+    """Verifies a combined encoding while it arrives, with a `Decoder`, and yields the blob's bytes.
+
+    What it yields is the blob's beginning, even if it raises VerificationError in the end.
+    """
+    with Decoder(root, key=key, context=context) as decoder:
         for part in parts:
-            text = rest + memoryview(part).tobytes()
-            claim = claim if len(claim) == 8 else text[:8]
-            out, taken, filled = c.unfilled(len(text)), c.size(), c.size()
-            with feed._open() as handle:
-                status = c.library.bw_feed_take_many(handle, text, len(text), out, len(out), taken, filled, at)
-                c.must(status, at, node_at)
-            rest = text[taken.value :]
-            if filled.value:
-                yield out[: filled.value]
-            if len(rest) > c.CHUNK_LEN:  # more than a node has: it follows the last one
-                break
-        with feed._open() as handle:
-            c.must(c.library.bw_feed_finish(handle, rest, len(rest), at), at, node_at)
+            if data := decoder.update(part):
+                yield data
+        decoder.finish()
+
+
+async def decode_aiter(
+    root: Buffer, parts: AsyncIterable[Buffer], *, key: Key = None, context: Context = None
+) -> AsyncIterator[bytes]:
+    """Does what `decode_iter` does with parts that are awaited. The event loop runs on while a part is verified."""
+    run = asyncio.get_running_loop().run_in_executor
+    with Decoder(root, key=key, context=context) as decoder:
+        async for part in parts:
+            if data := await run(None, decoder.update, part):
+                yield data
+        decoder.finish()
 
 
 class Outline(c.Handle):
@@ -181,7 +221,7 @@ class Outline(c.Handle):
         return out[: used.value]
 
     def commit(self, seat: Seat, first: int, chunks: Buffer) -> Committed:
-        """Verifies chunks, and stores them and the parents above them, as `Seat.commit_all` does."""
+        """Verifies chunks, and stores them and the parents above them, as `Seat.commit` does."""
         stored = c.u64(), c.u64()
         with seat._open() as handle:
             self._verify("bw_outline_commit", first, None, chunks, *stored, seat=(handle,))
@@ -209,7 +249,7 @@ class Outline(c.Handle):
 
         with self._open() as handle, c.viewed(chunks) as text:
             count = _chunks_of(text[1]) if count is None else count
-            c.must(getattr(c.library, name)(handle, *seat, first, count, *text, *after, at), at, node_at)
+            c.must(getattr(c.library, name)(handle, *seat, c.Chunks(first, count), *text, *after, at), at, node_at)
 
 
 def _chunks_of(length: int) -> int:

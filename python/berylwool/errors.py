@@ -37,7 +37,6 @@ class Status(enum.IntEnum):
     DIFFERS = 1206
     NOT_UTF8 = 1207
     PAST_OUTPUT = 1208
-    NO_OUTBOARD = 1209
     NO_CHUNKS = 1210
     OTHER_STORE = 1211
     OTHER_SIZE = 1212

@@ -15,7 +15,8 @@ PIECE_LEN = 1 << 20
 
 
 class Blake3(c.Handle):
-    """A hash of bytes that come in parts, with the methods of hashlib's objects, but for `copy`.
+    """A hash of bytes that come in parts, with the methods of hashlib's objects, except `copy`: the C library
+    has no call that copies a hasher.
 
     With `key`, of 32 bytes, it is a keyed hash. With `context` it derives a key: the context names the purpose, and
     the bytes are the key's material.
@@ -39,7 +40,7 @@ class Blake3(c.Handle):
         """The hash of the bytes so far: `length` bytes of extended output from its byte `seek` on. More may follow."""
         out, seek = c.unfilled(length), c.number(seek, "seek")
         with self._open() as handle:
-            c.must(c.library.bw_hasher_xof(handle, seek, out, len(out)))
+            c.must(c.library.bw_hasher_finish(handle, seek, out, len(out)))
         return out
 
     def hexdigest(self, length: int = c.HASH_LEN, seek: int = 0) -> str:
@@ -53,7 +54,7 @@ def blake3(
     """The hash of bytes, as `Blake3(data, ..).digest(length, seek)` returns it."""
     out, seek = c.unfilled(length), c.number(seek, "seek")
     with c.viewed(data) as text:
-        c.must(c.library.bw_xof(c.mode(key, context), *text, seek, out, len(out)))
+        c.must(c.library.bw_hash(c.mode(key, context), *text, seek, out, len(out)))
     return out
 
 

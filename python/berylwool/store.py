@@ -86,23 +86,14 @@ class Seat(c.Handle):
             c.must(status, at, c.nodes(c.claim_of(text), *range_))
         return [it.value for it in found]
 
-    def commit(self, group: int, start: int, length: int, encoding: Buffer) -> int:
-        """Verifies a slice, stores those of its chunks that the seat claims in the group, and ends these claims.
-
-        Returns their mask. No parents are stored, and without them no slice is served. Raises VerificationError.
-        """
-        group, range_ = c.number(group, "group", _MOST), c.range_of(start, length)
-        (mask,) = self._stored("bw_seat_commit", range_, encoding, group, *range_, results=1)
-        return int(mask)
-
-    def commit_all(self, start: int, length: int, encoding: Buffer) -> Committed:
+    def commit(self, start: int, length: int, encoding: Buffer) -> Committed:
         """Verifies a slice, and stores all that it has, so that the store can serve it. Nothing needs to be claimed.
 
         Chunks that another seat claims are left out. Raises VerificationError, and BerylwoolError with
         Status.OTHER_LENGTH if the length isn't the recorded one: call `settle` first.
         """
         range_ = c.range_of(start, length)
-        return Committed(*self._stored("bw_seat_commit_all", range_, encoding, *range_, results=2))
+        return Committed(*self._stored("bw_seat_commit", range_, encoding, *range_, results=2))
 
     def commit_chunks(self, start: int, length: int, encoding: Buffer) -> int:
         """Verifies a slice, and stores its chunks alone. No length needs to be recorded. Returns their number.
@@ -137,7 +128,7 @@ class Seat(c.Handle):
         one of them goes through each encoding once more, alone. If `Report.memory` isn't 0, call it again.
         """
         workers = c.number(workers, "workers", _MOST)
-        return self._gathered("bw_gather", encoding, c.number(number, "number", workers - 1), workers)
+        return self._gathered("bw_seat_gather", encoding, c.number(number, "number", workers - 1), workers)
 
     def salvage(self, encoding: Buffer) -> Report:
         """Gathers alone, chunk by chunk, for groups that are damaged in every encoding."""
@@ -165,7 +156,7 @@ class Seat(c.Handle):
         with self._open() as handle:
             settled = c.library.bw_seat_length(handle, total) == Status.OK
             out = c.unfilled(c.library.bw_slice_len(total.value, *range_) if settled else 0)
-            status = c.library.bw_seat_serve_slice(handle, *range_, out, len(out), used, lacking)
+            status = c.library.bw_seat_slice(handle, *range_, out, len(out), used, lacking)
             c.must(status, None, lambda _: Node(NodeKind(lacking.kind), lacking.number))
         return out
 
@@ -193,4 +184,4 @@ class Store(Seat):
         super().__init__()
         self._capacity, first = c.number(capacity, "capacity", _MOST), c.number(first_chunk, "first_chunk")
         mode, hash_ = c.mode(key, context), c.hash_of(root)
-        c.must(c.library.bw_store_part(mode, hash_, first, self._capacity, self._handle))
+        c.must(c.library.bw_seat_new(mode, hash_, first, self._capacity, self._handle))

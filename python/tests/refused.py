@@ -61,7 +61,7 @@ FREE = {
     "blake3": (lambda: berylwool.blake3(DATA), ROOT),
     "decode": (lambda: berylwool.decode(ROOT, COMBINED), DATA),
     "Outline.decode": (lambda: outline.decode(DATA, 5), DATA[5:]),
-    "Seat.commit_all": (lambda: store.commit_all(0, ALL, COMBINED), (0, 0)),
+    "Seat.commit": (lambda: store.commit(0, ALL, COMBINED), (0, 0)),
     "Seat.read": (lambda: store.read(0, len(DATA)), DATA),
     "Seat.finish": (lambda: store.finish(), DATA),
 }

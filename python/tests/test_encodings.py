@@ -1,10 +1,11 @@
+import asyncio
 import itertools
 import unittest
 
 from known import ALL, MODES, PLAIN, blob, by, changed, fault, told
 
 import berylwool
-from berylwool import Outline, Status, VerificationError
+from berylwool import Decoder, Outline, Status, VerificationError
 
 LENGTHS = (0, 1, 1023, 1024, 1025, 2048, 2049, 9000)
 RANGES = ((0, 0), (0, 1), (1000, 100), (1024, 1024), (3000, ALL), (8999, 1), (9000, 1), (ALL, 1), (0, ALL))
@@ -13,6 +14,19 @@ NODES = 5000  # the length of a blob of which each node is damaged
 
 def pieces(data, length):
     return (data[k : k + length] for k in range(0, len(data), length))
+
+
+def poured(decoder, parts):
+    with decoder:
+        data = b"".join(map(decoder.update, parts))
+        decoder.finish()
+    return data
+
+
+async def awaited(parts):
+    for part in parts:
+        await asyncio.sleep(0)
+        yield part
 
 
 class Encodings(unittest.TestCase):
@@ -62,7 +76,7 @@ class Encodings(unittest.TestCase):
 
     def test_faults_as_defined(self):
         for (kind, (words, mode)), (start, length) in itertools.product(MODES.items(), ((0, ALL), (2000, 1100), (ALL, 1))):
-            root, text = berylwool.slice(blob(NODES), start, length, **words)
+            root, text = mode.hash(blob(NODES)), by.slice_text(mode, blob(NODES), start, length)
             nodes = list(by.slice_nodes(NODES, start, length))
             texts = [changed(text, it.offset + it.size // 2) for it in nodes]
             texts += [text[: it.offset] for it in nodes] + [text[:-1], b"", text[:7], text + b"?"]
@@ -80,6 +94,7 @@ class Encodings(unittest.TestCase):
                         self.refused(wanted, berylwool.decode, root, false, **words)
                         parts = pieces(false, 3000)
                         self.refused(wanted, lambda: list(berylwool.decode_iter(root, parts, **words)))
+                    self.refused(wanted, poured, Decoder(root, start, length, **words), pieces(false, 700))
 
     def test_places_of_a_node(self):
         root, combined = berylwool.encode(blob(NODES))
@@ -101,6 +116,33 @@ class Encodings(unittest.TestCase):
             for part in berylwool.decode_iter(root, pieces(changed(combined, 60_000), 5000)):
                 got += part
         self.assertTrue(data.startswith(got) and len(got) > 40_000)
+
+    def test_decoder(self):
+        data = blob(NODES)
+        root, combined = berylwool.encode(data)
+        for start, length in RANGES:
+            part = by.slice_text(PLAIN, data, start, length)
+            first = min(start, NODES - 1) // 1024
+            after = (max(min(start + max(length, 1), NODES), 1024 * first + 1) - 1) // 1024 + 1
+            for size in (1, 72, 3000):
+                self.assertEqual(poured(Decoder(root, start, length), pieces(part, size)), data[1024 * first : 1024 * after])
+        # It can be asked before the end, and a fault closes it.
+        with Decoder(root) as decoder:
+            self.refused((Status.SHORT, 0, (2, 0)), decoder.finish)
+            self.assertEqual(decoder.update(combined[:-1]), data[:4096])
+            self.refused((Status.SHORT, len(combined) - 904, (1, 4)), decoder.finish)
+            self.refused((Status.MISMATCH, len(combined) - 904, (1, 4)), decoder.update, b"?")
+            self.assertRaisesRegex(ValueError, "closed", decoder.update, b"")
+
+    def test_awaited_stream(self):
+        async def collected(encoding):
+            return [part async for part in berylwool.decode_aiter(root, awaited(pieces(encoding, 5000)))]
+
+        data = blob(70_000)
+        root, combined = berylwool.encode(data)
+        self.assertEqual(b"".join(asyncio.run(collected(combined))), data)
+        bad = changed(combined, 60_000)
+        self.refused(fault(root, bad), lambda: asyncio.run(collected(bad)))
 
     def test_stream_without_an_end_is_refused(self):
         root, combined = berylwool.encode(blob(NODES))

@@ -61,7 +61,7 @@ class Stores(unittest.TestCase):
                         granted.append((group, mask))
                         for copy in copies:
                             try:
-                                seat.commit(group, *group_of(copy, group))
+                                seat.commit_chunks(*group_of(copy, group))
                             except VerificationError:
                                 continue
                         seat.give(group)
@@ -88,7 +88,7 @@ class Stores(unittest.TestCase):
             self.assertEqual(other.take(0, 0b11), 1)
             self.assertEqual(store.give(0, 0b11), 0b10)
             self.assertEqual(other.take(0, 0b1111), 0b10)
-            self.assertEqual(other.commit(0, 0, 4096, berylwool.cut_slice(COMBINED, 0, 4096)), 0b11)
+            self.assertEqual(other.commit_chunks(0, 4096, berylwool.cut_slice(COMBINED, 0, 4096)), 2)
             self.assertEqual((store.held(0), store.take(0, 0b11), other.give(0)), (0b11, 0, 0))
             # What a seat claims is given back when it is closed, or collected.
             other.close()
@@ -107,15 +107,15 @@ class Stores(unittest.TestCase):
             self.assertIsNone(store.length)
             self.status(Status.NO_LENGTH, store.serve, 0, 1, kind=NotHeldError)
             self.status(Status.UNFINISHED, store.finish, kind=NotHeldError)
-            self.status(Status.OTHER_LENGTH, store.commit_all, *group_of(COMBINED, 0))
+            self.status(Status.OTHER_LENGTH, store.commit, *group_of(COMBINED, 0))
             self.status(Status.MISMATCH, store.settle, berylwool.cut_slice(COMBINED, 0, 1), kind=VerificationError)
             store.settle(TAIL)
             self.assertEqual(store.length, len(DATA))
             error = self.status(Status.LACKING, store.serve, 0, 1, kind=NotHeldError)
             self.assertEqual(error.node, (NodeKind.PARENT, 128, None, None, None))
             self.assertEqual(error.at, None)
-            self.assertEqual(store.commit_all(*group_of(COMBINED, 1)), Committed(64, 65))
-            self.assertEqual(store.commit_all(*group_of(COMBINED, 1)), Committed(0, 0))
+            self.assertEqual(store.commit(*group_of(COMBINED, 1)), Committed(64, 65))
+            self.assertEqual(store.commit(*group_of(COMBINED, 1)), Committed(0, 0))
             for start, length in ((GROUP_LEN, 1), (GROUP_LEN + 5, 20_000), (GROUP_LEN, GROUP_LEN)):
                 self.assertEqual(store.serve(start, length), by.slice_text(PLAIN, DATA, start, length))
             error = self.status(Status.LACKING, store.serve, 0, GROUP_LEN, kind=NotHeldError)
@@ -135,9 +135,9 @@ class Stores(unittest.TestCase):
         with Store(ROOT, CHUNKS) as store:
             store.settle(TAIL)
             store.take(0)
-            for name, words in (("commit", (0,)), ("commit_all", ()), ("commit_chunks", ())):
-                with self.subTest(name):
-                    error = self.status(Status.MISMATCH, getattr(store, name), *words, start, length, text, kind=VerificationError)
+            for call in (store.commit, store.commit_chunks):
+                with self.subTest(call.__name__):
+                    error = self.status(Status.MISMATCH, call, start, length, text, kind=VerificationError)
                     self.assertEqual((error.node.kind, error.node.combined_at), (NodeKind.CHUNK, error.at))
                     self.assertTrue(error.at <= 10_000 < error.at + 1024)
             self.assertEqual(store.held(0), 0)

@@ -28,8 +28,8 @@ WRONG = (
     ((MemoryError, OverflowError), Blake3().digest, 2**63 - 1),
     (TypeError, berylwool.hash_file, 0),
     (TypeError, berylwool.encode, "text"),
-    (TypeError, berylwool.slice, DATA, 0.5, 1),
-    (ValueError, berylwool.slice, DATA, -1, 1),
+    (TypeError, berylwool.cut_slice, COMBINED, 0.5, 1),
+    (ValueError, berylwool.cut_slice, COMBINED, -1, 1),
     (ValueError, berylwool.cut_slice, COMBINED, 0, 2**64),
     (ValueError, berylwool.decode, ROOT[:31], COMBINED),
     (TypeError, berylwool.decode, ROOT.hex(), COMBINED),
@@ -49,8 +49,8 @@ WRONG = (
     (ValueError, STORE.take, 2**32),
     (ValueError, STORE.take, 0, 2**64),
     (ValueError, STORE.give, 0, -1),
-    (ValueError, STORE.commit, -1, 0, 1, COMBINED),
-    (ValueError, STORE.commit_all, 0, 2**64, COMBINED),
+    (ValueError, STORE.commit, -1, 1, COMBINED),
+    (ValueError, STORE.commit, 0, 2**64, COMBINED),
     (ValueError, STORE.gather, COMBINED, 1, 1),
     (ValueError, STORE.gather, COMBINED, 0, 0),
     (ValueError, STORE.read, -1, 1),
@@ -76,9 +76,9 @@ class Usage(unittest.TestCase):
         )  # fmt: skip
         calls = (
             berylwool.blake3, Blake3, berylwool.encode, berylwool.outboard,
-            lambda data, **mode: berylwool.slice(data, 0, 1, **mode),
             lambda data, **mode: berylwool.decode(ROOT, data, **mode),
             lambda data, **mode: list(berylwool.decode_iter(ROOT, [data], **mode)),
+            lambda data, **mode: berylwool.Decoder(ROOT, **mode),
             lambda data, **mode: Store(ROOT, 1, **mode), lambda data, **mode: Outline(ROOT, data, **mode),
         )  # fmt: skip
         for k, call in enumerate(calls):
@@ -98,8 +98,8 @@ class Usage(unittest.TestCase):
             ),
             Store(ROOT, 5): (
                 lambda it: it.length, lambda it: it.split(), lambda it: it.take(0), lambda it: it.give(0),
-                lambda it: it.held(0), lambda it: it.commit(0, 0, ALL, COMBINED), lambda it: it.settle(COMBINED),
-                lambda it: it.commit_all(0, ALL, COMBINED), lambda it: it.commit_chunks(0, ALL, COMBINED),
+                lambda it: it.held(0), lambda it: it.settle(COMBINED),
+                lambda it: it.commit(0, ALL, COMBINED), lambda it: it.commit_chunks(0, ALL, COMBINED),
                 lambda it: it.gather(COMBINED), lambda it: it.salvage(COMBINED), lambda it: it.read(0, 1),
                 lambda it: it.serve(0, 1), lambda it: it.finish(), lambda it: OUTLINE.commit(it, 0, DATA),
             ),
@@ -115,12 +115,10 @@ class Usage(unittest.TestCase):
             raise ZeroDivisionError
         self.assertRaisesRegex(ValueError, "this Store is closed", store.held, 0)
 
-    def test_copies_own_nothing(self):
-        self.assertRaises((TypeError, ValueError), pickle.dumps, STORE)
-        self.assertRaises((TypeError, ValueError), copy.deepcopy, STORE)
-        with Store(ROOT, 5) as store:
-            other = copy.copy(store)
-        self.assertRaisesRegex(ValueError, "closed", other.held, 0)
+    def test_nothing_is_copied(self):
+        for it in (STORE, OUTLINE, Blake3(), berylwool.Decoder(ROOT)):
+            for call in (copy.copy, copy.deepcopy, pickle.dumps):
+                self.assertRaisesRegex(TypeError, "can't be copied", call, it)
 
     def test_errors(self):
         with self.assertRaises(VerificationError) as caught:

@@ -11,8 +11,8 @@ from statuses import HEADER
 
 # A comment, a constant, a type, a function, or the list of statuses.
 PART = re.compile(
-    r"(?P<comment>/\*.*?\*/)|^(?P<constant>#define BW_(?!USE\b|NONNULL\b|AT_LEAST\b)\w+[^\n]*)|^(?P<enum>enum \{.*?^\};)|^(?P<type>(?:typedef )?(?:struct|enum)\b.*?^\}[^;]*;|^typedef [^{;]*;)"
-    r"|^(?P<function>(?:BW_USE )?(?:void |bw_status |uint32_t |uint64_t |const char \*)bw_\w+\(.*?\);|^static inline void bw_\w+\([^\n]*\) \{[^\n]*\}$)",
+    r"(?P<comment>/\*.*?\*/)|^(?P<constant>#define BW_(?!USE\b|NONNULL\b|AT_LEAST\b)\w+(?:[^\n]*\\\n)*[^\n]*)|^(?P<enum>enum \{.*?^\};)|^(?P<type>(?:typedef )?(?:struct|enum)\b.*?^\}[^;]*;|^typedef [^{;]*;)"
+    r"|^(?P<function>(?:BW_USE )?(?:void |bw_status |uint32_t |uint64_t |const char \*)bw_\w+\(.*?\);)",
     re.S | re.M,
 )
 NAMED = re.compile(r"\b(bw_\w+)\(|^#define (\w+)|\} ?(\w+);|^typedef [^{]*?(\w+);", re.M)
@@ -46,7 +46,6 @@ def said(comment):
 
 def declared(text):
     """Returns a declaration as a caller needs it."""
-    text = re.sub(r"^static inline (.*\)) \{.*\}$", r"\1;", text)
     text = re.sub(r"\s*BW_NONNULL\([^)]*\)", "", re.sub(r"BW_AT_LEAST\((\w+)\)", r"\1", text))
     mark = "BW_USE "
     return text.removeprefix(mark).replace("\n" + " " * len(mark), "\n") if text.startswith(mark) else text
@@ -97,7 +96,7 @@ def read():
     """Returns the blocks of the whole reference, and the names of the functions."""
     head, rest = re.split(r"#ifndef BERYLWOOL_H\n", text_of(HEADER))
     blocks, functions = blocks_of(rest)
-    wanted = set(re.findall(r"^(?:BW_USE |static inline )?(?:const )?\w+ \*?(bw_\w+)\(", rest, re.M))
+    wanted = set(re.findall(r"^(?:BW_USE )?(?:const )?\w+ \*?(bw_\w+)\(", rest, re.M))
     if set(functions) != wanted or not functions:
         stop(f"{HEADER}: not read: {', '.join(sorted(wanted ^ set(functions)))}")
     return said(head.strip()), blocks, functions
@@ -113,5 +112,6 @@ def files():
     about, blocks, functions = read()
     summary = re.split(r"[.:](?: |$)", about[0].text)[0]
     top = [Head(2, "Name"), Para(f"berylwool - {summary[:1].lower()}{summary[1:]}"), Head(2, "Synopsis"), Code(["#include <berylwool.h>"]), Para("Link with -lberylwool.")]
-    text = roff.page("berylwool", 3, manual.date(), f"berylwool {manual.version()}", [*top, Head(2, "Description"), *about, Head(2, "Constants"), *blocks])
+    version = re.search(r"^Version: (.+)$", text_of("c/berylwool.pc.in"), re.M)[1]
+    text = roff.page("berylwool", 3, manual.date(), f"berylwool {version}", [*top, Head(2, "Description"), *about, Head(2, "Constants"), *blocks])
     return {"man/man3/berylwool.3": text} | {f"man/man3/{it}.3": ".so man3/berylwool.3\n" for it in functions}

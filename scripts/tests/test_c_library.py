@@ -1,6 +1,6 @@
 """Holds c/berylwool.h to the sources, and runs the C tests, the guide's code and the examples on the C library.
 
-Needs cc. With c++, clang, the sanitizers of cc, valgrind, pkg-config, rustc and go it runs more, and it names what isn't installed. With BERYLWOOL_CI in the
+Needs cc. With c++, clang, the sanitizers of cc, valgrind, pkg-config, rustc, cargo and go it runs more, and it names what isn't installed. With BERYLWOOL_CI in the
 environment only pkg-config and go may be missing.
 """
 import os
@@ -73,6 +73,16 @@ def build(folder, name):
         run(compiler, *flags(), *more, f"c/{it}.c", ARCHIVE, "-o", f"{folder}/{os.path.basename(it)}")
 
 
+def released(folder):
+    """Lays a release of the library, and moves it."""
+    made, release, moved = (pathlib.Path(folder, it) for it in ("made", "release", "moved"))
+    made.mkdir()
+    for file in (ARCHIVE, LIBRARY):
+        shutil.copy(file, made)
+    dist.lay_dist(["library"], [("x86-64", str(made)), ("x86-64-v3", str(made))], release)
+    release.rename(moved)
+
+
 def sanitizes(folder, *words):
     """Builds and runs a program that does nothing, with these words of the compiler."""
     run(*words, "-x", "c", "-", "-o", f"{folder}/program", input="int main(void) { return 0; }\n")
@@ -105,13 +115,14 @@ class Header(Case):
         run("cc", *flags(), "-fsyntax-only", tie)
 
     def test_kinds(self):
-        """A compiler takes each kind of handle where it is asked for, and no other there."""
-        kinds = ("hasher", "feed", "outline", "seat", "plan")
-        for wanted in kinds:
-            for given in kinds:
-                text = f"#include <berylwool.h>\nvoid test(void) {{ bw_{given} it = BW_EMPTY; bw_{wanted}_free(&it); }}\n"
-                ran = subprocess.run(["cc", *flags(), "-fsyntax-only", "-x", "c", "-"], input=text, text=True, capture_output=True, cwd=ROOT)
-                self.holds((ran.returncode == 0) == (wanted == given), f"a compiler takes a bw_{given} for a bw_{wanted}, or not its own")
+        """A compiler takes each kind of handle where it is asked for and where any is freed, and nothing else there."""
+        kinds = {"hasher": "update(at, 0, 0)", "feed": "finish(at, 0, 0, 0)", "outline": "length(at, 0)", "seat": "length(at, 0)", "plan": "limit(at, 0)"}
+        calls = {f"bw_{kind}": f"bw_{kind}_{call} + 0" for kind, call in kinds.items()}
+        for given in [*calls, "bw_mode", "bw_seat *"]:
+            for wanted, call in [*calls.items(), (given if given in calls else "", "bw_free(at)")]:
+                text = f"#include <berylwool.h>\nvoid test({given} *at) {{ (void)({call}); }}\n"
+                ran = subprocess.run(["cc", *flags(), "-Wno-nonnull", "-fsyntax-only", "-x", "c", "-"], input=text, text=True, capture_output=True, cwd=ROOT)
+                self.holds((ran.returncode == 0) == (wanted == given), f"a compiler takes a {given} in {call}, or not its own kind")
 
     def test_cpp(self):
         need("c++")
@@ -167,26 +178,40 @@ class Examples(Case):
     def test_rust(self):
         need("rustc")
         program = f"{self.folder()}/example"
-        run("rustc", "--edition", "2021", "-O", "-D", "warnings", "-L", os.path.dirname(ARCHIVE), "c/examples/berylwool.rs", "-o", program)
+        run("rustc", "--edition", "2021", "-O", "-D", "warnings", "-L", os.path.dirname(ARCHIVE), "-l", "static=berylwool", "c/examples/berylwool.rs", "-o", program)
         run(program)
+
+
+@unittest.skipUnless(shutil.which("pkg-config"), "pkg-config is not installed, so that nobody has used what make dist makes")
+class Installed(Examples):
+    """The examples are made with what pkg-config says of a release that was moved, and run over its shared library."""
+
+    def setUp(self):
+        moved = f"{once(released)}/moved"
+        self.knows = {"PKG_CONFIG_PATH": f"{moved}/lib/pkgconfig", "LD_LIBRARY_PATH": f"{moved}/lib"}
+
+    def test_c(self):
+        program = f"{self.folder()}/mirror"
+        told = run("pkg-config", "--cflags", "--libs", "berylwool", env=os.environ | self.knows).split()
+        run("cc", "-std=c11", "-Wall", "-Wextra", "-Werror", "-pthread", "c/examples/mirror.c", *told, "-o", program)
+        self.mirrors(program, **self.knows)
+
+    def test_python(self):
+        module = {name: it for name, it in MODULE.items() if name != "BERYLWOOL_LIBRARY"}
+        self.mirrors(*MIRROR, **self.knows, **module)
+
+    def copied(self, *names):
+        """Copies files of an example to a folder of the test's own: there Go doesn't take the flags that an earlier run got."""
+        folder = self.folder()
+        for name in names:
+            shutil.copy(f"{ROOT}/c/examples/{name}", folder)
+        return folder
+
+    def test_rust(self):
+        need("cargo")
+        folder = self.copied("Cargo.toml", "build.rs", "berylwool.rs")
+        run("cargo", "run", "-q", "--offline", "--manifest-path", f"{folder}/Cargo.toml", env=os.environ | self.knows)
 
     @unittest.skipUnless(shutil.which("go"), "go is not installed, so that c/examples/berylwool.go is text alone")
     def test_go(self):
-        run("go", "run", "c/examples/berylwool.go")
-
-    @unittest.skipUnless(shutil.which("pkg-config"), "pkg-config is not installed, so that nobody has used what make dist makes")
-    def test_installed(self):
-        """The C example is made with the folder of a release that was moved, by what pkg-config says of it; it and the Python example run over its shared library."""
-        folder = pathlib.Path(self.folder())
-        made, release, moved = (folder / it for it in ("made", "release", "moved"))
-        made.mkdir()
-        for file in (ARCHIVE, LIBRARY):
-            shutil.copy(file, made)
-        dist.lay_dist(["library"], [("x86-64", str(made)), ("x86-64-v3", str(made))], release)
-        release.rename(moved)
-        knows = {"PKG_CONFIG_PATH": f"{moved}/lib/pkgconfig", "LD_LIBRARY_PATH": f"{moved}/lib"}
-        told = run("pkg-config", "--cflags", "--libs", "berylwool", env=os.environ | knows).split()
-        run("cc", "-std=c11", "-Wall", "-Wextra", "-Werror", "-pthread", "c/examples/mirror.c", *told, "-o", f"{folder}/mirror")
-        self.mirrors(f"{folder}/mirror", **knows)
-        module = {name: it for name, it in MODULE.items() if name != "BERYLWOOL_LIBRARY"}
-        self.mirrors(*MIRROR, **knows, **module)
+        run("go", "run", f"{self.copied('berylwool.go')}/berylwool.go", env=os.environ | self.knows)

@@ -22,9 +22,9 @@ KEY = b"whats the Elvish word for friend"
 if not os.path.exists(LIBRARY):
     raise unittest.SkipTest(f"{LIBRARY} was not built")
 calls = c.library(LIBRARY)
-for call in (calls.bw_outboard, calls.bw_slice, calls.bw_slice_ranges, calls.bw_outboard_ranges, calls.bw_slice_nodes, calls.bw_node_at, calls.bw_check_combined, calls.bw_check_outboard):
+for call in (calls.bw_outboard, calls.bw_slice_ranges, calls.bw_outboard_ranges, calls.bw_slice_nodes, calls.bw_node_at):
     call.restype, call.argtypes = c.u32, None
-calls.bw_encode.argtypes = calls.bw_cut_slice.argtypes = calls.bw_check_slice.argtypes = None
+calls.bw_encode.argtypes = calls.bw_cut_slice.argtypes = None
 
 
 def derives(context):
@@ -74,74 +74,32 @@ def fault_of(mode, root, text, given):
         return int(str(fault).split()[0]), fault.at
 
 
-def fed(mode, hashed, start, count, text):
-    """The status and the place of a check of the text node by node, and the bytes of the chunks."""
-    feed, at, size, kind, taken, given = c.Handle(), c.u64(), c.size(), c.u32(7), 0, b""
-    assert calls.bw_feed_slice(mode, hashed, start, count, feed) == 0
-    while not calls.bw_feed_wants(feed, kind, size) and 0 < size.value <= len(text) - taken:
-        node = text[taken : taken + size.value]
-        assert (kind.value == 2) == (taken == 0) and kind.value < 3
-        status = calls.bw_feed_take(feed, node, len(node), at)
-        if status:
-            break
-        taken += len(node)
-        given += node if kind.value == 1 else b""
-    else:
-        assert (kind.value == 3) == (size.value == 0)
-        status = calls.bw_feed_finish(feed, text[taken:], len(text) - taken, at)
-    calls.bw_free(feed)
-    return status, at.value, given
-
-
-def poured(mode, hashed, start, count, text, rng):
+def poured(slice_, text, rng):
     """The status and the place of a check of the text in pieces of any size, and what it hands out."""
-    feed, at, done, given = c.Handle(), c.u64(), 0, b""
-    assert calls.bw_feed_slice(mode, hashed, start, count, feed) == 0
+    feed, at, done, more, given = c.Handle(), c.u64(), 0, 0, b""
+    assert calls.bw_feed_new(slice_, feed) == 0
     while True:
-        part = text[done : done + rng.choice((1, 8, 64, 1000, 1088, 5000, 20000))]
+        part = text[done : done + max(more, rng.choice((1, 8, 64, 1000, 1088, 5000, 20000)))]
         out, taken, filled = ctypes.create_string_buffer(b"\1" * (len(part) + 1), len(part) + 1), c.size(), c.size()
-        status = calls.bw_feed_take_many(feed, part, len(part), out, len(part), taken, filled, at)
+        status = calls.bw_feed_take(feed, part, len(part), out, len(part), taken, filled, at)
         assert out.raw[filled.value :] == bytes(len(part) - filled.value) + b"\1", "only what is verified is written"
         given += out.raw[: filled.value]
         if status:
             break
         done += taken.value
-        if taken.value == 0:  # the next node has more, or there is none
-            out, size = ctypes.create_string_buffer(2048), c.size()
-            assert calls.bw_feed_wants(feed, c.u32(), size) == 0
-            part = text[done : done + size.value]
-            if not size.value or len(part) < size.value:
-                status = calls.bw_feed_finish(feed, text[done:], len(text) - done, at)
-                break
-            status = calls.bw_feed_take_many(feed, part, len(part), out, 2048, taken, filled, at)
-            given += out.raw[: filled.value]
-            if status:
-                break
-            done += taken.value
+        more = 0 if taken.value else 2 * len(part)
+        if not taken.value and (done + len(part) == len(text) or len(part) > 1024):  # the end, or more than a node has
+            status = calls.bw_feed_finish(feed, text[done:], len(text) - done, at)
+            break
     calls.bw_free(feed)
     return status, at.value, given
 
 
-def pushed(mode, hashed, text, rng):
-    """The status and the place of a check of the text as an outboard encoding in pieces of any size, and the length that its outline claims."""
-    feed, outline, at, claimed, done, status = c.Handle(), c.Handle(), c.u64(), c.u64(), 0, 0
-    assert calls.bw_feed_outboard(mode, hashed, feed) == 0
-    while done < len(text) and not status:
-        part = text[done : done + rng.choice((1, 8, 64, 65, 1000))]
-        status = calls.bw_feed_push(feed, part, len(part), at)
-        done += len(part)
-    status = status or calls.bw_feed_outline(feed, outline, at)
-    if not status:
-        assert calls.bw_outline_length(outline, claimed) == 0
-    calls.bw_free(feed), calls.bw_free(outline)
-    return status, at.value, claimed.value
-
-
-def decoded(mode, hashed, start, count, text, wanted, blob):
+def decoded(slice_, text, wanted, blob):
     """Holds what a text is decoded to to the blob, or to the fault that it has."""
-    room, used, total, at = 9000, c.size(7), c.u64(7), c.u64()
+    room, used, total, at, start, count = 9000, c.size(7), c.u64(7), c.u64(), slice_.start, slice_.len
     out = ctypes.create_string_buffer(b"\1" * room, room)
-    status = calls.bw_decode(mode, hashed, start, count, text, len(text), out, room, used, total, at)
+    status = calls.bw_decode(slice_, text, len(text), out, room, used, total, at)
     claimed = int.from_bytes(text[:8], "little") if len(text) >= 8 else 0
     asked = max(min(claimed, start + count) - start, 0)
     if asked > room:
@@ -158,12 +116,12 @@ def decoded(mode, hashed, start, count, text, wanted, blob):
 def stored(modes, root, hashed, asked, text, wanted, blob, tail):
     """Holds what a store takes of a text, and then serves, to the text, or to the fault that it has."""
     seat, committed, parents, at, used = c.Handle(), c.u64(7), c.u64(7), c.u64(), c.size()
-    assert calls.bw_store_new(modes[1], hashed, max(-(-len(blob) // 1024), 1), seat) == 0
+    assert calls.bw_seat_new(modes[1], hashed, 0, max(-(-len(blob) // 1024), 1), seat) == 0
     assert calls.bw_seat_settle(seat, tail, len(tail), at) == 0
     at.value = 0
-    status = calls.bw_seat_commit_all(seat, *asked, text, len(text), committed, parents, at)
+    status = calls.bw_seat_commit(seat, *asked, text, len(text), committed, parents, at)
     out = ctypes.create_string_buffer(len(text) + 1)
-    served = calls.bw_seat_serve_slice(seat, *asked, out, len(text), used, c.Node())
+    served = calls.bw_seat_slice(seat, *asked, out, len(text), used, c.Node())
     if wanted[0]:
         assert (status, at.value, committed.value, parents.value, served) == (*wanted, 7, 7, 809)
     elif int.from_bytes(text[:8], "little") != len(blob):
@@ -175,7 +133,7 @@ def stored(modes, root, hashed, asked, text, wanted, blob, tail):
         after = (max(min(asked[0] + max(asked[1], 1), len(blob)), min(asked[0], last) + 1) - 1) // 1024 + 1
         assert committed.value == after - first
         assert 64 * parents.value == len(text) - 8 - len(blob[1024 * first : 1024 * after])
-        assert calls.bw_seat_commit_all(seat, *asked, text, len(text), committed, parents, at) == 0 and committed.value == parents.value == 0
+        assert calls.bw_seat_commit(seat, *asked, text, len(text), committed, parents, at) == 0 and committed.value == parents.value == 0
     calls.bw_free(seat)
 
 
@@ -184,7 +142,7 @@ def parted(modes, hashed, asked, text, wanted, blob, rng):
     number = max(-(-len(blob) // 1024), 1)
     base, capacity = rng.randrange(number + 2), rng.randrange(1, number + 2)
     seat, committed, at = c.Handle(), c.u64(7), c.u64()
-    assert calls.bw_store_part(modes[1], hashed, base, capacity, seat) == 0
+    assert calls.bw_seat_new(modes[1], hashed, base, capacity, seat) == 0
     status = calls.bw_seat_commit_chunks(seat, *asked, text, len(text), committed, at)
     if wanted[0]:
         assert (status, at.value, committed.value) == (*wanted, 7)
@@ -211,7 +169,7 @@ def beside(modes, root, hashed, outboard, wanted, blob, rng):
     """Holds an outline of the text, and what chunks of a plain copy, changed or not, are beside it, to the definitions."""
     outline, at, length, used = c.Handle(), c.u64(), c.u64(), c.size()
     status = calls.bw_outline_new(modes[1], hashed, outboard, len(outboard), outline, at)
-    assert (status, at.value) == wanted
+    assert (status, at.value) == wanted, f"the library answers {status} at {at.value} to an outboard encoding, the definitions {wanted}"
     if status:
         assert not outline.at and calls.bw_outline_length(outline, length) == 1202
         return
@@ -222,8 +180,8 @@ def beside(modes, root, hashed, outboard, wanted, blob, rng):
     chunks = rng.choice((0, 1, 1, 2, 3, 4, 9, number))
     plain = changed(bytes(8) + blob[1024 * first : 1024 * (first + chunks)], rng)[8:]
     out = ctypes.create_string_buffer(b"\1" * 20000, 20000)
-    status = calls.bw_outline_check(outline, first, chunks, plain, len(plain), at)
-    sliced = calls.bw_outline_slice(outline, first, chunks, plain, len(plain), out, 20000, used, c.u64())
+    status = calls.bw_outline_check(outline, c.Chunks(first, chunks), plain, len(plain), at)
+    sliced = calls.bw_outline_slice(outline, c.Chunks(first, chunks), plain, len(plain), out, 20000, used, c.u64())
     assert sliced == status
     if not chunks or first + chunks > number:
         assert status == 1210
@@ -238,14 +196,15 @@ def beside(modes, root, hashed, outboard, wanted, blob, rng):
 
 
 def written(modes, blob, start, count):
-    """The three texts of a blob, which the library has to write alike."""
+    """The texts of a blob, of which the library has to write two alike, and cut the third out."""
     mode, ours = modes
     texts = by.combined(mode, blob), by.outboard(mode, blob), by.slice_text(mode, blob, start, count)
     root, hashed, ours = mode.hash(blob), c.hash_(), ctypes.byref(ours)
-    for call, words, text in ((calls.bw_encode, (), texts[0]), (calls.bw_outboard, (), texts[1]), (calls.bw_slice, (c.u64(start), c.u64(count)), texts[2])):
-        assert wrote(call, ours, blob, c.size(len(blob)), *words, (hashed,), room=len(text)) == (0, text) and bytes(hashed) == root
+    for call, text in ((calls.bw_encode, texts[0]), (calls.bw_outboard, texts[1])):
+        assert wrote(call, ours, blob, c.size(len(blob)), (hashed,), room=len(text)) == (0, text) and bytes(hashed) == root
         out, used = ctypes.create_string_buffer(len(text)), c.size()
-        assert call(ours, blob, c.size(len(blob)), *words, out, c.size(len(text) - 1), ctypes.byref(used), hashed) == 1201 and used.value == len(text)
+        assert call(ours, blob, c.size(len(blob)), out, c.size(len(text) - 1), ctypes.byref(used), hashed) == 1201 and used.value == len(text)
+    assert wrote(calls.bw_cut_slice, texts[0], c.size(len(texts[0])), c.u64(start), c.u64(count), (), room=len(texts[2])) == (0, texts[2])
     assert calls.bw_slice_len(len(blob), start, count) == len(texts[2])
     ranges, found = (u64_pair * 55)(), c.size()
     assert calls.bw_slice_ranges(c.u64(len(blob)), c.u64(start), c.u64(count), ranges, c.size(55), ctypes.byref(found)) == 0
@@ -286,34 +245,22 @@ def look(case, rng):
     root, texts = written(modes, blob, start, length)
     form, at, hashed = rng.randrange(3), c.u64(), c.hash_(*root)
     text = changed(texts[form], rng)
-    asked, size = (0, 2**64 - 1) if form == 0 else (start, length), c.size(len(text))
-    check = (modes[0], root, text)
     if form == 1:
-        status = calls.bw_check_outboard(ctypes.byref(modes[1]), hashed, text, size, ctypes.byref(at))
-        wanted = fault_of(*check, by.outboard_nodes)
-        beside(modes, root, hashed, text, wanted, blob, rng)
-        *told, claimed = pushed(modes[1], hashed, text, rng)
-        case.assertEqual(tuple(told), wanted, f"the library answers {told} to an outboard encoding in pieces, the definitions {wanted}")
-        assert claimed == (0 if wanted[0] else int.from_bytes(text[:8], "little"))
-        case.assertEqual((status, at.value), wanted, f"the library answers {status} at {at.value}, the definitions {wanted}")
-        return
-    if form == 0:
-        status = calls.bw_check_combined(ctypes.byref(modes[1]), hashed, text, size, ctypes.byref(at))
-        cut = by.cut(text, start, length) if len(text) < 8 or int.from_bytes(text[:8], "little") < 10**6 else None
-        if cut is not None:
-            assert wrote(calls.bw_cut_slice, text, size, c.u64(start), c.u64(length), (), room=len(cut)) == (0, cut)
-    else:
-        status = calls.bw_check_slice(ctypes.byref(modes[1]), hashed, c.u64(start), c.u64(length), text, size, ctypes.byref(at))
-    wanted = fault_of(*check, lambda total: by.slice_nodes(total, *asked))
-    fed_status, fed_at, chunks = fed(modes[1], hashed, *asked, text)
-    decoded(modes[1], hashed, *asked, text, wanted, blob)
-    poured_status, poured_at, given = poured(modes[1], hashed, *asked, text, rng)
-    for how, got in (("whole", (status, at.value)), ("node by node", (fed_status, fed_at)), ("poured in", (poured_status, poured_at))):
+        return beside(modes, root, hashed, text, fault_of(modes[0], root, text, by.outboard_nodes), blob, rng)
+    asked = (0, 2**64 - 1) if form == 0 else (start, length)
+    if form == 0 and (len(text) < 8 or int.from_bytes(text[:8], "little") < 10**6):
+        cut = by.cut(text, start, length)
+        assert wrote(calls.bw_cut_slice, text, c.size(len(text)), c.u64(start), c.u64(length), (), room=len(cut)) == (0, cut)
+    slice_, wanted = c.Slice(modes[1], hashed, *asked), fault_of(modes[0], root, text, lambda total: by.slice_nodes(total, *asked))
+    status = calls.bw_check(slice_, text, len(text), at)
+    decoded(slice_, text, wanted, blob)
+    *fed, given = poured(slice_, text, rng)
+    for how, got in (("whole", (status, at.value)), ("in pieces", tuple(fed))):
         case.assertEqual(got, wanted, f"the library answers {got} to a text {how}, the definitions {wanted}")
     stored(modes, root, hashed, asked, text, wanted, blob, by.slice_text(modes[0], blob, 2**64 - 1, 1))
     parted(modes, hashed, asked, text, wanted, blob, rng)
     first = min(asked[0], max(len(blob), 1) - 1) // 1024 * 1024
-    assert blob[first:].startswith(given) and blob[first:].startswith(chunks)
+    assert blob[first:].startswith(given)
 
 
 @each((f"part {part}", part) for part in range(PARTS))

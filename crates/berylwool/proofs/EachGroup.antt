@@ -1,25 +1,25 @@
 -- Groups of which all that a piece has is stored, one after another.
 use Rattle.std.proofs.Common.{◌≡◌, ℕ, suc, ◌+◌, ◌%◌, Bool, false, List, [], ◌∷◌, ◌++◌, Option, Some, IfSome, refl, sym, subst, ◌∙◌, arith}
 use Rattle.bao_check.specs.declared.checked.Checked.{Checked}
-use Rattle.crews.proofs.Knowing.{length_records}
-use Rattle.crews.proofs.Sharing.{goes_on}
-use Rattle.crews.specs.Lasting.{RecordsOn, lasts}
-use Rattle.gather.specs.Holders.{IsIt}
+use Rattle.gather.proofs.SeatKnowing.{length_records}
+use Rattle.gather.proofs.Sharing.{goes_on}
+use Rattle.gather.specs.SeatLasting.{RecordsOn, lasts}
+use Rattle.holders.specs.Holders.{IsIt}
 use Rattle.gather.specs.Worked.{IsFrom, parents_of}
 use Rattle.store_core.proofs.Bits.{has_bit-zero}
 use Rattle.store_core.proofs.Lasting.{legal-append}
-use Rattle.store_core.specs.declared.fixed.Fixed.{Fixed}
+use Rattle.holders.specs.declared.fixed.Fixed.{Fixed}
 use Rattle.store_core.specs.declared.history.Call.{Call}
 use Rattle.store_core.specs.declared.history.Call.TheVariants.{Length, Parents}
 use Rattle.store_core.specs.declared.history.Event.{Event}
-use Rattle.store_core.specs.declared.history.Piece.{Piece}
+use Rattle.holders.specs.declared.piece.Piece.{Piece}
 use Rattle.store_core.specs.declared.history.Storing.TheVariants.{OtherLength}
 use Rattle.store_core.specs.declared.view.SeatView.{SeatView}
 use Rattle.store_core.specs.Histories.{IsLegal}
 use Rattle.store_core.specs.Knowledge.{Called, event_of}
 use Rattle.store_core.specs.Laws.{chunks_of}
 use Rattle.store_core.specs.Masks.{IsMaskOf, has_bit}
-use Rattle.store_core.specs.Pieces.{length_of, piece_of}
+use Rattle.holders.specs.Pieces.{length_of, piece_of}
 use Rattle.store_core.specs.States.{empty}
 use Rattle.store_shared.proofs.Asking.{right_there}
 use Rattle.store_shared.specs.Calls.{SeatIsUnstored}

@@ -3,11 +3,11 @@ use Rattle.std.proofs.Common.{◌≡◌, ◌≢◌, ◌∙◌, ℕ, ◌*◌, ◌
 use Rattle.b3tree.specs.declared.mode.Mode.{Mode}
 use Rattle.b3tree.specs.declared.values.Hash.{Hash}
 use Rattle.b3tree.specs.Hashing.{hash}
-use Rattle.crews.proofs.Finishing.{recorded_then}
+use Rattle.gather.proofs.SeatFinishing.{recorded_then}
 use Rattle.gather.proofs.Finishing.{no_none, some_same}
 use Rattle.gather.specs.Finished.{IsFinished, IsOther, IsUnfinished, IsWhole}
-use Rattle.store_calls.specs.Reading.{SeatDidRead}
-use Rattle.store_core.specs.declared.fixed.Fixed.{Fixed}
+use Rattle.store_shared.specs.Reading.{SeatDidRead}
+use Rattle.holders.specs.declared.fixed.Fixed.{Fixed}
 use Rattle.store_core.specs.declared.history.Call.TheVariants.{Length}
 use Rattle.store_core.specs.declared.history.Event.{Event}
 use Rattle.store_core.specs.declared.view.SeatView.{SeatView}

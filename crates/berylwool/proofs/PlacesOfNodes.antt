@@ -8,7 +8,7 @@ use Rattle.bao_check.proofs.EachNode.{chunk_node, leaf_nodes}
 use Rattle.bao_text.proofs.SubtreeNodes.{parent_node, subtree_nodes-parent, subtree_nodes-unwanted, subtree_size-parts}
 use Rattle.bao_text.proofs.SubtreeText.{Parts, left_len-Parts}
 use Rattle.bao_text.specs.declared.choice.Choice.{Choice}
-use Rattle.bao_text.specs.Choice.{chunk_count, wants}
+use Rattle.bao_text.specs.Choice.{wants}
 use Rattle.bao_text.specs.Nodes.{TreeNode, Side, left, right, subtree_nodes, subtree_size}
 use Rattle.berylwool.specs.declared.nodes.BwPlaced.{BwPlaced}
 use Rattle.berylwool.specs.Outlines.{HasParentsAmong}

@@ -3,22 +3,23 @@ use Rattle.std.proofs.Common.{◌≡◌, ◌⊎◌, ℕ, List, [], ◌∷◌, �
 use Rattle.std.specs.List.{sum_by}
 use Rattle.b3tree.specs.Valid.{IsKeyed}
 use Rattle.bao_check.proofs.Laws.{accepted_binds}
-use Rattle.crews.specs.Going.{goes}
-use Rattle.crews.specs.Lasting.{HoldsOn, IsBusyOn, RecordsOn}
-use Rattle.crews.specs.Seats.{GoneOn, SeenBinds, claims_of, fixed_of as fixed_at}
+use Rattle.gather.specs.Going.{goes}
+use Rattle.gather.specs.SeatLasting.{HoldsOn, IsBusyOn, RecordsOn}
+use Rattle.gather.specs.Seats.{GoneOn, SeenBinds, claims_of, fixed_of as fixed_at}
 use Rattle.gather.specs.declared.report.Report.{Report}
-use Rattle.gather.specs.declared.grain.Grain.{Grain}
-use Rattle.gather.specs.Available.{HasTrue, HaveSlices, IsFilled, IsServed}
-use Rattle.gather.proofs.Serving.{true_slices}
+use Rattle.holders.specs.declared.grain.Grain.{Grain}
+use Rattle.gather.specs.Filled.{IsFilled}
+use Rattle.holders.specs.Available.{HasTrue, HaveSlices, IsServed}
+use Rattle.holders.proofs.Slices.{true_slices}
 use Rattle.gather.specs.Claims.{Among}
 use Rattle.gather.specs.Counts.{HasFailedSince, IsToldTooLarge, Reports}
-use Rattle.gather.specs.Encodings.{EncodedBytes, IsCut, encoding}
-use Rattle.gather.specs.Holders.{IsHanded}
-use Rattle.gather.specs.Large.{IsTooLarge}
+use Rattle.holders.specs.Encodings.{EncodedBytes, IsCut, encoding}
+use Rattle.holders.specs.Holders.{IsHanded}
+use Rattle.holders.specs.Blobs.{IsTooLarge}
 use Rattle.gather.proofs.Binding.{are_longer, handed_cut}
 use Rattle.gather.proofs.Handing.{none_failed}
 use Rattle.gather.proofs.Reporting.{large_wider}
-use Rattle.store_core.specs.declared.fixed.Fixed.{Fixed}
+use Rattle.holders.specs.declared.fixed.Fixed.{Fixed}
 use Rattle.store_core.proofs.Bound.{held_binds}
 use Rattle.store_shared.specs.declared.assembly.Assembly.{Assembly}
 use Rattle.store_shared.specs.Seats.{Gripped, IsSeatOf, fixed_of}

@@ -11,8 +11,8 @@ use Rattle.bao_check.specs.declared.fault.CheckFault.{CheckFault}
 use Rattle.bao_check.specs.Checked.{IsPiece}
 use Rattle.bao_check.specs.Faults.{IsFirstFault}
 use Rattle.bao_text.specs.Nodes.{TreeNode}
-use Rattle.store_core.specs.declared.fixed.Fixed.{Fixed}
-use Rattle.store_core.specs.Pieces.{piece_of}
+use Rattle.holders.specs.declared.fixed.Fixed.{Fixed}
+use Rattle.holders.specs.Pieces.{piece_of}
 use Rattle.berylwool.specs.Calls.{slice_piece}
 use Rattle.berylwool.specs.Pairs.{IsAudit}
 use Rattle.berylwool.specs.Status.{IsRefused, IsStatusOf}
@@ -30,9 +30,9 @@ refused_there fixed mode root text nodes fault status at is_mode is_root told fi
 
 -- what an audit says, in the mode that C named
 pub audited : (of mode : Mode) (root : List ℕ) (start len : ℕ) (text blob : List ℕ) (piece : Checked) (told verdict : Verdict)
-    → of ≡ mode → told ≡ verdict → IsPiece piece of root start len text → Says blob piece told → IsAudit mode root start len text blob verdict
+    → of ≡ mode → told ≡ verdict → IsPiece piece of root start len text → Says blob piece told → IsAudit (record { mode = mode; root = root; start = start; len = len }) text blob verdict
 audited of mode root start len text blob piece told verdict is is_told of_piece says =
-    subst (λ (m : Mode). IsAudit m root start len text blob verdict) is (piece, of_piece, subst (Says blob piece) is_told says)
+    subst (λ (m : Mode). IsAudit (record { mode = m; root = root; start = start; len = len }) text blob verdict) is (piece, of_piece, subst (Says blob piece) is_told says)
 
 -- a collision's inputs are those that are shown
 pub collided : (first second ours theirs : Input) → ours ≡ first → theirs ≡ second → Collision first second ≡ Collision ours theirs

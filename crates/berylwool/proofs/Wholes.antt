@@ -1,19 +1,16 @@
--- A store that stores parents or serves slices has a length recorded, and so is one from the blob's first chunk on.
+-- A store that serves slices has a length recorded, and so is one from the blob's first chunk on.
 use Rattle.std.proofs.Common.{◌≡◌, ℕ, List, [], ◌∷◌, ◌++◌, Option, None, Some, refl, subst}
 use Rattle.store_core.proofs.HasRoom.{base_recorded}
 use Rattle.store_core.proofs.Lasting.{legal-append}
-use Rattle.store_core.specs.declared.fixed.Fixed.{Fixed}
+use Rattle.holders.specs.declared.fixed.Fixed.{Fixed}
 use Rattle.store_core.specs.declared.history.Call.{Call}
-use Rattle.store_core.specs.declared.history.Call.TheVariants.{Parents, Serve}
+use Rattle.store_core.specs.declared.history.Call.TheVariants.{Serve}
 use Rattle.store_core.specs.declared.history.Event.{Event}
-use Rattle.store_core.specs.declared.history.Piece.{Piece}
 use Rattle.store_core.specs.declared.history.Serving.{Serving}
 use Rattle.store_core.specs.declared.history.Serving.TheVariants.{Lacking, NoLength, Text}
-use Rattle.store_core.specs.declared.history.Storing.TheVariants.{Stored}
 use Rattle.store_core.specs.declared.view.SeatView.{SeatView}
 use Rattle.store_core.specs.Histories.{IsLegal, state_after}
 use Rattle.store_core.specs.Knowledge.{Called, event_of}
-use Rattle.store_core.specs.Pieces.{length_of}
 use Rattle.store_core.specs.Serves.{serving_of}
 use Rattle.store_core.specs.States.{State, empty}
 use Rattle.store_shared.proofs.Asking.{right_there}
@@ -23,13 +20,6 @@ legal_before : (call : Call) (old new : SeatView) (d : Called call old new) → 
 legal_before call old new d =
     (legal-append new.fixed empty (old.seen ++ d.between) (event_of old call ∷ [])
     (subst (λ (h : List Event). IsLegal new.fixed h) d.goes_on.seen_is d.goes_on.legal)).0
-
-pub parents_whole : (fixed : Fixed) (old new : SeatView) (group : ℕ) (piece : Piece) (mask : ℕ) → new.fixed ≡ fixed
-    → Called (Parents group piece (Stored mask)) old new → fixed.base ≡ 0
-parents_whole fixed old new group piece mask is d =
-    subst (λ (f : Fixed). f.base ≡ 0) is
-    (base_recorded new.fixed (old.seen ++ d.between) (length_of piece) (legal_before (Parents group piece (Stored mask)) old new d)
-    (right_there (Parents group piece (Stored mask)) old new d).1.0)
 
 -- the reply isn't that there is no length
 abbrev pub HasLength : Serving → Type 0

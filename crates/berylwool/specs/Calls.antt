@@ -1,21 +1,19 @@
 -- The results of a seat's calls: slices that C passes to a store, and what the store returns.
 use Rattle.std.specs.Prelude.{◌⊎◌, ℕ, List, length, Option}
 use Rattle.bao_check.specs.Accepted.{IsAccepted, slice_nodes}
-use Rattle.store_calls.specs.Parents.{SeatParentsBind}
-use Rattle.store_core.specs.declared.history.Call.TheVariants.{Commit, Parents, Serve, Settle}
-use Rattle.store_core.specs.declared.history.Piece.{Piece}
+use Rattle.store_core.specs.declared.history.Call.TheVariants.{Serve, Settle}
+use Rattle.holders.specs.declared.piece.Piece.{Piece}
 use Rattle.store_core.specs.declared.history.Serving.{Serving}
 use Rattle.store_core.specs.declared.history.Serving.TheVariants.{Text}
 use Rattle.store_core.specs.declared.history.Settling.TheVariants.{Known, Settled}
-use Rattle.store_core.specs.declared.history.Storing.TheVariants.{Stored}
 use Rattle.store_core.specs.declared.view.SeatView.{SeatView}
-use Rattle.store_core.specs.Stores.{ChunksBind, filled_count}
-use Rattle.store_calls.specs.Reading.{SeatDidRead, SeatReadBinds}
-use Rattle.store_calls.specs.Serving.{SeatSliceBinds, SeatSliceIsAccepted}
-use Rattle.store_shared.specs.Calls.{AreParentsHeld, HasSliceHeld}
+use Rattle.store_core.specs.Stores.{filled_count}
+use Rattle.store_shared.specs.Reading.{SeatDidRead, SeatReadBinds}
+use Rattle.store_shared.specs.Serving.{SeatSliceBinds, SeatSliceIsAccepted}
+use Rattle.store_shared.specs.Calls.{HasSliceHeld}
 use Rattle.store_shared.specs.declared.assembly.Assembly.{Assembly}
 use Rattle.store_shared.specs.Seats.{Gripped, fixed_of}
-use Rattle.store_core.specs.Knowledge.{AreAllNames, AreMet, Called, KeepsClaims, NoneIsClaimedByBoth}
+use Rattle.store_core.specs.Knowledge.{Called}
 use Rattle.berylwool.specs.Status.{IsRefused}
 
 -- the accepted slice (start, len) that an encoding is, in a store from chunk `base` of the blob on
@@ -29,20 +27,6 @@ IsSliceOf store text start len = IsAccepted (fixed_of store).mode (fixed_of stor
 -- the status and the offset are those of the encoding's first fault as this slice
 abbrev pub IsNoSliceOf : Assembly → List ℕ → ℕ → ℕ → ℕ → ℕ → Type 0
 IsNoSliceOf store text start len status at = IsRefused (fixed_of store).mode (fixed_of store).root.0 text (slice_nodes text start len) status at
-
--- Chunks of the slice are stored: an event of the store; and for each blob with its root they are the blob's,
--- or a collision is exhibited.
-pub record Commits (store : Assembly) (group : ℕ) (piece : Piece) (committed : ℕ) (old new : Gripped) : Type 0 where
-  pub called : Called (Commit group piece committed) old.view new.view
-  pub binds : ChunksBind (fixed_of store) piece group committed
-
--- Parents of the slice are stored: an event of the store; and for each blob with its root the parents that the
--- seat has seen held are the blob's, or a collision is exhibited. If the seat has all names, all parents of the
--- slice at the group's boundaries are then held.
-pub record StoresParents (group : ℕ) (piece : Piece) (stored : ℕ) (old new : Gripped) : Type 0 where
-  pub called : Called (Parents group piece (Stored stored)) old.view new.view
-  pub binds : SeatParentsBind new.view
-  pub held : AreAllNames old.view.names → AreParentsHeld new.view group piece
 
 -- the length of the slice is recorded, by this call or before
 abbrev pub HasSettled : Piece → SeatView → SeatView → Type 0
@@ -67,11 +51,3 @@ pub record Serves (start len : ℕ) (text : List ℕ) (old new : Gripped) : Type
 pub record LacksSlice (start len : ℕ) (answer : Serving) (old new : Gripped) : Type 0 where
   pub called : Called (Serve start len answer) old.view new.view
   pub some : ¬ HasSliceHeld old.view start len
-
--- Two seats have met: both have seen one history and keep their claims, and no chunk is or was claimed by both.
-pub record HaveMet (first second first' second' : Gripped) : Type 0 where
-  pub met : AreMet first.view second.view first'.view second'.view
-  pub first_keeps : KeepsClaims first.view first'.view
-  pub second_keeps : KeepsClaims second.view second'.view
-  pub apart : NoneIsClaimedByBoth first'.view second'.view
-  pub were_apart : NoneIsClaimedByBoth first.view second.view

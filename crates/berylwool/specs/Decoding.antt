@@ -1,8 +1,8 @@
 -- What an accepted encoding has of the blob, byte by byte.
 use Rattle.std.specs.Prelude.{◌≡◌, ℕ, ◌+◌, ◌-◌, ◌/◌, ◌%◌, ◌<◌, ◌≤◌, List, length, min, nat_lt, slice_get, Option, None, option_and_then, if◌then◌else◌}
 use Rattle.bao_text.specs.Cut.{claimed}
-use Rattle.store_core.specs.declared.history.Piece.{Piece}
-use Rattle.store_core.specs.Pieces.{chunk_bytes}
+use Rattle.holders.specs.declared.piece.Piece.{Piece}
+use Rattle.holders.specs.Pieces.{chunk_bytes}
 
 -- byte q of the blob, if the slice has it
 abbrev pub byte_of : Piece → ℕ → Option ℕ

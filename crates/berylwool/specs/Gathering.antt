@@ -2,15 +2,16 @@
 use Rattle.std.specs.Prelude.{◌≡◌, ◌⊎◌, ℕ, List, [], ◌∷◌, IsTrue, not, nat_eq}
 use Rattle.bao_text.specs.Cut.{cut_text}
 use Rattle.bao_text.specs.Texts.{slice_text}
-use Rattle.crews.specs.Lasting.{HasParentOn, HoldsOn, IsBusyOn, RecordsOn}
-use Rattle.crews.specs.Seats.{GoneOn, SeenBinds, claims_of, fixed_of}
+use Rattle.gather.specs.SeatLasting.{HasParentOn, HoldsOn, IsBusyOn, RecordsOn}
+use Rattle.gather.specs.Seats.{GoneOn, SeenBinds, claims_of, fixed_of}
 use Rattle.gather.specs.declared.report.Report.{Report}
-use Rattle.gather.specs.Available.{HasAllParents, IsFilled, IsServed}
+use Rattle.gather.specs.Filled.{HasAllParents, IsFilled}
+use Rattle.holders.specs.Available.{IsServed}
 use Rattle.gather.specs.Claims.{Among}
 use Rattle.gather.specs.Counts.{HasFailedSince, IsToldTooLarge, Reports}
-use Rattle.gather.specs.Encodings.{IsCutOf}
-use Rattle.gather.specs.Large.{AreLonger, IsTooLarge}
-use Rattle.store_core.specs.declared.history.Piece.{Piece}
+use Rattle.holders.specs.Encodings.{IsCutOf}
+use Rattle.holders.specs.Blobs.{AreLonger}
+use Rattle.holders.specs.declared.piece.Piece.{Piece}
 use Rattle.store_shared.specs.Seats.{Gripped}
 use Rattle.berylwool.specs.declared.gathering.BwReport.{BwReport}
 

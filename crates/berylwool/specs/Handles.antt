@@ -7,11 +7,10 @@ use Rattle.std_alloc.specs.Box.Ownership.{box_owns}
 use Rattle.b3tree.specs.declared.mode.Mode.{Mode}
 use Rattle.b3tree.specs.Taken.{Holds}
 use Rattle.bao_check.specs.declared.checking.Checking.{Checking}
-use Rattle.bao_feed.specs.declared.feed.OutboardFeed.{OutboardFeed}
 use Rattle.store_shared.specs.declared.assembly.Assembly.{Assembly}
 use Rattle.store_shared.specs.Seats.{Gripped, IsSeatOf, fixed_of}
 use Rattle.berylwool.specs.declared.owned.Held.{Held}
-use Rattle.berylwool.specs.declared.owned.Held.TheVariants.{Feed, Hasher, Outboard, Outline, Seat}
+use Rattle.berylwool.specs.declared.owned.Held.TheVariants.{Feed, Hasher, Outline, Seat}
 use Rattle.berylwool.specs.declared.outlined.Outlined.{Outlined}
 use Rattle.berylwool.specs.contracts.owned.Held.{the_row}
 use base.Fml.{Fml, ftrue, fex}
@@ -44,11 +43,6 @@ HasHasher _ = ⊥
 abbrev pub HasFeed : (Checking → Type 0) → Option Held → Type 0
 HasFeed so (Some (Feed check)) = so check
 HasFeed so _ = ⊥
-
--- the handle has a check in pieces of an outboard encoding, and this holds for it
-abbrev pub HasOutboard : (OutboardFeed → Type 0) → Option Held → Type 0
-HasOutboard so (Some (Outboard feed)) = so feed
-HasOutboard so _ = ⊥
 
 -- the handle has a seat, and this holds for its store and the seat
 abbrev pub HasSeat : (Assembly → Gripped → Type 0) → Option Held → Type 0

@@ -1,6 +1,6 @@
 -- Which chunks of a group are held, by reads that claim nothing.
 use Rattle.std.specs.Prelude.{◌≡◌, ℕ, ◌+◌, ◌*◌, ◌^◌, List, [], ◌∷◌, Option, None, Some}
-use Rattle.store_calls.specs.Reading.{SeatDidRead}
+use Rattle.store_shared.specs.Reading.{SeatDidRead}
 use Rattle.store_core.specs.declared.view.SeatView.{SeatView}
 
 -- the bit of a chunk of a group, if it is held

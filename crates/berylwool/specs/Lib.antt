@@ -6,12 +6,12 @@ pub mod Gathering
 pub mod Handles
 pub mod Holding
 pub mod Modes
-pub mod Outboards
 pub mod Outlines
 pub mod Pairs
 pub mod Placed
 pub mod Plans
 pub mod CNodes
 pub mod Ranges
+pub mod Slices
 pub mod Status
 pub mod Storing

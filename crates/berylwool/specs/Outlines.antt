@@ -10,8 +10,8 @@ use Rattle.bao_text.specs.declared.choice.Choice.{Choice}
 use Rattle.bao_text.specs.Choice.{chunk_count}
 use Rattle.bao_text.specs.Cut.{claimed}
 use Rattle.bao_text.specs.Nodes.{Side, TreeNode, placed_nodes, subtree_nodes}
-use Rattle.store_core.specs.declared.fixed.Fixed.{Fixed}
-use Rattle.store_core.specs.declared.history.Piece.{Piece}
+use Rattle.holders.specs.declared.fixed.Fixed.{Fixed}
+use Rattle.holders.specs.declared.piece.Piece.{Piece}
 use Rattle.berylwool.specs.declared.outlined.Outlined.{Outlined}
 use Rattle.berylwool.specs.Calls.{slice_piece}
 use Rattle.berylwool.specs.Status.{IsBareRefused}

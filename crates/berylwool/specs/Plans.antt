@@ -1,5 +1,5 @@
 -- What holds for the plan that a handle has, and what C sees of it.
-use Rattle.std.specs.Prelude.{ℕ, ◌*◌, ◌-◌, ◌^◌, min, nat_eq, nat_lt, if◌then◌else◌, Option, None, Some}
+use Rattle.std.specs.Prelude.{ℕ, ◌*◌, ◌-◌, ◌^◌, min, nat_eq, nat_lt, if◌then◌else◌, Option, Some}
 use Rattle.bao_plan.specs.declared.policy.Next.{Next}
 use Rattle.bao_plan.specs.declared.policy.Next.TheVariants.{Fetch, WaitUntil, Nothing}
 use Rattle.bao_plan.specs.declared.policy.Outcome.{Outcome}

@@ -1,5 +1,5 @@
 -- Faults as C has them: a number and an offset.
-use Rattle.std.specs.Prelude.{◌≡◌, ◌⊎◌, ℕ, List}
+use Rattle.std.specs.Prelude.{◌≡◌, ℕ, List}
 use Rattle.b3tree.specs.declared.mode.Mode.{Mode}
 use Rattle.bao_text.specs.Nodes.{TreeNode}
 use Rattle.bao_check.specs.declared.fault.CheckFault.{CheckFault}
@@ -27,8 +27,3 @@ IsRefused mode root text nodes status at = (fault : CheckFault) × IsStatusOf fa
 abbrev pub IsBareRefused : Mode → List ℕ → List ℕ → ℕ → ℕ → List ℕ → ℕ → ℕ → Type 0
 IsBareRefused mode root outboard first count chunks status at =
     (fault : CheckFault) × IsStatusOf fault status at × IsBareFault mode root outboard first count chunks fault
-
--- the status says that memory was refused: for an encoding, a store, a seat, a slice that is served, or what a
--- handle owns
-abbrev pub IsOfMemory : ℕ → Type 0
-IsOfMemory status = (status ≡ 401) ⊎ (status ≡ 801) ⊎ (status ≡ 806) ⊎ (status ≡ 810) ⊎ (status ≡ 1203)

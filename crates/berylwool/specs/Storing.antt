@@ -1,15 +1,15 @@
 -- Storing all that a slice has: its chunks, group after group, and then its parents.
 use Rattle.std.specs.Prelude.{◌≡◌, ◌≢◌, ◌⊎◌, ℕ, zero, suc, ◌+◌, ◌/◌, Bool, false, count_ones, Option, Some}
-use Rattle.store_calls.specs.Parents.{SeatParentsBind}
-use Rattle.store_core.specs.declared.fixed.Fixed.{Fixed}
+use Rattle.store_shared.specs.Parents.{SeatParentsBind}
+use Rattle.holders.specs.declared.fixed.Fixed.{Fixed}
 use Rattle.store_core.specs.declared.history.Call.TheVariants.{Commit, Length, Parents, Take}
-use Rattle.store_core.specs.declared.history.Piece.{Piece}
+use Rattle.holders.specs.declared.piece.Piece.{Piece}
 use Rattle.store_core.specs.declared.history.Storing.TheVariants.{Stored}
 use Rattle.store_core.specs.declared.view.SeatView.{SeatView}
 use Rattle.store_core.specs.Knowledge.{AreAllNames, Called}
-use Rattle.store_core.specs.Machine.{groups}
+use Rattle.holders.specs.Room.{groups}
 use Rattle.store_core.specs.Masks.{IsMaskOf}
-use Rattle.store_core.specs.Pieces.{holds_chunk, holds_parent, length_of}
+use Rattle.holders.specs.Pieces.{holds_chunk, holds_parent, length_of}
 use Rattle.store_core.specs.Stores.{ChunksBind}
 use Rattle.store_shared.specs.Calls.{AreParentsHeld}
 

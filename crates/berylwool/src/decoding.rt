@@ -1,14 +1,15 @@
 ghost use Rattle.std.specs.Prelude.{◌≡◌, ◌≢◌, ◌↔◌, ℕ, ◌+◌, ◌-◌, ◌^◌, ◌<◌, ◌≤◌, drop, length, slice_get, take, IfSome, IsNone, None};
-ghost use Rattle.bao_check.specs.Accepted.{IsAccepted, slice_nodes};
+ghost use Rattle.bao_check.specs.Waiting.{IsAcceptedAs};
 ghost use Rattle.bao_text.specs.Cut.{claimed};
-ghost use Rattle.store_core.specs.Pieces.{EndsBlob, piece_of};
+ghost use Rattle.holders.specs.Pieces.{EndsBlob, piece_of};
 ghost use Rattle.berylwool.specs.Calls.{slice_piece};
 ghost use Rattle.berylwool.specs.Decoding.{AreBytesOf, asked_size, byte_of};
-ghost use Rattle.berylwool.specs.Modes.{IsKnown, mode_of};
-ghost use Rattle.berylwool.specs.Status.{IsRefused};
+ghost use Rattle.berylwool.specs.Feeds.{IsTextRefused};
+ghost use Rattle.berylwool.specs.Modes.{IsKnown};
+ghost use Rattle.berylwool.specs.Slices.{task_of};
 
 use crate::checking::told;
-use crate::mode::BwMode;
+use crate::slice::BwSlice;
 use crate::status::{NO_MODE, ROOM};
 use b3tree::{CHUNK_LEN, Hash};
 use bao_check::{Checked, check_slice};
@@ -64,53 +65,49 @@ fn copied(piece: &Checked<'_>, start: u64, out: &mut [u8]) -> usize
     filled
 }
 
-/// Checks `text` as the slice (`start`, `len`) of the blob with the hash `root`, and copies the blob's bytes of
-/// that range to the front of `out`.
-///
-/// These are the `len` bytes from byte `start` on, or those of them below the length that the encoding claims;
-/// `used` is their number. `total` is the blob's length if the encoding certifies it by having the last chunk,
-/// else 2^64 - 1. No memory is taken.
-///
-/// Returns 1213 exactly if the mode's kind is unknown, before all else, and then 1201 exactly if `out` has
-/// fewer bytes than are asked for, with their number in `used`. If the encoding isn't accepted, returns 501 to
-/// 503 as `bw_check_slice` does, with the offset in `at`. After any of these, `out` is unchanged.
+/// Checks `text` as the slice that `slice` names, and copies the blob's bytes of its range to the front of
+/// `out`.
 #[unsafe(no_mangle)]
 pub extern "C" fn bw_decode(
     alloc: Global,
-    mode: &BwMode,
-    root: &[u8; 32],
-    start: u64,
-    len: u64,
+    slice: &BwSlice,
     text: &[u8],
     out: &mut [u8],
     used: &mut usize,
     total: &mut u64,
     at: &mut u64,
 ) -> u32
-    ensures bytes { result ≡ 0 → AreBytesOf (slice_piece 0 text.now start len) start (asked_size text.now start len) (take used.new out.new) }
+    ensures bytes { result ≡ 0 → AreBytesOf (slice_piece 0 text.now slice.now.start slice.now.len) slice.now.start (asked_size text.now slice.now.start slice.now.len) (take used.new out.new) }
     ensures rest { result ≡ 0 → drop used.new out.new ≡ drop used.new out.old }
-    ensures within { result ≡ 0 → used.new ≤ asked_size text.now start len }
+    ensures within { result ≡ 0 → used.new ≤ asked_size text.now slice.now.start slice.now.len }
     ensures fits { result ≡ 0 → used.new ≤ length out.new }
-    ensures certified { result ≡ 0 → EndsBlob (slice_piece 0 text.now start len) → total.new ≡ claimed text.now }
-    ensures uncertified { result ≡ 0 → (¬ EndsBlob (slice_piece 0 text.now start len)) → total.new ≡ 2 ^ 64 - 1 }
-    ensures unknown { result ≡ 1213 ↔ (¬ IsKnown mode.now) }
-    ensures accepted { result ≢ 1201 → (result ≡ 0 ↔ (IsKnown mode.now × IsAccepted (mode_of mode.now) root.now text.now (slice_nodes text.now start len))) }
-    ensures fault { result ≢ 0 → result ≢ 1201 → result ≢ 1213 → IsRefused (mode_of mode.now) root.now text.now (slice_nodes text.now start len) result at.new }
-    ensures room { result ≡ 1201 ↔ (IsKnown mode.now × (length out.old < asked_size text.now start len)) }
-    ensures needed { result ≡ 1201 → used.new ≡ asked_size text.now start len }
+    ensures certified { result ≡ 0 → EndsBlob (slice_piece 0 text.now slice.now.start slice.now.len) → total.new ≡ claimed text.now }
+    ensures uncertified { result ≡ 0 → (¬ EndsBlob (slice_piece 0 text.now slice.now.start slice.now.len)) → total.new ≡ 2 ^ 64 - 1 }
+    ensures unknown { result ≡ 1213 ↔ (¬ IsKnown slice.now.mode) }
+    ensures accepted { result ≢ 1201 → (result ≡ 0 ↔ (IsKnown slice.now.mode × IsAcceptedAs (task_of slice.now) text.now)) }
+    ensures fault { result ≢ 0 → result ≢ 1201 → result ≢ 1213 → IsTextRefused (task_of slice.now) text.now result at.new }
+    ensures room { result ≡ 1201 ↔ (IsKnown slice.now.mode × (length out.old < asked_size text.now slice.now.start slice.now.len)) }
+    ensures needed { result ≡ 1201 → used.new ≡ asked_size text.now slice.now.start slice.now.len }
     ensures same { result ≢ 0 → out.new ≡ out.old }
 {
-    if !mode.is_known() {
+    if !slice.mode.is_known() {
         return NO_MODE;
     }
-    let size = asked(text, start, len) as usize;
+    let size = asked(text, slice.start, slice.len) as usize;
     if size > out.len() {
         *used = size;
         return ROOM;
     }
-    match check_slice(alloc, &mode.get(), &Hash(*root), start, len, text) {
+    match check_slice(
+        alloc,
+        &slice.mode.get(),
+        &Hash(slice.root),
+        slice.start,
+        slice.len,
+        text,
+    ) {
         Ok(piece) => {
-            *used = copied(&piece, start, &mut out[..size]);
+            *used = copied(&piece, slice.start, &mut out[..size]);
             *total = match piece.tail() {
                 Some(tail) => tail.length(),
                 None => u64::MAX,

@@ -4,8 +4,7 @@ ghost use Rattle.berylwool.specs.Gathering.{CompletesOn, GathersOn, report_of};
 ghost use Rattle.berylwool.specs.Handles.{HasSeat, SeatDid};
 
 use crate::handle::{BwHandle, with_held};
-use crews::Shared;
-use gather::{Encoded, Form, Place, Report, closing_round, salvage};
+use gather::{Encoded, Form, Place, Report, Shared, closing_round, salvage};
 use std::alloc::Global;
 use store_shared::{Assembly, Seat};
 
@@ -52,7 +51,7 @@ fn shown(report: &Report) -> BwReport
     }
 }
 
-// One worker's round, as `bw_gather` does it.
+// One worker's round, as `bw_seat_gather` does it.
 fn gathered(
     alloc: Global,
     store: &Assembly,
@@ -89,19 +88,8 @@ fn gathered(
 }
 
 /// Gathers from one encoding: the round of worker `number` of `workers`, each with a seat of its own.
-///
-/// `text` is the blob's combined encoding, or any bytes. If no length is recorded, the slice of the last byte
-/// is cut out of it and checked, and the length that it certifies is settled; the round ends if there is none,
-/// or if it is above the store's capacity. With K groups, the worker begins at group `number` % `workers` * K /
-/// `workers`, where 0 workers count as 1, and goes once round all of them. It claims the group's chunks that
-/// are neither held nor claimed, cuts out and checks their slice, stores its chunks and parents, and gives the
-/// other claims back. Last, for each group of which a parent isn't held, whichever chunks are, it stores the
-/// parents of the group's slice alone. Afterwards the seat claims nothing that it didn't claim before.
-///
-/// What was done is added to `report`. Returns 0, or 1202 exactly if the handle has no seat; the seat and
-/// `report` are then unchanged.
 #[unsafe(no_mangle)]
-pub extern "C" fn bw_gather(
+pub extern "C" fn bw_seat_gather(
     alloc: Global,
     seat: &mut BwHandle,
     number: u32,
@@ -158,12 +146,8 @@ fn salvaged(
     shown(&sums)
 }
 
-/// Gathers from one encoding as one worker's `bw_gather` does, but chunk by chunk, so that a damaged chunk
+/// Gathers from one encoding as one worker's `bw_seat_gather` does, but chunk by chunk, so that a damaged chunk
 /// costs no other.
-///
-/// Each chunk is claimed, cut out, checked and stored by itself. It is for groups that are damaged in every
-/// encoding. What was done is added to `report`. Returns 0, or 1202 exactly if the handle has no seat; the seat
-/// and `report` are then unchanged.
 #[unsafe(no_mangle)]
 pub extern "C" fn bw_seat_salvage(
     alloc: Global,

@@ -1,6 +1,6 @@
 ghost use Rattle.std.specs.Prelude.{◌≡◌, ◌≢◌, ◌↔◌, ◌+◌, ◌-◌, ◌^◌, ◌<◌, ℕ, List, [], ◌++◌, length, None};
 ghost use Rattle.b3tree.specs.declared.mode.Mode.{Mode};
-ghost use Rattle.b3tree.specs.Hashing.{hash, stream};
+ghost use Rattle.b3tree.specs.Hashing.{stream};
 ghost use Rattle.berylwool.specs.Handles.{HasHasher, HoldsIn};
 ghost use Rattle.berylwool.specs.Modes.{IsKnown, mode_of};
 
@@ -12,9 +12,6 @@ use b3tree::{Hasher, xof_fits};
 use std::alloc::Global;
 
 /// Makes a hasher that has no input yet.
-///
-/// What the handle owned is freed. Returns 1213 exactly if the mode's kind is unknown, or 1203 if out of
-/// memory; the handle is then empty.
 #[unsafe(no_mangle)]
 pub extern "C" fn bw_hasher_new(alloc: Global, mode: &BwMode, hasher: &mut BwHandle) -> u32
     ensures made { result ≡ 0 → HoldsIn hasher.new.held (mode_of mode.now) [] }
@@ -36,9 +33,6 @@ pub extern "C" fn bw_hasher_new(alloc: Global, mode: &BwMode, hasher: &mut BwHan
 }
 
 /// Appends `bytes` to a hasher's input.
-///
-/// Returns 201 exactly if the input would be longer than 2^64 - 1 bytes, or 1202 exactly if the handle has no
-/// hasher; the hasher is then unchanged.
 #[unsafe(no_mangle)]
 pub extern "C" fn bw_hasher_update(alloc: Global, hasher: &mut BwHandle, bytes: &[u8]) -> u32
     ensures taken { (mode : Mode) (s : List ℕ) → HoldsIn hasher.old.held mode s → result ≡ 0 → HoldsIn hasher.new.held mode (s ++ bytes.now) }
@@ -53,32 +47,10 @@ pub extern "C" fn bw_hasher_update(alloc: Global, hasher: &mut BwHandle, bytes: 
     })
 }
 
-/// Computes the hash of a hasher's input so far, 32 bytes, into `out`. More input may follow.
-///
-/// Returns 0, or 1202 exactly if the handle has no hasher; `out` is then unchanged.
-#[unsafe(no_mangle)]
-pub extern "C" fn bw_hasher_finish(alloc: Global, hasher: &mut BwHandle, out: &mut [u8; 32]) -> u32
-    ensures hash { (mode : Mode) (s : List ℕ) → HoldsIn hasher.old.held mode s → out.new ≡ hash mode s }
-    ensures has { result ≡ 0 ↔ HasHasher hasher.old.held }
-    ensures status { result ≢ 0 → result ≡ 1202 }
-    ensures same { hasher.new.held ≡ hasher.old.held }
-    ensures unchanged { result ≢ 0 → out.new ≡ out.old }
-{
-    with_held!(hasher, alloc, Hasher, |it| {
-        let hash = it.finalize();
-        let digest = hash.0;
-        *out = digest;
-        0
-    })
-}
-
 /// Fills `out` with the extended output of a hasher's input so far, from byte `at` of the output on. More input
 /// may follow.
-///
-/// Returns 1208 exactly if the output asked for ends above 2^64 - 1, before all else, or 1202 if the handle has
-/// no hasher; `out` is then unchanged.
 #[unsafe(no_mangle)]
-pub extern "C" fn bw_hasher_xof(
+pub extern "C" fn bw_hasher_finish(
     alloc: Global,
     hasher: &mut BwHandle,
     at: u64,

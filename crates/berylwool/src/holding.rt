@@ -41,13 +41,6 @@ fn held(store: &Assembly, seat: &mut Seat, group: u32) -> u64
 }
 
 /// Returns in `mask` which chunks of a group are held, and claims none.
-///
-/// Bit j stands for chunk 64 * group + j. The chunks are looked up one after another, by their first byte, so a
-/// chunk whose bit isn't set may be held by the time the call returns. The chunk of an empty blob has no byte,
-/// and is never reported. No memory is taken.
-///
-/// Returns 803 exactly if the store has no such group, or 1202 exactly if the handle has no seat; the seat and
-/// `mask` are then unchanged.
 #[unsafe(no_mangle)]
 pub extern "C" fn bw_seat_held(
     alloc: Global,

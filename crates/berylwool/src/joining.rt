@@ -1,8 +1,7 @@
 ghost use Rattle.std.specs.Prelude.{◌≡◌, ◌≢◌, ◌↔◌, IsTrue, None, Some};
-ghost use Rattle.store_shared.specs.Seats.{IsSeatOf, fixed_of};
+ghost use Rattle.store_shared.specs.Seats.{fixed_of};
 ghost use Rattle.store_core.specs.Knowledge.{IsMerged};
-ghost use Rattle.berylwool.specs.Calls.{HaveMet};
-ghost use Rattle.berylwool.specs.Handles.{AreAlike, AreOfOneStore, AreUnlike, HasSeat, HaveSeats, SeatDid, SeatParts};
+ghost use Rattle.berylwool.specs.Handles.{AreAlike, AreOfOneStore, AreUnlike, HaveSeats, SeatParts};
 
 use crate::handle::{BwHandle, put, take};
 use crate::owned::{Held, Seated};
@@ -59,12 +58,6 @@ fn both_status(one: &Held, two: &Held) -> u32
 }
 
 /// Joins two seats of one store: `seat` has the claims and calls of both, and `other` is empty.
-///
-/// What the joined seat has seen begins with what each had seen. Stores with the same root, mode, capacity and
-/// first chunk can't be told apart: the caller must not pass seats of two of them. No memory is taken.
-///
-/// Returns 1211 exactly if the stores differ in root, mode, capacity or first chunk, or 1202 exactly if a
-/// handle has no seat; both handles are then unchanged.
 #[unsafe(no_mangle)]
 pub extern "C" fn bw_seat_join(alloc: Global, seat: &mut BwHandle, other: &mut BwHandle) -> u32
     requires one_store { AreAlike seat.old.held other.old.held → AreOfOneStore seat.old.held other.old.held }
@@ -102,57 +95,4 @@ pub extern "C" fn bw_seat_join(alloc: Global, seat: &mut BwHandle, other: &mut B
     });
     put(seat, held);
     0
-}
-
-// Lets two seats meet, as `bw_seat_meet` does.
-fn met(store: &Assembly, seat: &mut Seat, its: &Assembly, other: &mut Seat) -> u32
-    requires of { IsSeatOf store.now seat.old }
-    requires other_of { IsSeatOf its.now other.old }
-    requires one_store { (fixed_of store.now ≡ fixed_of its.now) → its.now ≡ store.now }
-    ensures of { IsSeatOf store.now seat.new }
-    ensures other_of { IsSeatOf its.now other.new }
-    ensures met { result ≡ 0 → HaveMet seat.old other.old seat.new other.new }
-    ensures alike { result ≡ 0 ↔ (fixed_of store.now ≡ fixed_of its.now) }
-    ensures status { result ≢ 0 → result ≡ 1211 }
-    ensures same { result ≢ 0 → (seat.new ≡ seat.old) × (other.new ≡ other.old) }
-{
-    if !are_alike(store, its) {
-        return OTHER_STORE;
-    }
-    store.meet(seat, other);
-    0
-}
-
-/// Lets two seats of one store see what either has seen. It exists for proofs.
-///
-/// Afterwards both have seen one history, which begins with what each had seen. Their calls and claims are
-/// unchanged, and no chunk is claimed by both. No memory is taken. What the caller must not pass, 1211 and 1202
-/// are as for `bw_seat_join`.
-#[unsafe(no_mangle)]
-pub extern "C" fn bw_seat_meet(alloc: Global, seat: &mut BwHandle, other: &mut BwHandle) -> u32
-    requires one_store { AreAlike seat.old.held other.old.held → AreOfOneStore seat.old.held other.old.held }
-    ensures met { result ≡ 0 → SeatDid (λ _ old new. SeatDid (λ _ its_old its_new. HaveMet old its_old new its_new) other.old.held other.new.held) seat.old.held seat.new.held }
-    ensures no_seat { result ≡ 1202 ↔ (¬ HaveSeats seat.old.held other.old.held) }
-    ensures other_store { result ≡ 1211 ↔ AreUnlike seat.old.held other.old.held }
-    ensures status { result ≢ 0 → result ≢ 1202 → result ≡ 1211 }
-    ensures same { result ≢ 0 → seat.new.held ≡ seat.old.held }
-    ensures other_same { result ≢ 0 → other.new.held ≡ other.old.held }
-{
-    let Some(mut held) = take(seat, alloc) else {
-        return NO_HANDLE;
-    };
-    let Some(mut others) = take(other, alloc) else {
-        put(seat, held);
-        return NO_HANDLE;
-    };
-    let status = match &mut *held {
-        Held::Seat(one) => match &mut *others {
-            Held::Seat(two) => met(&one.store, &mut one.seat, &two.store, &mut two.seat),
-            _ => NO_HANDLE,
-        },
-        _ => NO_HANDLE,
-    };
-    put(seat, held);
-    put(other, others);
-    status
 }

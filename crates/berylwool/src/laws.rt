@@ -7,19 +7,20 @@ ghost use Rattle.berylwool.specs.Handles.{HasOutline, HoldsIn};
 ghost use Rattle.berylwool.specs.Modes.{mode_of};
 ghost use Rattle.berylwool.specs.Outlines.{IsOutlined};
 
-use crate::about::{bw_is_memory, bw_version};
-use crate::checking::{bw_check_combined, bw_check_outboard, bw_check_slice};
+use crate::about::bw_version;
+use crate::checking::bw_check;
 use crate::decoding::bw_decode;
 use crate::handle::BwHandle;
 use crate::hasher::{bw_hasher_finish, bw_hasher_update};
-use crate::hashing::{bw_derive_key, bw_hash, bw_xof};
+use crate::hashing::bw_hash;
 use crate::mode::{BwMode, bw_mode_derive};
 use crate::nodes::{BwPlaced, bw_node_at, bw_slice_nodes};
-use crate::outlines::{bw_outline_check, bw_outline_length, bw_outline_new, bw_outline_slice};
-use crate::sizes::bw_slice_len;
-use crate::writing::{
-    bw_cut_slice, bw_encode, bw_encoded_len, bw_outboard, bw_outboard_len, bw_slice,
+use crate::outlines::{
+    BwChunks, bw_outline_check, bw_outline_length, bw_outline_new, bw_outline_slice,
 };
+use crate::sizes::bw_slice_len;
+use crate::slice::BwSlice;
+use crate::writing::{bw_cut_slice, bw_encode, bw_encoded_len, bw_outboard, bw_outboard_len};
 use std::alloc::Global;
 
 pub fn version_determined() -> (u32, u32)
@@ -28,20 +29,7 @@ pub fn version_determined() -> (u32, u32)
     (bw_version(), bw_version())
 }
 
-pub fn is_memory_determined(status: u32) -> (u32, u32)
-    ensures { result.0 ≡ result.1 }
-{
-    (bw_is_memory(status), bw_is_memory(status))
-}
-
-pub fn hash_determined(mode: &BwMode, bytes: &[u8], ours: &mut [u8; 32], theirs: &mut [u8; 32])
-    ensures { ours.new ≡ theirs.new }
-{
-    bw_hash(mode, bytes, ours);
-    bw_hash(mode, bytes, theirs);
-}
-
-pub fn xof_determined(
+pub fn hash_determined(
     mode: &BwMode,
     bytes: &[u8],
     at: u64,
@@ -53,24 +41,8 @@ pub fn xof_determined(
     ensures output { ours.new ≡ theirs.new }
 {
     (
-        bw_xof(mode, bytes, at, ours),
-        bw_xof(mode, bytes, at, theirs),
-    )
-}
-
-pub fn derive_key_determined(
-    context: &[u8],
-    material: &[u8],
-    ours: &mut [u8],
-    theirs: &mut [u8],
-) -> (u32, u32)
-    requires { ours.old ≡ theirs.old }
-    ensures status { result.0 ≡ result.1 }
-    ensures key { ours.new ≡ theirs.new }
-{
-    (
-        bw_derive_key(context, material, ours),
-        bw_derive_key(context, material, theirs),
+        bw_hash(mode, bytes, at, ours),
+        bw_hash(mode, bytes, at, theirs),
     )
 }
 
@@ -189,29 +161,6 @@ pub fn outboard_determined(
     (one, other)
 }
 
-pub fn slice_determined(
-    alloc: Global,
-    mode: &BwMode,
-    bytes: &[u8],
-    start: u64,
-    len: u64,
-    ours: &mut [u8],
-    theirs: &mut [u8],
-    used: &mut usize,
-    also: &mut usize,
-    root: &mut [u8; 32],
-    its: &mut [u8; 32],
-) -> (u32, u32)
-    requires { ours.old ≡ theirs.old }
-    ensures status { (result.0 ≡ result.1) ⊎ (result.0 ≡ 401) ⊎ (result.1 ≡ 401) }
-    ensures text { result.0 ≡ result.1 → ours.new ≡ theirs.new }
-    ensures used { result.0 ≡ 0 → result.1 ≡ 0 → (used.new ≡ also.new) × (root.new ≡ its.new) }
-{
-    let one = bw_slice(alloc, mode, bytes, start, len, ours, used, root);
-    let other = bw_slice(alloc, mode, bytes, start, len, theirs, also, its);
-    (one, other)
-}
-
 pub fn cut_slice_determined(
     alloc: Global,
     text: &[u8],
@@ -233,60 +182,24 @@ pub fn cut_slice_determined(
 }
 
 // Whether an encoding is accepted. That its first fault is determined is a law of `bao_check`.
-pub fn check_slice_determined(
+pub fn check_determined(
     alloc: Global,
-    mode: &BwMode,
-    root: &[u8; 32],
-    start: u64,
-    len: u64,
+    slice: &BwSlice,
     text: &[u8],
     at: &mut u64,
     place: &mut u64,
 ) -> (u32, u32)
     ensures { result.0 ≡ 0 ↔ result.1 ≡ 0 }
 {
-    let one = bw_check_slice(alloc, mode, root, start, len, text, at);
-    let other = bw_check_slice(alloc, mode, root, start, len, text, place);
-    (one, other)
-}
-
-pub fn check_combined_determined(
-    alloc: Global,
-    mode: &BwMode,
-    root: &[u8; 32],
-    text: &[u8],
-    at: &mut u64,
-    place: &mut u64,
-) -> (u32, u32)
-    ensures { result.0 ≡ 0 ↔ result.1 ≡ 0 }
-{
-    let one = bw_check_combined(alloc, mode, root, text, at);
-    let other = bw_check_combined(alloc, mode, root, text, place);
-    (one, other)
-}
-
-pub fn check_outboard_determined(
-    alloc: Global,
-    mode: &BwMode,
-    root: &[u8; 32],
-    text: &[u8],
-    at: &mut u64,
-    place: &mut u64,
-) -> (u32, u32)
-    ensures { result.0 ≡ 0 ↔ result.1 ≡ 0 }
-{
-    let one = bw_check_outboard(alloc, mode, root, text, at);
-    let other = bw_check_outboard(alloc, mode, root, text, place);
+    let one = bw_check(alloc, slice, text, at);
+    let other = bw_check(alloc, slice, text, place);
     (one, other)
 }
 
 // What an encoding is decoded to. That its first fault is determined is a law of `bao_check`.
 pub fn decode_determined(
     alloc: Global,
-    mode: &BwMode,
-    root: &[u8; 32],
-    start: u64,
-    len: u64,
+    slice: &BwSlice,
     text: &[u8],
     ours: &mut [u8],
     theirs: &mut [u8],
@@ -304,10 +217,8 @@ pub fn decode_determined(
     ensures used { ((result.0 ≡ 0) ⊎ (result.0 ≡ 1201)) → used.new ≡ also.new }
     ensures total { result.0 ≡ 0 → total.new ≡ its.new }
 {
-    let one = bw_decode(alloc, mode, root, start, len, text, ours, used, total, at);
-    let other = bw_decode(
-        alloc, mode, root, start, len, text, theirs, also, its, place,
-    );
+    let one = bw_decode(alloc, slice, text, ours, used, total, at);
+    let other = bw_decode(alloc, slice, text, theirs, also, its, place);
     (one, other)
 }
 
@@ -350,8 +261,7 @@ pub fn outline_length_determined(
 pub fn outline_check_determined(
     alloc: Global,
     outline: &mut BwHandle,
-    first: u64,
-    count: u64,
+    which: &BwChunks,
     chunks: &[u8],
     at: &mut u64,
     place: &mut u64,
@@ -360,8 +270,8 @@ pub fn outline_check_determined(
     ensures chunks { result.0 ≡ 1210 ↔ result.1 ≡ 1210 }
     ensures no_outline { result.0 ≡ 1202 ↔ result.1 ≡ 1202 }
 {
-    let one = bw_outline_check(alloc, outline, first, count, chunks, at);
-    let other = bw_outline_check(alloc, outline, first, count, chunks, place);
+    let one = bw_outline_check(alloc, outline, which, chunks, at);
+    let other = bw_outline_check(alloc, outline, which, chunks, place);
     (one, other)
 }
 
@@ -369,8 +279,7 @@ pub fn outline_check_determined(
 pub fn outline_slice_determined(
     alloc: Global,
     outline: &mut BwHandle,
-    first: u64,
-    count: u64,
+    which: &BwChunks,
     chunks: &[u8],
     ours: &mut [u8],
     theirs: &mut [u8],
@@ -384,8 +293,8 @@ pub fn outline_slice_determined(
     ensures chunks { result.0 ≡ 1210 ↔ result.1 ≡ 1210 }
     ensures no_outline { result.0 ≡ 1202 ↔ result.1 ≡ 1202 }
 {
-    let one = bw_outline_slice(alloc, outline, first, count, chunks, ours, used, at);
-    let other = bw_outline_slice(alloc, outline, first, count, chunks, theirs, also, place);
+    let one = bw_outline_slice(alloc, outline, which, chunks, ours, used, at);
+    let other = bw_outline_slice(alloc, outline, which, chunks, theirs, also, place);
     (one, other)
 }
 
@@ -408,13 +317,16 @@ pub fn hasher_finish_determined(
     alloc: Global,
     a: &mut BwHandle,
     b: &mut BwHandle,
-    ours: &mut [u8; 32],
-    theirs: &mut [u8; 32],
+    at: u64,
+    ours: &mut [u8],
+    theirs: &mut [u8],
 ) -> (u32, u32)
-    ensures { (mode : Mode) (s : List ℕ) → HoldsIn a.old.held mode s → HoldsIn b.old.held mode s → ours.new ≡ theirs.new }
+    requires { length ours.old ≡ length theirs.old }
+    ensures fits { result.0 ≡ 1208 ↔ result.1 ≡ 1208 }
+    ensures output { result.0 ≡ 0 → result.1 ≡ 0 → (mode : Mode) (s : List ℕ) → HoldsIn a.old.held mode s → HoldsIn b.old.held mode s → ours.new ≡ theirs.new }
 {
     (
-        bw_hasher_finish(alloc, a, ours),
-        bw_hasher_finish(alloc, b, theirs),
+        bw_hasher_finish(alloc, a, at, ours),
+        bw_hasher_finish(alloc, b, at, theirs),
     )
 }

@@ -1,10 +1,8 @@
 //! The C library: the functions that `c/berylwool.h` declares.
 //!
-//! Each function calls one of a library, and its contract repeats that function's. A status is 0 or the number
-//! of a fault. No call checks the rules that the header sets for its callers.
-//!
-//! The slice (`start`, `len`) of a blob has the chunks with its bytes from `start` up to `start + len`, and the
-//! parents above them: a `len` of 0 counts as 1, and a `start` at or past the end selects the last chunk.
+//! Each function calls one of a library, and its contract repeats that function's. The header says in words what each
+//! returns and writes, what a slice (`start`, `len`) is, and which rules its callers keep, which no call checks. A status
+//! is 0 or the number of a fault.
 #![tactic(auto)]
 
 mod about;
@@ -23,7 +21,6 @@ mod laws;
 mod loose;
 mod mode;
 mod nodes;
-mod outboards;
 mod outlined;
 mod outlines;
 mod owned;
@@ -33,6 +30,7 @@ mod room;
 mod seats;
 mod serving;
 mod sizes;
+mod slice;
 mod slicing;
 mod status;
 mod storing;

@@ -39,10 +39,6 @@ impl BwMode {
 }
 
 /// Makes the mode that derives keys for the purpose that `context` names.
-///
-/// In this mode the hash and the extended output are the keys that `bw_derive_key` returns. Its `key` is made
-/// from the context alone, and isn't secret. Returns 1207 exactly if `context` isn't UTF-8; `mode` is then
-/// unchanged.
 #[unsafe(no_mangle)]
 pub extern "C" fn bw_mode_derive(context: &[u8], mode: &mut BwMode) -> u32
     ensures text { result ≡ 0 ↔ IsUtf8 context.now }

@@ -138,10 +138,6 @@ fn put_subtree(
 
 /// Lists the nodes of the slice (`start`, `len`) of a blob of `total` bytes, in the order of its encoding, at
 /// the front of `out`, with their number in `count`.
-///
-/// A slice of n chunks has at most 2 n + 105 nodes. Returns 201 exactly if the combined encoding is longer than
-/// 2^64 - 1 bytes; nothing is then changed. Otherwise returns 1201 exactly if `out` is too small; `count` is
-/// then unchanged, and some of `out` may have been written.
 #[unsafe(no_mangle)]
 pub extern "C" fn bw_slice_nodes(
     total: u64,
@@ -262,11 +258,6 @@ fn found_or_none(found: Result<BwPlaced, u64>) -> BwPlaced
 
 /// Finds the node that byte `at` of the encoding of the slice (`start`, `len`) belongs to, for a blob of
 /// `total` bytes.
-///
-/// `node` is as `bw_slice_nodes` lists it. Below 8 it is the length, with the kind 2, the size 8, and all else
-/// 0. From the end of the encoding on it is no node, with the kind 3 and all else 0. The chunk of an empty blob
-/// is at 8. Returns 201 exactly if the combined encoding is longer than 2^64 - 1 bytes; `node` is then
-/// unchanged.
 #[unsafe(no_mangle)]
 pub extern "C" fn bw_node_at(total: u64, start: u64, len: u64, at: u64, node: &mut BwPlaced) -> u32
     ensures node { result ≡ 0 → node.new ≡ placed_at total start len at }

@@ -31,7 +31,7 @@ fn copy(alloc: Global, bytes: &[u8]) -> Result<Vec<u8>, AllocError>
 }
 
 // Makes an empty handle own an outline.
-pub(crate) fn put_outline(alloc: Global, it: Outlined, outline: &mut BwHandle) -> u32
+fn put_outline(alloc: Global, it: Outlined, outline: &mut BwHandle) -> u32
     requires { outline.old.held ≡ None }
     ensures made { result ≡ 0 → HasOutline (λ its. its ≡ it) outline.new.held }
     ensures status { result ≢ 0 → result ≡ 1203 }
@@ -51,13 +51,6 @@ pub(crate) fn put_outline(alloc: Global, it: Outlined, outline: &mut BwHandle) -
 
 /// Checks `outboard` as the outboard encoding of the blob with the hash `root`, and makes an outline of a copy
 /// of it.
-///
-/// Beside an outline, bytes of plain copies are checked, made into slices and stored, at the cost of these
-/// bytes alone. What the handle owned is freed.
-///
-/// Returns 1213 exactly if the mode's kind is unknown, 501 to 503 as `bw_check_outboard` does, with the offset
-/// in `at`, exactly if the encoding isn't accepted, and 1203 if out of memory. After any of these, the handle
-/// is empty.
 #[unsafe(no_mangle)]
 pub extern "C" fn bw_outline_new(
     alloc: Global,
@@ -88,9 +81,6 @@ pub extern "C" fn bw_outline_new(
 }
 
 /// Makes `other` a second handle of the same outline, which isn't copied and is freed with its last handle.
-///
-/// What `other` owned is freed. Returns 1203 if out of memory, or 1202 exactly if `outline` has no outline;
-/// `other` is then empty. `outline` is unchanged.
 #[unsafe(no_mangle)]
 pub extern "C" fn bw_outline_share(
     alloc: Global,
@@ -117,9 +107,6 @@ pub extern "C" fn bw_outline_share(
 }
 
 /// Returns in `len` the blob's length that an outline claims.
-///
-/// An outboard encoding alone doesn't certify it; the last chunk, checked beside it, does. Returns 0, or 1202
-/// exactly if the handle has no outline; `len` is then unchanged.
 #[unsafe(no_mangle)]
 pub extern "C" fn bw_outline_length(alloc: Global, outline: &mut BwHandle, len: &mut u64) -> u32
     ensures value { result ≡ 0 → HasOutline (λ it. len.new ≡ claimed (outlined_text it)) outline.old.held }
@@ -132,6 +119,14 @@ pub extern "C" fn bw_outline_length(alloc: Global, outline: &mut BwHandle, len: 
         *len = it.claimed();
         0
     })
+}
+
+/// The `count` chunks of a blob from chunk `first` on, as C names them.
+#[repr(C)]
+#[derive(Clone, Copy)]
+pub struct BwChunks {
+    pub first: u64,
+    pub count: u64,
 }
 
 // Checks chunks beside an outline, as `bw_outline_check` does.
@@ -151,32 +146,27 @@ fn checked(it: &Outlined, first: u64, count: u64, chunks: &[u8], at: &mut u64) -
     }
 }
 
-/// Checks `chunks` as chunks `first` to `first + count - 1` of the blob that the outline is of.
-///
-/// Returns 0 exactly if they are accepted, and 1210 exactly if `count` is 0 or the length that the outline
-/// claims doesn't have all of these chunks. Otherwise returns the first fault of `chunks`, 501 to 503, with its
-/// offset in `chunks` in `at`. Returns 1202 exactly if the handle has no outline. No memory is taken.
+/// Checks `chunks` as those chunks of the blob that `which` names.
 #[unsafe(no_mangle)]
 pub extern "C" fn bw_outline_check(
     alloc: Global,
     outline: &mut BwHandle,
-    first: u64,
-    count: u64,
+    which: &BwChunks,
     chunks: &[u8],
     at: &mut u64,
 ) -> u32
-    ensures accepted { result ≡ 0 ↔ HasOutline (AreBeside first count chunks.now) outline.old.held }
-    ensures chunks { result ≡ 1210 ↔ HasOutline (λ it. ¬ HasChunks (outlined_text it) first count) outline.old.held }
+    ensures accepted { result ≡ 0 ↔ HasOutline (AreBeside which.now.first which.now.count chunks.now) outline.old.held }
+    ensures chunks { result ≡ 1210 ↔ HasOutline (λ it. ¬ HasChunks (outlined_text it) which.now.first which.now.count) outline.old.held }
     ensures no_outline { result ≡ 1202 ↔ (¬ HasOutline (λ _. Unit) outline.old.held) }
     ensures status { 505 < result → result ≢ 1202 → result ≡ 1210 }
-    ensures fault { result ≢ 0 → result < 506 → HasOutline (AreNotBeside first count chunks.now result at.new) outline.old.held }
+    ensures fault { result ≢ 0 → result < 506 → HasOutline (AreNotBeside which.now.first which.now.count chunks.now result at.new) outline.old.held }
     ensures same { outline.new.held ≡ outline.old.held }
 {
     with_held!(
         outline,
         alloc,
         Outline,
-        |it| checked(it, first, count, chunks, at)
+        |it| checked(it, which.first, which.count, chunks, at)
     )
 }
 
@@ -229,33 +219,28 @@ fn sliced(
 
 /// Checks `chunks` as `bw_outline_check` does, and writes their slice (1,024 * `first`, 1,024 * `count`) to the
 /// front of `out`, with its length in `used`.
-///
-/// The slice is accepted under the outline's root. Returns the faults of `bw_outline_check` first. Then returns
-/// 1201 exactly if the slice is longer than `out`, with its length in `used`, and 401 if out of memory. Returns
-/// 1202 exactly if the handle has no outline. After any of these, `out` is unchanged.
 #[unsafe(no_mangle)]
 pub extern "C" fn bw_outline_slice(
     alloc: Global,
     outline: &mut BwHandle,
-    first: u64,
-    count: u64,
+    which: &BwChunks,
     chunks: &[u8],
     out: &mut [u8],
     used: &mut usize,
     at: &mut u64,
 ) -> u32
-    ensures text { result ≡ 0 → HasOutline (λ it. out.new ≡ bare_text (outlined_text it) first count chunks.now ++ drop used.new out.old) outline.old.held }
-    ensures used { result ≡ 0 → HasOutline (λ it. used.new ≡ length (bare_text (outlined_text it) first count chunks.now)) outline.old.held }
-    ensures slice { result ≡ 0 → HasOutline (λ it. IsAccepted (outlined_mode it) (outlined_root it) (bare_text (outlined_text it) first count chunks.now)
-        (slice_nodes (bare_text (outlined_text it) first count chunks.now) (1024 * first) (bare_part count))) outline.old.held }
-    ensures accepted { ((result ≡ 0) ⊎ (result ≡ 401) ⊎ (result ≡ 1201)) ↔ HasOutline (AreBeside first count chunks.now) outline.old.held }
-    ensures room { result ≡ 1201 → HasOutline (λ it. length out.old < length (bare_text (outlined_text it) first count chunks.now)) outline.old.held }
-    ensures fits { ((result ≡ 0) ⊎ (result ≡ 401)) → HasOutline (λ it. length (bare_text (outlined_text it) first count chunks.now) ≤ length out.old) outline.old.held }
-    ensures needed { result ≡ 1201 → HasOutline (λ it. used.new ≡ min (length (bare_text (outlined_text it) first count chunks.now)) (2 ^ 64 - 1)) outline.old.held }
-    ensures chunks { result ≡ 1210 ↔ HasOutline (λ it. ¬ HasChunks (outlined_text it) first count) outline.old.held }
+    ensures text { result ≡ 0 → HasOutline (λ it. out.new ≡ bare_text (outlined_text it) which.now.first which.now.count chunks.now ++ drop used.new out.old) outline.old.held }
+    ensures used { result ≡ 0 → HasOutline (λ it. used.new ≡ length (bare_text (outlined_text it) which.now.first which.now.count chunks.now)) outline.old.held }
+    ensures slice { result ≡ 0 → HasOutline (λ it. IsAccepted (outlined_mode it) (outlined_root it) (bare_text (outlined_text it) which.now.first which.now.count chunks.now)
+        (slice_nodes (bare_text (outlined_text it) which.now.first which.now.count chunks.now) (1024 * which.now.first) (bare_part which.now.count))) outline.old.held }
+    ensures accepted { ((result ≡ 0) ⊎ (result ≡ 401) ⊎ (result ≡ 1201)) ↔ HasOutline (AreBeside which.now.first which.now.count chunks.now) outline.old.held }
+    ensures room { result ≡ 1201 → HasOutline (λ it. length out.old < length (bare_text (outlined_text it) which.now.first which.now.count chunks.now)) outline.old.held }
+    ensures fits { ((result ≡ 0) ⊎ (result ≡ 401)) → HasOutline (λ it. length (bare_text (outlined_text it) which.now.first which.now.count chunks.now) ≤ length out.old) outline.old.held }
+    ensures needed { result ≡ 1201 → HasOutline (λ it. used.new ≡ min (length (bare_text (outlined_text it) which.now.first which.now.count chunks.now)) (2 ^ 64 - 1)) outline.old.held }
+    ensures chunks { result ≡ 1210 ↔ HasOutline (λ it. ¬ HasChunks (outlined_text it) which.now.first which.now.count) outline.old.held }
     ensures no_outline { result ≡ 1202 ↔ (¬ HasOutline (λ _. Unit) outline.old.held) }
     ensures status { 505 < result → result ≢ 1201 → result ≢ 1202 → result ≡ 1210 }
-    ensures fault { 401 < result → result < 506 → HasOutline (AreNotBeside first count chunks.now result at.new) outline.old.held }
+    ensures fault { 401 < result → result < 506 → HasOutline (AreNotBeside which.now.first which.now.count chunks.now result at.new) outline.old.held }
     ensures same { result ≢ 0 → out.new ≡ out.old }
     ensures kept { outline.new.held ≡ outline.old.held }
 {
@@ -263,6 +248,6 @@ pub extern "C" fn bw_outline_slice(
         outline,
         alloc,
         Outline,
-        |it| sliced(alloc, it, first, count, chunks, out, used, at)
+        |it| sliced(alloc, it, which.first, which.count, chunks, out, used, at)
     )
 }

@@ -1,7 +1,6 @@
 use crate::outlined::Outlined;
 use b3tree::Hasher;
 use bao_check::Checking;
-use bao_feed::OutboardFeed;
 use bao_plan::Plan;
 use std::alloc::Global;
 use std::sync::Arc;
@@ -19,7 +18,6 @@ pub struct Seated {
 pub enum Held {
     Hasher(Hasher),
     Feed(Checking),
-    Outboard(OutboardFeed),
     Seat(Seated),
     Outline(Arc<Outlined, Global>),
     Plan(Plan),

@@ -114,8 +114,6 @@ fn place_status(plan: &Plan, holder: usize, group: u64) -> u32
 }
 
 /// Makes a plan of a blob of `total` bytes that lacks every chunk and has no holder.
-///
-/// What the handle owned is freed. Returns 1203 if out of memory; the handle is then empty.
 #[unsafe(no_mangle)]
 pub extern "C" fn bw_plan_new(
     alloc: Global,
@@ -141,9 +139,6 @@ pub extern "C" fn bw_plan_new(
 }
 
 /// Adds a holder that may have every chunk, and returns its number in `holder`: 0, 1, 2 and so on.
-///
-/// Returns 1203 if out of memory, or 1202 exactly if the handle has no plan; the plan and `holder` are then
-/// unchanged.
 #[unsafe(no_mangle)]
 pub extern "C" fn bw_plan_add_holder(alloc: Global, plan: &mut BwHandle, holder: &mut usize) -> u32
     ensures did { result ≡ 0 → PlanDid (λ old new. Did old new Added × (holder.new ≡ old.count)) plan.old.held plan.new.held }
@@ -162,9 +157,6 @@ pub extern "C" fn bw_plan_add_holder(alloc: Global, plan: &mut BwHandle, holder:
 }
 
 /// Decides what to do next with a holder at the moment `now_ms`, and returns it in `next`.
-///
-/// The chunks of a request are under way at the holder until `bw_plan_ended`. Returns 1202 if the handle has no
-/// plan, else 1214 if the plan has no such holder; the plan and `next` are then unchanged.
 #[unsafe(no_mangle)]
 pub extern "C" fn bw_plan_ask(
     alloc: Global,
@@ -188,9 +180,6 @@ pub extern "C" fn bw_plan_ask(
 
 /// Reports chunks of a group that a holder gave truly. Those of them that were lacking, and no longer are, are
 /// in `taken`.
-///
-/// Returns 1202 if the handle has no plan, else 1214 if the plan has no such holder, else 803 if it has no such
-/// group; the plan and `taken` are then unchanged.
 #[unsafe(no_mangle)]
 pub extern "C" fn bw_plan_kept(
     alloc: Global,
@@ -214,9 +203,6 @@ pub extern "C" fn bw_plan_kept(
 }
 
 /// Reports chunks of a group that a holder gave falsely.
-///
-/// Returns 1202 if the handle has no plan, else 1214 if the plan has no such holder, else 803 if it has no such
-/// group; the plan is then unchanged.
 #[unsafe(no_mangle)]
 pub extern "C" fn bw_plan_refused(
     alloc: Global,
@@ -239,9 +225,6 @@ pub extern "C" fn bw_plan_refused(
 }
 
 /// Reports chunks of a group that a holder says it lacks.
-///
-/// Returns 1202 if the handle has no plan, else 1214 if the plan has no such holder, else 803 if it has no such
-/// group; the plan is then unchanged.
 #[unsafe(no_mangle)]
 pub extern "C" fn bw_plan_lacks(
     alloc: Global,
@@ -264,9 +247,6 @@ pub extern "C" fn bw_plan_lacks(
 }
 
 /// Reports chunks of a group that a holder says it has.
-///
-/// Returns 1202 if the handle has no plan, else 1214 if the plan has no such holder, else 803 if it has no such
-/// group; the plan is then unchanged.
 #[unsafe(no_mangle)]
 pub extern "C" fn bw_plan_has(
     alloc: Global,
@@ -289,11 +269,6 @@ pub extern "C" fn bw_plan_has(
 }
 
 /// Reports the end of the request of `count` chunks from `first` on.
-///
-/// `outcome` is 1 if the holder wants to be asked again after `later_ms`, 2 if the caller gave the request up,
-/// and any other number for any other end. `failed` is 1 if the end counts as a failure, else 0. Returns 1202
-/// if the handle has no plan, else 1214 if the plan has no such holder, else 1215 if no such request is under
-/// way; the plan and `failed` are then unchanged.
 #[unsafe(no_mangle)]
 pub extern "C" fn bw_plan_ended(
     alloc: Global,
@@ -332,9 +307,6 @@ pub extern "C" fn bw_plan_ended(
 
 /// Ranks a holder: from now on it is asked only for chunks that no holder of a lower rank may have that may be
 /// asked at that time.
-///
-/// Returns 1202 if the handle has no plan, else 1214 if the plan has no such holder; the plan is then
-/// unchanged.
 #[unsafe(no_mangle)]
 pub extern "C" fn bw_plan_rank(alloc: Global, plan: &mut BwHandle, holder: usize, rank: u32) -> u32
     ensures did { result ≡ 0 → PlanDid (λ old new. Did old new (Ranked holder rank)) plan.old.held plan.new.held }
@@ -351,9 +323,6 @@ pub extern "C" fn bw_plan_rank(alloc: Global, plan: &mut BwHandle, holder: usize
 }
 
 /// Forgets a holder's failures in a row.
-///
-/// Returns 1202 if the handle has no plan, else 1214 if the plan has no such holder; the plan is then
-/// unchanged.
 #[unsafe(no_mangle)]
 pub extern "C" fn bw_plan_forgive(alloc: Global, plan: &mut BwHandle, holder: usize) -> u32
     ensures did { result ≡ 0 → PlanDid (λ old new. Did old new (Forgiven holder)) plan.old.held plan.new.held }
@@ -370,8 +339,6 @@ pub extern "C" fn bw_plan_forgive(alloc: Global, plan: &mut BwHandle, holder: us
 }
 
 /// Returns whether a holder is left out, as 1 or 0 in `is`.
-///
-/// Returns 1202 if the handle has no plan, else 1214 if the plan has no such holder; `is` is then unchanged.
 #[unsafe(no_mangle)]
 pub extern "C" fn bw_plan_is_left_out(
     alloc: Global,
@@ -395,8 +362,6 @@ pub extern "C" fn bw_plan_is_left_out(
 }
 
 /// Limits requests to chunks below `end` from now on.
-///
-/// Returns 1202 exactly if the handle has no plan; the handle is then unchanged.
 #[unsafe(no_mangle)]
 pub extern "C" fn bw_plan_limit(alloc: Global, plan: &mut BwHandle, end: u64) -> u32
     ensures did { result ≡ 0 → PlanDid (λ old new. Did old new (Limited end)) plan.old.held plan.new.held }
@@ -410,8 +375,6 @@ pub extern "C" fn bw_plan_limit(alloc: Global, plan: &mut BwHandle, end: u64) ->
 }
 
 /// Returns whether no chunk is lacking, as 1 or 0 in `is`.
-///
-/// Returns 1202 exactly if the handle has no plan; `is` is then unchanged.
 #[unsafe(no_mangle)]
 pub extern "C" fn bw_plan_is_done(alloc: Global, plan: &mut BwHandle, is: &mut u32) -> u32
     ensures is { result ≡ 0 → HasPlan (λ s. is.new ≡ 1 ↔ ((c : ℕ) → s.is_open c ≡ false)) plan.old.held }
@@ -427,8 +390,6 @@ pub extern "C" fn bw_plan_is_done(alloc: Global, plan: &mut BwHandle, is: &mut u
 }
 
 /// Returns the chunks of a group that are lacking, in `mask`.
-///
-/// Returns 1202 if the handle has no plan, else 803 if the plan has no such group; `mask` is then unchanged.
 #[unsafe(no_mangle)]
 pub extern "C" fn bw_plan_lacking(
     alloc: Global,

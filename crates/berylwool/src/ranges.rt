@@ -89,10 +89,6 @@ fn put_nodes(
 
 /// Lists the ranges of the combined encoding of a blob of `total` bytes that are the slice (`start`, `len`), in
 /// order, at the front of `out`, with their number in `count`.
-///
-/// The bytes of these ranges, one after another, are the slice's encoding. No range begins where another ends,
-/// and 55 are always enough. Returns 201 exactly if the combined encoding is longer than 2^64 - 1 bytes.
-/// Returns 1201 if `out` is too small; some of it may then have been written.
 #[unsafe(no_mangle)]
 pub extern "C" fn bw_slice_ranges(
     total: u64,
@@ -163,9 +159,6 @@ fn put_parents(
 
 /// Lists the ranges of the outboard encoding of a blob of `total` bytes that are its length and the parents of
 /// the slice (`start`, `len`), in order, at the front of `out`, with their number in `count`.
-///
-/// No range begins where another ends, and 55 are always enough. Returns 1201 if `out` is too small; some of it
-/// may then have been written.
 #[unsafe(no_mangle)]
 pub extern "C" fn bw_outboard_ranges(
     total: u64,

@@ -1,16 +1,16 @@
 ghost use Rattle.std.specs.Prelude.{◌≡◌, ◌≢◌, ◌↔◌, ◌⊎◌, ◌<◌, ◌≤◌, ◌*◌, ◌-◌, ◌^◌, ℕ, false, true, None, Some, drop, length, take};
-ghost use Rattle.crews.specs.Finished.{Asks};
+ghost use Rattle.gather.specs.FinishCalls.{Asks};
 ghost use Rattle.gather.specs.Finished.{BindsNone, BindsTo, IsFinished, IsOther, IsUnfinished};
 ghost use Rattle.store_core.specs.Histories.{state_after};
 ghost use Rattle.store_core.specs.declared.history.Call.TheVariants.{Give, Length, Settle, Take};
 ghost use Rattle.store_core.specs.declared.history.Settling.TheVariants.{Differs};
-ghost use Rattle.store_core.specs.Pieces.{EndsBlob, length_of};
-ghost use Rattle.store_core.specs.Events.{has_room};
+ghost use Rattle.holders.specs.Pieces.{EndsBlob, length_of};
+ghost use Rattle.holders.specs.Room.{has_room};
 ghost use Rattle.store_shared.specs.Seats.{IsGroupOf, IsSeatOf, fixed_of};
 ghost use Rattle.store_core.specs.Knowledge.{ArePartsOf, Called, opening_view};
 ghost use Rattle.berylwool.specs.Handles.{HasSeat, SeatDid, SeatParts};
 ghost use Rattle.berylwool.specs.Modes.{IsKnown, mode_of};
-ghost use Rattle.berylwool.specs.Calls.{Commits, HasSettled, IsNoSliceOf, IsSliceOf, Reads, slice_piece};
+ghost use Rattle.berylwool.specs.Calls.{HasSettled, IsNoSliceOf, IsSliceOf, Reads, slice_piece};
 
 use crate::checking::told;
 use crate::handle::{BwHandle, put, take, with_held};
@@ -28,42 +28,10 @@ use std::sync::Arc;
 use store_core::Settling;
 use store_shared::{Assembly, Seat};
 
-/// Makes a store of at most `capacity` chunks of a blob, and its first seat, which has seen nothing.
-///
-/// The seats that are split off share the store. What the handle owned is freed. Returns 1213 exactly if the
-/// mode's kind is unknown, before all else, and then 802 unless the capacity is 1 to 65,536 chunks. Returns 801
-/// or 1203 if out of memory. After any of these, the handle is empty.
-#[unsafe(no_mangle)]
-pub extern "C" fn bw_store_new(
-    alloc: Global,
-    mode: &BwMode,
-    root: &[u8; 32],
-    capacity: u32,
-    seat: &mut BwHandle,
-) -> u32
-    ensures fixed { result ≡ 0 → HasSeat (λ store _. fixed_of store ≡ record { root = record { 0 = root.now }; mode = mode_of mode.now; capacity = capacity; base = 0 }) seat.new.held }
-    ensures view { result ≡ 0 → HasSeat (λ store first. first.view ≡ opening_view (fixed_of store)) seat.new.held }
-    ensures unknown { result ≡ 1213 ↔ (¬ IsKnown mode.now) }
-    ensures capacity { result ≡ 802 ↔ (IsKnown mode.now × (¬ ((0 < capacity) × (capacity ≤ 65536)))) }
-    ensures status { result ≢ 0 → result ≢ 801 → result ≢ 802 → result ≢ 1213 → result ≡ 1203 }
-    ensures empty { result ≢ 0 → seat.new.held ≡ None }
-{
-    bw_store_part(alloc, mode, root, 0, capacity, seat)
-}
-
 /// Makes a store of the `capacity` chunks of a blob from chunk `first_chunk` on, and its first seat, which has
 /// seen nothing.
-///
-/// Chunk `first_chunk` of the blob is the store's chunk 0. The store's chunks, groups and offsets are counted
-/// from there, and the range of a slice from the blob's first chunk. Only a store from the blob's first chunk
-/// on records a length, so no other stores parents, serves a slice or finishes a blob. What the handle owned is
-/// freed.
-///
-/// Returns 1213 exactly if the mode's kind is unknown, before all else, and then 802 unless the capacity is 1
-/// to 65,536 chunks and `first_chunk` at most 2^54. Returns 801 or 1203 if out of memory. After any of these,
-/// the handle is empty.
 #[unsafe(no_mangle)]
-pub extern "C" fn bw_store_part(
+pub extern "C" fn bw_seat_new(
     alloc: Global,
     mode: &BwMode,
     root: &[u8; 32],
@@ -100,9 +68,6 @@ pub extern "C" fn bw_store_part(
 }
 
 /// Makes `other` another seat of the store, which has seen the same and has no claims or calls.
-///
-/// `seat` keeps its claims and calls. What `other` owned is freed. Returns 806 or 1203 if out of memory, or
-/// 1202 exactly if `seat` has no seat; `seat` is then unchanged and `other` empty.
 #[unsafe(no_mangle)]
 pub extern "C" fn bw_seat_split(alloc: Global, seat: &mut BwHandle, other: &mut BwHandle) -> u32
     ensures parts { result ≡ 0 → SeatParts (λ old first second. ArePartsOf old.view first.view second.view) seat.old.held seat.new.held other.new.held }
@@ -158,9 +123,6 @@ pub extern "C" fn bw_seat_split(alloc: Global, seat: &mut BwHandle, other: &mut 
 
 /// Claims those chunks of `want` that are below the capacity and neither held nor claimed, and returns their
 /// mask in `granted`.
-///
-/// Bit j stands for chunk 64 * group + j of the store. Returns 803 exactly if the store has no such group, or
-/// 1202 exactly if the handle has no seat; the seat is then unchanged.
 #[unsafe(no_mangle)]
 pub extern "C" fn bw_seat_take(
     alloc: Global,
@@ -190,9 +152,6 @@ pub extern "C" fn bw_seat_take(
 }
 
 /// Ends the seat's claims to chunks of `mask`, and returns the mask of those that it had in `given`.
-///
-/// `given` is 0 if the store has no such group. Returns 0, or 1202 exactly if the handle has no seat, which is
-/// then unchanged.
 #[unsafe(no_mangle)]
 pub extern "C" fn bw_seat_give(
     alloc: Global,
@@ -210,80 +169,6 @@ pub extern "C" fn bw_seat_give(
         *given = it.store.give(&mut it.seat, group, mask);
         0
     })
-}
-
-// Stores what the seat claims, as `bw_seat_commit` does.
-fn committed(
-    alloc: Global,
-    store: &Assembly,
-    seat: &mut Seat,
-    group: u32,
-    start: u64,
-    len: u64,
-    text: &[u8],
-    committed: &mut u64,
-    at: &mut u64,
-) -> u32
-    requires { IsSeatOf store.now seat.old }
-    ensures of { IsSeatOf store.now seat.new }
-    ensures accepted { result ≡ 0 ↔ IsSliceOf store.now text.now start len }
-    ensures fault { result ≢ 0 → IsNoSliceOf store.now text.now start len result at.new }
-    ensures commits { result ≡ 0 → Commits store.now group (slice_piece (fixed_of store.now).base text.now start len) committed.new seat.old seat.new }
-    ensures same { result ≢ 0 → seat.new ≡ seat.old }
-    ensures low { result < 506 }
-{
-    match check_slice(alloc, &store.mode(), &store.root(), start, len, text) {
-        Ok(piece) => {
-            let Ok(mask) = store.commit(seat, group, &piece) else {
-                // The slice was accepted under the store's root, in its mode.
-                unreachable!();
-            };
-            *committed = mask;
-            0
-        }
-        Err(fault) => told(&fault, at),
-    }
-}
-
-/// Checks `text` as the slice (`start`, `len`) under the store's root, stores exactly those chunks of the group
-/// that the seat claims and the slice has, and ends these claims.
-///
-/// `committed` is their mask: 0 if the store has no such group. If the encoding isn't accepted, returns 501 to
-/// 503 as `bw_check_slice` does, with the offset in `at`. Returns 1202 exactly if the handle has no seat. After
-/// either, the seat is unchanged.
-#[unsafe(no_mangle)]
-pub extern "C" fn bw_seat_commit(
-    alloc: Global,
-    seat: &mut BwHandle,
-    group: u32,
-    start: u64,
-    len: u64,
-    text: &[u8],
-    committed: &mut u64,
-    at: &mut u64,
-) -> u32
-    ensures commits { result ≡ 0 → SeatDid (λ store old new. Commits store group (slice_piece (fixed_of store).base text.now start len) committed.new old new) seat.old.held seat.new.held }
-    ensures accepted { result ≡ 0 ↔ HasSeat (λ store _. IsSliceOf store text.now start len) seat.old.held }
-    ensures fault { result ≢ 0 → result ≢ 1202 → HasSeat (λ store _. IsNoSliceOf store text.now start len result at.new) seat.old.held }
-    ensures no_seat { result ≡ 1202 ↔ (¬ HasSeat (λ _ _. Unit) seat.old.held) }
-    ensures same { result ≢ 0 → seat.new.held ≡ seat.old.held }
-{
-    with_held!(
-        seat,
-        alloc,
-        Seat,
-        |it| self::committed(
-            alloc,
-            &it.store,
-            &mut it.seat,
-            group,
-            start,
-            len,
-            text,
-            committed,
-            at,
-        )
-    )
 }
 
 // Settles the length, as `bw_seat_settle` does.
@@ -319,12 +204,6 @@ fn settled(alloc: Global, store: &Assembly, seat: &mut Seat, text: &[u8], at: &m
 
 /// Checks `text` as the slice (2^64 - 1, 1), which has the last chunk, under the store's root, and records the
 /// length that it certifies, if none is recorded.
-///
-/// Returns 0 if that length is now recorded, by this call or before. If the encoding isn't accepted, returns
-/// 501 to 503 as `bw_check_slice` does, with the offset in `at`. Returns 1205 if the encoding lacks the last
-/// chunk of its length, 805 if the length is above 1,024 times the capacity or the store's first chunk isn't
-/// the blob's, and 1202 exactly if the handle has no seat. After any of these, the seat is unchanged. Returns
-/// 1206 if another length is recorded, which stays.
 #[unsafe(no_mangle)]
 pub extern "C" fn bw_seat_settle(
     alloc: Global,
@@ -352,9 +231,6 @@ pub extern "C" fn bw_seat_settle(
 }
 
 /// Returns the recorded length of the blob in `len`.
-///
-/// Returns 901 if none is recorded, as in every store whose first chunk isn't the blob's, and 1202 exactly if
-/// the handle has no seat, which is then unchanged.
 #[unsafe(no_mangle)]
 pub extern "C" fn bw_seat_length(alloc: Global, seat: &mut BwHandle, len: &mut u64) -> u32
     ensures called { result ≡ 0 → SeatDid (λ _ old new. Called (Length (Some len.new)) old.view new.view) seat.old.held seat.new.held }
@@ -397,10 +273,6 @@ fn filled(store: &Assembly, seat: &mut Seat, at: u64, out: &mut [u8], missing: &
 
 /// Fills `out` with the bytes from offset `at` of the store on, which is byte `at` of the blob if the store's
 /// first chunk is the blob's.
-///
-/// Returns 1204 if one of them isn't held, with the offset of the first such byte in `missing`; the bytes
-/// before it are filled in, and the rest of `out` is unchanged. Returns 1202 exactly if the handle has no seat,
-/// which is then unchanged.
 #[unsafe(no_mangle)]
 pub extern "C" fn bw_seat_read(
     alloc: Global,
@@ -463,12 +335,6 @@ fn finished(store: &Assembly, seat: &mut Seat, out: &mut [u8], used: &mut usize)
 
 /// Copies the whole blob to the front of `out`, with its length in `used`, if the hash of its bytes is the
 /// root.
-///
-/// The seat asks for the length, and then reads at most once. No memory is taken. Returns 901 if no length is
-/// recorded, as in every store whose first chunk isn't the blob's, or a byte isn't held. Returns 1201 if the
-/// recorded length is above that of `out`, before any byte is read, with that length in `used`. Returns 902 if
-/// all bytes are held and their hash isn't the root, and 1202 exactly if the handle has no seat. After 901 and
-/// 902, `out` may have been written.
 #[unsafe(no_mangle)]
 pub extern "C" fn bw_seat_finish(
     alloc: Global,

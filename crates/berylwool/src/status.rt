@@ -60,16 +60,13 @@ pub(crate) const NOT_UTF8: u32 = 1207;
 /// The output asked for ends above 2^64 - 1. Number 1208.
 pub(crate) const PAST_OUTPUT: u32 = 1208;
 
-/// The outboard encoding beside the chunks isn't accepted. Number 1209.
-pub(crate) const NO_OUTBOARD: u32 = 1209;
-
 /// The blob doesn't have so many chunks there. Number 1210.
 pub(crate) const NO_CHUNKS: u32 = 1210;
 
 /// The seats' stores differ in root, mode, capacity or first chunk. Number 1211.
 pub(crate) const OTHER_STORE: u32 = 1211;
 
-/// The number of bytes isn't what a check in pieces takes. Number 1212.
+/// A check in pieces has to take the next node first. Number 1212.
 pub(crate) const OTHER_SIZE: u32 = 1212;
 
 /// The mode's kind is unknown. Number 1213.

@@ -1,8 +1,8 @@
 ghost use Rattle.std.specs.Prelude.{◌≡◌, ◌≢◌, ◌↔◌, ◌⊎◌, ◌<◌};
-ghost use Rattle.crews.specs.Lasting.{RecordsOn};
-ghost use Rattle.store_core.specs.Machine.{groups};
+ghost use Rattle.gather.specs.SeatLasting.{RecordsOn};
+ghost use Rattle.holders.specs.Room.{groups};
 ghost use Rattle.store_core.specs.Masks.{IsMaskOf};
-ghost use Rattle.store_core.specs.Pieces.{holds_chunk, length_of, piece_of};
+ghost use Rattle.holders.specs.Pieces.{holds_chunk, length_of, piece_of};
 ghost use Rattle.store_core.specs.Stores.{IsOf};
 ghost use Rattle.store_shared.specs.Seats.{IsGroupOf, IsSeatOf, fixed_of};
 ghost use Rattle.berylwool.specs.Calls.{IsNoSliceOf, IsSliceOf, slice_piece};
@@ -14,6 +14,7 @@ use crate::checking::told;
 use crate::handle::{BwHandle, put, take, with_held};
 use crate::joining::fixed;
 use crate::outlined::Outlined;
+use crate::outlines::BwChunks;
 use crate::owned::Held;
 use crate::status::{NO_CHUNKS, NO_HANDLE, OTHER_LENGTH, OTHER_ROOT};
 use bao_check::{Checked, bare_fits, check_bare, check_slice};
@@ -127,7 +128,7 @@ fn stored_piece(
     0
 }
 
-// Stores all that an encoding has, as `bw_seat_commit_all` does.
+// Stores all that an encoding has, as `bw_seat_commit` does.
 fn stored_all(
     alloc: Global,
     store: &Assembly,
@@ -156,17 +157,8 @@ fn stored_all(
 }
 
 /// Checks `text` as the slice (`start`, `len`) under the store's root, and stores all that it has.
-///
-/// That is each of its chunks, of any group, that nobody holds and no other seat claims, and each of its
-/// parents that nobody holds or is storing; `committed` and `parents` are how many of each were stored.
-/// Afterwards the seat claims none of the slice's chunks. No memory is taken.
-///
-/// If the encoding isn't accepted, returns 501 to 503 as `bw_check_slice` does, with the offset in `at`, and
-/// 1202 exactly if the handle has no seat; the seat is then unchanged. Returns 807, with nothing stored, if the
-/// encoding claims another length than the recorded one, or none is recorded, as in every store whose first
-/// chunk isn't the blob's. `bw_seat_commit_chunks` needs no length.
 #[unsafe(no_mangle)]
-pub extern "C" fn bw_seat_commit_all(
+pub extern "C" fn bw_seat_commit(
     alloc: Global,
     seat: &mut BwHandle,
     start: u64,
@@ -231,12 +223,7 @@ fn stored_chunks(
 }
 
 /// Checks `text` as the slice (`start`, `len`) under the store's root, and stores its chunks as
-/// `bw_seat_commit_all` does, but no parents.
-///
-/// No length needs to be recorded, so this works in a store of a part of a blob too. Chunks that aren't among
-/// the store's are left out. `committed` is how many were stored. No memory is taken. If the encoding isn't
-/// accepted, returns 501 to 503 as `bw_check_slice` does, with the offset in `at`, and 1202 exactly if the
-/// handle has no seat; the seat is then unchanged.
+/// `bw_seat_commit` does, but no parents.
 #[unsafe(no_mangle)]
 pub extern "C" fn bw_seat_commit_chunks(
     alloc: Global,
@@ -308,34 +295,27 @@ fn stored_bare(
 }
 
 /// Checks `chunks` as `bw_outline_check` does, and stores these chunks and the parents above them, as
-/// `bw_seat_commit_all` does.
-///
-/// What is stored is what the slice has that `bw_outline_slice` writes. No memory is taken. Returns 1202
-/// exactly unless `outline` has an outline and `seat` a seat, before all else, and then 804 exactly if the
-/// outline is of another root or mode than the store. Then returns 1210, or 501 to 503 with the offset in `at`,
-/// as `bw_outline_check` does. After any of these, the seat is unchanged. Returns 807, with nothing stored, if
-/// the outline claims another length than the recorded one, or none is recorded. The outline is unchanged.
+/// `bw_seat_commit` does.
 #[unsafe(no_mangle)]
 pub extern "C" fn bw_outline_commit(
     alloc: Global,
     outline: &mut BwHandle,
     seat: &mut BwHandle,
-    first: u64,
-    count: u64,
+    which: &BwChunks,
     chunks: &[u8],
     committed: &mut u64,
     parents: &mut u64,
     at: &mut u64,
 ) -> u32
-    ensures stores { result ≡ 0 → HasOutline (λ it. SeatDid (λ store old new. StoresAll (fixed_of store) (bare_piece (fixed_of store).base (outlined_text it) first count chunks.now)
+    ensures stores { result ≡ 0 → HasOutline (λ it. SeatDid (λ store old new. StoresAll (fixed_of store) (bare_piece (fixed_of store).base (outlined_text it) which.now.first which.now.count chunks.now)
         committed.new parents.new old.view new.view) seat.old.held seat.new.held) outline.old.held }
     ensures whole { result ≡ 0 → HasSeat (λ store _. (fixed_of store).base ≡ 0) seat.old.held }
-    ensures other_length { result ≡ 807 → HasOutline (λ it. SeatDid (λ store old new. IsOfOther (bare_piece (fixed_of store).base (outlined_text it) first count chunks.now)
+    ensures other_length { result ≡ 807 → HasOutline (λ it. SeatDid (λ store old new. IsOfOther (bare_piece (fixed_of store).base (outlined_text it) which.now.first which.now.count chunks.now)
         old.view new.view) seat.old.held seat.new.held) outline.old.held }
     ensures other_root { result ≡ 804 ↔ HasOutline (λ it. HasSeat (λ store _. ¬ IsOfStore (fixed_of store) it) seat.old.held) outline.old.held }
-    ensures accepted { ((result ≡ 0) ⊎ (result ≡ 807)) → HasOutline (AreBeside first count chunks.now) outline.old.held }
-    ensures chunks { result ≡ 1210 → HasOutline (λ it. ¬ HasChunks (outlined_text it) first count) outline.old.held }
-    ensures fault { result ≢ 0 → result < 506 → HasOutline (AreNotBeside first count chunks.now result at.new) outline.old.held }
+    ensures accepted { ((result ≡ 0) ⊎ (result ≡ 807)) → HasOutline (AreBeside which.now.first which.now.count chunks.now) outline.old.held }
+    ensures chunks { result ≡ 1210 → HasOutline (λ it. ¬ HasChunks (outlined_text it) which.now.first which.now.count) outline.old.held }
+    ensures fault { result ≢ 0 → result < 506 → HasOutline (AreNotBeside which.now.first which.now.count chunks.now result at.new) outline.old.held }
     ensures no_handle { result ≡ 1202 ↔ (¬ HasOutline (λ _. HasSeat (λ _ _. Unit) seat.old.held) outline.old.held) }
     ensures status { 505 < result → result ≢ 804 → result ≢ 807 → result ≢ 1202 → result ≡ 1210 }
     ensures same { result ≢ 0 → result ≢ 807 → seat.new.held ≡ seat.old.held }
@@ -354,26 +334,17 @@ pub extern "C" fn bw_outline_commit(
                 &it.store,
                 &mut it.seat,
                 shared,
-                first,
-                count,
+                which.first,
+                which.count,
                 chunks,
                 committed,
                 parents,
                 at,
             ),
-            Held::Hasher(_)
-            | Held::Feed(_)
-            | Held::Outboard(_)
-            | Held::Outline(_)
-            | Held::Plan(_)
-            | Held::Gone => NO_HANDLE,
+            Held::Hasher(_) | Held::Feed(_) | Held::Outline(_) | Held::Plan(_) | Held::Gone =>
+                NO_HANDLE,
         },
-        Held::Hasher(_)
-        | Held::Feed(_)
-        | Held::Outboard(_)
-        | Held::Seat(_)
-        | Held::Plan(_)
-        | Held::Gone => NO_HANDLE,
+        Held::Hasher(_) | Held::Feed(_) | Held::Seat(_) | Held::Plan(_) | Held::Gone => NO_HANDLE,
     };
     put(seat, held);
     put(outline, beside);

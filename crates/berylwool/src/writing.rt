@@ -1,7 +1,7 @@
 ghost use Rattle.std.specs.Prelude.{◌≡◌, ◌≢◌, ◌↔◌, ◌+◌, ◌-◌, ◌*◌, ◌^◌, ◌<◌, ◌≤◌, ◌++◌, IsTrue, drop, length, min};
 ghost use Rattle.b3tree.specs.Hashing.{hash};
 ghost use Rattle.bao_text.specs.Choice.{chunk_count};
-ghost use Rattle.bao_text.specs.Texts.{combined_text, outboard_text, slice_text};
+ghost use Rattle.bao_text.specs.Texts.{combined_text, outboard_text};
 ghost use Rattle.bao_text.specs.Cut.{cut_text};
 ghost use Rattle.berylwool.specs.Modes.{IsKnown, mode_of};
 
@@ -66,10 +66,6 @@ fn handed(hash: &Hash, text: &[u8], out: &mut [u8], used: &mut usize, root: &mut
 
 /// Writes the combined encoding of `bytes` to the front of `out`, with its length in `used`, and the hash of
 /// `bytes` to `root`.
-///
-/// Returns 1213 exactly if the mode's kind is unknown, before all else, then 1201 exactly if the encoding is
-/// longer than `out`, with its length in `used`, and then 401 if out of memory. After any of these, `out` is
-/// unchanged.
 #[unsafe(no_mangle)]
 pub extern "C" fn bw_encode(
     alloc: Global,
@@ -101,10 +97,6 @@ pub extern "C" fn bw_encode(
 
 /// Writes the outboard encoding of `bytes` to the front of `out`, with its length in `used`, and the hash of
 /// `bytes` to `root`.
-///
-/// Returns 1213 exactly if the mode's kind is unknown, before all else, then 1201 exactly if the encoding is
-/// longer than `out`, with its length in `used`, and then 401 if out of memory. After any of these, `out` is
-/// unchanged.
 #[unsafe(no_mangle)]
 pub extern "C" fn bw_outboard(
     alloc: Global,
@@ -134,44 +126,8 @@ pub extern "C" fn bw_outboard(
     }
 }
 
-/// Writes the slice (`start`, `len`) of `bytes` to the front of `out`, with its length in `used`, and the hash
-/// of all of `bytes` to `root`.
-///
-/// Returns 1213 exactly if the mode's kind is unknown, 401 if out of memory, and 1201 if the slice is longer
-/// than `out`, with its length in `used`. After any of these, `out` is unchanged.
-#[unsafe(no_mangle)]
-pub extern "C" fn bw_slice(
-    alloc: Global,
-    mode: &BwMode,
-    bytes: &[u8],
-    start: u64,
-    len: u64,
-    out: &mut [u8],
-    used: &mut usize,
-    root: &mut [u8; 32],
-) -> u32
-    ensures text { result ≡ 0 → out.new ≡ slice_text (mode_of mode.now) bytes.now start len ++ drop used.new out.old }
-    ensures unknown { result ≡ 1213 ↔ (¬ IsKnown mode.now) }
-    ensures used { result ≢ 401 → result ≢ 1213 → used.new ≡ length (slice_text (mode_of mode.now) bytes.now start len) }
-    ensures root { result ≡ 0 → root.new ≡ hash (mode_of mode.now) bytes.now }
-    ensures room { result ≡ 1201 → length out.old < length (slice_text (mode_of mode.now) bytes.now start len) }
-    ensures status { result ≢ 0 → result ≢ 1201 → result ≢ 1213 → result ≡ 401 }
-    ensures same { result ≢ 0 → out.new ≡ out.old }
-{
-    if !mode.is_known() {
-        return NO_MODE;
-    }
-    match slice(alloc, &mode.get(), bytes, start, len) {
-        Ok((hash, text)) => handed(&hash, text.as_slice(), out, used, root),
-        Err(fault) => u32::from(fault.code()),
-    }
-}
-
 /// Copies the slice (`start`, `len`) out of the combined encoding `text` to the front of `out`, with its length
 /// in `used`, and verifies nothing.
-///
-/// What isn't there is left out. Returns 401 if out of memory, and 1201 if the slice is longer than `out`, with
-/// its length in `used`; `out` is then unchanged.
 #[unsafe(no_mangle)]
 pub extern "C" fn bw_cut_slice(
     alloc: Global,

@@ -1,5 +1,5 @@
 use Rattle.std.proofs.Common.{◌≡◌, ◌∙◌, drop, length, length-take-le, take, arith}
-use Rattle.store_core.specs.Pieces.{piece_of}
+use Rattle.holders.specs.Pieces.{piece_of}
 use Rattle.berylwool.specs.Calls.{slice_piece}
 use Rattle.berylwool.specs.Decoding.{asked_size}
 use Rattle.berylwool.proofs.Bytes.{decoded_bytes, decoded_rest}
@@ -13,18 +13,18 @@ pub returns-in-Some-clause-bytes : goal.returns-in-Some-clause-bytes
 returns-in-Some-clause-bytes c = λ _.
     let room = take c.asked-size.result c.args.out.now in
     let cut : length room ≡ c.asked-size.result = length-take-le c.asked-size.result c.args.out.now (omega (arith, c.if-size-out.false)) in
-    decoded_bytes (piece_of 0 c.in-Ok.piece) (slice_piece 0 c.args.text.now c.args.start c.args.len) c.args.start (asked_size c.args.text.now c.args.start c.args.len) c.copied.result
+    decoded_bytes (piece_of 0 c.in-Ok.piece) (slice_piece 0 c.args.text.now c.args.slice.now.start c.args.slice.now.len) c.args.slice.now.start (asked_size c.args.text.now c.args.slice.now.start c.args.slice.now.len) c.copied.result
     room c.copied.new.out (drop c.asked-size.result c.args.out.now)
-    (piece_is 0 c.in-Ok.piece c.get.result c.args.root.now c.args.start c.args.len c.args.text.now c.in-Ok.ensures.piece) (cut ∙ c.asked-size.ensures.value)
+    (piece_is 0 c.in-Ok.piece c.get.result c.args.slice.now.root c.args.slice.now.start c.args.slice.now.len c.args.text.now c.in-Ok.ensures.piece) (cut ∙ c.asked-size.ensures.value)
     (omega (arith, c.copied.ensures.within, c.copied.ensures.size)) c.copied.ensures.bytes
 
 pub returns-in-None-clause-bytes : goal.returns-in-None-clause-bytes
 returns-in-None-clause-bytes c = λ _.
     let room = take c.asked-size.result c.args.out.now in
     let cut : length room ≡ c.asked-size.result = length-take-le c.asked-size.result c.args.out.now (omega (arith, c.if-size-out.false)) in
-    decoded_bytes (piece_of 0 c.in-Ok.piece) (slice_piece 0 c.args.text.now c.args.start c.args.len) c.args.start (asked_size c.args.text.now c.args.start c.args.len) c.copied.result
+    decoded_bytes (piece_of 0 c.in-Ok.piece) (slice_piece 0 c.args.text.now c.args.slice.now.start c.args.slice.now.len) c.args.slice.now.start (asked_size c.args.text.now c.args.slice.now.start c.args.slice.now.len) c.copied.result
     room c.copied.new.out (drop c.asked-size.result c.args.out.now)
-    (piece_is 0 c.in-Ok.piece c.get.result c.args.root.now c.args.start c.args.len c.args.text.now c.in-Ok.ensures.piece) (cut ∙ c.asked-size.ensures.value)
+    (piece_is 0 c.in-Ok.piece c.get.result c.args.slice.now.root c.args.slice.now.start c.args.slice.now.len c.args.text.now c.in-Ok.ensures.piece) (cut ∙ c.asked-size.ensures.value)
     (omega (arith, c.copied.ensures.within, c.copied.ensures.size)) c.copied.ensures.bytes
 
 pub returns-in-Some-clause-rest : goal.returns-in-Some-clause-rest
@@ -37,4 +37,4 @@ returns-in-None-clause-rest c = λ _.
 
 pub returns-in-Err-clause-fault : goal.returns-in-Err-clause-fault
 returns-in-Err-clause-fault c = λ _ _ _.
-    refused c.get.result _ c.args.root.now c.args.text.now _ c.in-Err.fault _ _ c.get.ensures c.told.ensures.status c.in-Err.ensures.fault
+    refused c.get.result _ c.args.slice.now.root c.args.text.now _ c.in-Err.fault _ _ c.get.ensures c.told.ensures.status c.in-Err.ensures.fault

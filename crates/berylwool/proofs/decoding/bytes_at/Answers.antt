@@ -2,8 +2,8 @@ use Rattle.std.proofs.Common.{◌≡◌, ◌∙◌, ℕ, ◌+◌, ◌-◌, ◌/�
 use Rattle.std.proofs.lemmas.Option.{slice_get_past}
 use Rattle.bao_check.specs.Checked.{piece_places, piece_text}
 use Rattle.bao_check.specs.Pieces.{chunk_in}
-use Rattle.store_core.specs.declared.history.Piece.{Piece}
-use Rattle.store_core.specs.Pieces.{chunk_bytes, piece_of}
+use Rattle.holders.specs.declared.piece.Piece.{Piece}
+use Rattle.holders.specs.Pieces.{chunk_bytes, piece_of}
 use Rattle.berylwool.proofs.Bytes.{byte_there, bytes_there}
 use Rattle.berylwool.proofs.decoding.bytes_at.Goals as goal
 

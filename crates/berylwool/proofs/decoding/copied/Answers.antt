@@ -1,5 +1,5 @@
 use Rattle.std.proofs.Common.{◌≡◌, ◌∙◌, ℕ, ◌+◌, ◌≤◌, List, length, arith, refl}
-use Rattle.store_core.specs.Pieces.{piece_of}
+use Rattle.holders.specs.Pieces.{piece_of}
 use Rattle.berylwool.proofs.Bytes.{copied_all, copied_next, same_size, stays_after}
 use Rattle.berylwool.proofs.decoding.copied.Goals as goal
 

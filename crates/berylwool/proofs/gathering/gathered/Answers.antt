@@ -1,12 +1,12 @@
 use Rattle.std.proofs.Common.{List, [], ◌∷◌, inl, inr, subst, sym}
 use Rattle.b3tree.specs.declared.mode.Mode.{Mode}
 use Rattle.b3tree.specs.Valid.{IsKeyed}
-use Rattle.crews.specs.Seats.{fixed_of as fixed_at}
+use Rattle.gather.specs.Seats.{fixed_of as fixed_at}
 use Rattle.gather.proofs.Forming.{slices_parts}
-use Rattle.gather.specs.declared.form.Form.TheVariants.{Slices}
-use Rattle.gather.specs.declared.grain.Grain.TheVariants.{Group as ByGroup}
+use Rattle.holders.specs.declared.form.Form.TheVariants.{Slices}
+use Rattle.holders.specs.declared.grain.Grain.TheVariants.{Group as ByGroup}
 use Rattle.gather.specs.declared.report.Report.{Report}
-use Rattle.gather.specs.Encodings.{EncodedBytes, IsCut}
+use Rattle.holders.specs.Encodings.{EncodedBytes, IsCut}
 use Rattle.berylwool.specs.Gathering.{CompletesOn, GathersOn, report_of}
 use Rattle.berylwool.proofs.Rounds.{gathers, told_out}
 use Rattle.berylwool.proofs.gathering.gathered.Goals as goal

@@ -1,7 +1,7 @@
 use Rattle.std.proofs.Common.{subst, sym}
 use Rattle.b3tree.specs.declared.mode.Mode.{Mode}
 use Rattle.b3tree.specs.Valid.{IsKeyed}
-use Rattle.gather.specs.declared.grain.Grain.TheVariants.{Chunk as ByChunk}
+use Rattle.holders.specs.declared.grain.Grain.TheVariants.{Chunk as ByChunk}
 use Rattle.gather.specs.declared.report.Report.{Report}
 use Rattle.berylwool.specs.Gathering.{GathersOn, report_of}
 use Rattle.berylwool.proofs.Rounds.{gathers}

@@ -1,7 +1,7 @@
-use Rattle.std.proofs.Common.{◌≡◌, ◌∙◌, ℕ, ◌-◌, Option, Some, ap, arith, refl, sym}
+use Rattle.std.proofs.Common.{◌∙◌, ℕ, ◌-◌, Option, Some, ap, arith, sym}
 use Rattle.std.specs.Option.{option_map}
 use Rattle.std.proofs.lemmas.Result.{IfErr-weaker, IfOk-weaker}
-use Rattle.bao_text.specs.Nodes.{TreeNode, subtree_size}
+use Rattle.bao_text.specs.Nodes.{TreeNode}
 use Rattle.berylwool.specs.declared.nodes.BwPlaced.{BwPlaced}
 use Rattle.berylwool.specs.Placed.{node_over, placed_of}
 use Rattle.berylwool.proofs.PlacesOfNodes.{far_found, far_past, near_found, over_chunk, over_none, over_parent, past_chunk, past_whole}

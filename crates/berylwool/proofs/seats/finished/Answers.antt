@@ -1,8 +1,9 @@
 use Rattle.std.proofs.Common.{◌≡◌, ◌++◌, ℕ, List, drop, inr, length, length-take-le, subst, sym, take}
 use Rattle.b3tree.specs.declared.mode.Mode.{Mode}
 use Rattle.b3tree.specs.Valid.{IsKeyed}
-use Rattle.crews.proofs.Finishing.{asks_both, read_lacks, read_whole}
-use Rattle.gather.proofs.Finishing.{alike, binds_none, differs, whole_binds}
+use Rattle.gather.proofs.SeatFinishing.{asks_both, read_lacks, read_whole}
+use Rattle.gather.proofs.Finishing.{binds_none, whole_binds}
+use Rattle.holders.proofs.Same.{alike, differs}
 use Rattle.gather.specs.Finished.{BindsTo, IsFinished, IsWhole}
 use Rattle.store_core.proofs.HasRoom.{recorded_fits}
 use Rattle.store_core.specs.Histories.{IsLegal, state_after}

@@ -1,6 +1,6 @@
 use Rattle.std.proofs.Common.{◌≡◌, ◌∙◌, ◌<◌, ◌≤◌, ℕ, List, false, true, length, ap, inl, inr, refl, subst, sym}
 use Rattle.std.proofs.lemmas.Bool.{cases_lt}
-use Rattle.store_calls.specs.Serving.{SeatIsRefused}
+use Rattle.store_shared.specs.Serving.{SeatIsRefused}
 use Rattle.store_core.specs.declared.fault.ServeFault.{ServeFault}
 use Rattle.store_core.specs.declared.history.Serving.TheVariants.{Lacking, Text}
 use Rattle.store_shared.specs.Seats.{fixed_of}

@@ -1,7 +1,7 @@
 use Rattle.std.proofs.Common.{◌≡◌, ◌↔◌, ℕ, ◌+◌, ◌-◌, ◌<◌, ◌≤◌, nat_lt, IsSome, subst, arith}
-use Rattle.store_calls.proofs.CommittedChunks.{span_mask}
+use Rattle.store_shared.proofs.CommittedChunks.{span_mask}
 use Rattle.store_core.specs.Masks.{IsMaskOf}
-use Rattle.store_core.specs.Pieces.{chunk_bytes, holds_chunk, piece_of}
+use Rattle.holders.specs.Pieces.{chunk_bytes, holds_chunk, piece_of}
 use Rattle.berylwool.proofs.storing.chunks_in.Goals as goal
 
 -- numbers between two others, counted from a base

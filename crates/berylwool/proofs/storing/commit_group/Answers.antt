@@ -1,7 +1,7 @@
 use Rattle.std.proofs.Common.{ℕ, inl, inr, refl, subst}
 use Rattle.store_core.specs.declared.history.Call.TheVariants.{Commit, Take}
 use Rattle.store_core.specs.Masks.{IsMaskOf}
-use Rattle.store_core.specs.Pieces.{holds_chunk, length_of, piece_of}
+use Rattle.holders.specs.Pieces.{holds_chunk, length_of, piece_of}
 use Rattle.store_shared.specs.Seats.{fixed_of}
 use Rattle.berylwool.proofs.EachGroup.{passes, records_on}
 use Rattle.berylwool.proofs.storing.commit_group.Goals as goal

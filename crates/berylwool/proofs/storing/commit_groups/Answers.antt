@@ -1,6 +1,6 @@
 use Rattle.std.proofs.Common.{◌≡◌, ℕ, subst, sym, arith}
 use Rattle.store_core.specs.declared.view.SeatView.{SeatView}
-use Rattle.store_core.specs.Pieces.{piece_of}
+use Rattle.holders.specs.Pieces.{piece_of}
 use Rattle.store_shared.specs.Seats.{fixed_of}
 use Rattle.berylwool.specs.Storing.{CommitsGroup}
 use Rattle.berylwool.proofs.EachGroup.{each_next, each_none}

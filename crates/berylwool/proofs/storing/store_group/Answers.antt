@@ -3,7 +3,7 @@ use Rattle.store_core.proofs.Choosing.{parents_marked}
 use Rattle.store_core.specs.declared.history.Call.TheVariants.{Parents}
 use Rattle.store_core.specs.declared.history.Storing.TheVariants.{Stored}
 use Rattle.store_core.specs.Masks.{IsMaskOf}
-use Rattle.store_core.specs.Pieces.{holds_parent, length_of, piece_of}
+use Rattle.holders.specs.Pieces.{holds_parent, length_of, piece_of}
 use Rattle.store_shared.specs.Seats.{fixed_of}
 use Rattle.berylwool.proofs.EachGroup.{never_unstored, passes, records_on}
 use Rattle.berylwool.proofs.storing.store_group.Goals as goal

@@ -1,6 +1,6 @@
 use Rattle.std.proofs.Common.{◌*◌, ◌^◌, ◌≤◌}
-use Rattle.crews.specs.Lasting.{RecordsOn}
-use Rattle.store_core.specs.Pieces.{length_of, piece_of}
+use Rattle.gather.specs.SeatLasting.{RecordsOn}
+use Rattle.holders.specs.Pieces.{length_of, piece_of}
 use Rattle.store_shared.specs.Seats.{IsSeatOf, fixed_of}
 use Rattle.berylwool.specs.Storing.{EachGroup, StoresGroup}
 use Rattle.berylwool.proofs.storing.store_groups.Given as goal

@@ -1,5 +1,5 @@
 use Rattle.std.proofs.Common.{subst}
-use Rattle.store_core.specs.declared.history.Piece.{Piece}
+use Rattle.holders.specs.declared.piece.Piece.{Piece}
 use Rattle.store_shared.specs.Seats.{fixed_of}
 use Rattle.berylwool.specs.Storing.{IsOfOther, StoresAll}
 use Rattle.berylwool.proofs.Texts.{piece_is, refused_there}

@@ -2,9 +2,9 @@ use Rattle.std.proofs.Common.{◌≡◌, ◌∙◌, ℕ, ◌*◌, List, ap, arit
 use Rattle.bao_check.specs.Bare.{bare_part}
 use Rattle.bao_check.specs.Beside.{beside_text}
 use Rattle.bao_check.specs.Outline.{outline_mode, outline_root, outline_text}
-use Rattle.store_core.specs.declared.fixed.Fixed.{Fixed}
-use Rattle.store_core.specs.declared.history.Piece.{Piece}
-use Rattle.store_core.specs.Pieces.{piece_of}
+use Rattle.holders.specs.declared.fixed.Fixed.{Fixed}
+use Rattle.holders.specs.declared.piece.Piece.{Piece}
+use Rattle.holders.specs.Pieces.{piece_of}
 use Rattle.store_shared.specs.Seats.{fixed_of}
 use Rattle.berylwool.specs.Outlines.{IsOfStore, bare_piece, outlined_text}
 use Rattle.berylwool.specs.Storing.{IsOfOther, StoresAll}

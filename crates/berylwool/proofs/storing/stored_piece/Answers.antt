@@ -1,9 +1,9 @@
 use Rattle.std.proofs.Common.{◌≡◌, ◌∙◌, ℕ, Option, Some, ap, subst}
 use Rattle.store_core.proofs.StoredParents.{recorded_is}
 use Rattle.store_core.specs.declared.history.Call.TheVariants.{Length}
-use Rattle.store_core.specs.declared.history.Piece.{Piece}
+use Rattle.holders.specs.declared.piece.Piece.{Piece}
 use Rattle.store_core.specs.Knowledge.{Called}
-use Rattle.store_core.specs.Pieces.{length_of, piece_of}
+use Rattle.holders.specs.Pieces.{length_of, piece_of}
 use Rattle.store_shared.specs.Seats.{fixed_of}
 use Rattle.berylwool.proofs.EachGroup.{records_now}
 use Rattle.berylwool.proofs.storing.stored_piece.Goals as goal

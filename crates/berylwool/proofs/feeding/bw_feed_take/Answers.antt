@@ -1,7 +1,7 @@
 use Rattle.std.proofs.Common.{◌∙◌, ◌++◌, refl, sym, take}
 use Rattle.bao_check.specs.Checking.{HasTakenAs}
 use Rattle.berylwool.proofs.Feeds.{feed_has, has_feed}
-use Rattle.berylwool.proofs.feeding.bw_feed_take_many.Goals as goal
+use Rattle.berylwool.proofs.feeding.bw_feed_take.Goals as goal
 
 pub returns-clause-before : goal.returns-clause-before
 returns-clause-before c = λ wrong low task had it.
