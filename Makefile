@@ -4,7 +4,7 @@ SHELL := bash
 .SHELLFLAGS := -eu -o pipefail -c
 .DEFAULT_GOAL := help
 .DELETE_ON_ERROR:
-.PHONY: help build run try install uninstall dist deb deb-test clean distclean quick sum doc test proofs refusals trials c-trials wrong-bodies scenarios program-scenarios docs c-library c-install c-test c-bench python wheel python-test fetch fetch-install fetch-test fetch-bench bench refuse replaced memory stress statement cites fmt FORCE
+.PHONY: help build run try install uninstall dist deb deb-test deb-trial clean distclean quick sum doc test proofs refusals trials c-trials wrong-bodies scenarios program-scenarios docs c-library c-install c-test c-bench python wheel python-test fetch fetch-install fetch-test fetch-bench bench refuse replaced memory stress statement cites fmt FORCE
 
 PREFIX ?= /usr/local
 bindir ?= $(PREFIX)/bin
@@ -21,7 +21,7 @@ CPU := $(if $(filter-out $(sort $(shell cat /proc/cpuinfo 2>/dev/null)),$(V3_NEE
 endif
 
 # Crates of which nothing goes into the program.
-ASIDE := bao_bind bao_feed bao_plan berylwool text_scenarios store_scenarios crew_scenarios examples $(notdir $(wildcard crates/tests_* crates/determined_*))
+ASIDE := bao_bind bao_plan berylwool text_scenarios store_scenarios crew_scenarios examples $(notdir $(wildcard crates/tests_* crates/determined_*))
 
 # The files and folders whose change asks for a new proof. With the folders, a file that was taken
 # away is seen too.
@@ -45,7 +45,7 @@ help:
 	@echo 'make quick                checks within minutes what needs no proof, and runs scenarios and examples with an unproved program'
 	@echo 'make test                 the gate: a look at laws, wrong bodies and links, make doc, what make scenarios does, rt ci (every'
 	@echo '                          proof from nothing, the must-fail edits, the tests and the programs), and beside it what make'
-	@echo '                          docs, make refuse, make replaced, make memory, make c-test and make fetch-test do'
+	@echo '                          docs, make refuse, make replaced, make memory, make c-test, make python-test, make fetch-test and make deb-test do'
 	@echo 'make wrong-bodies         tries the wrong bodies, those that the gate leaves out too, of all crates or of CRATES="NAME .."'
 	@echo 'make docs                 runs the shell examples of the documents, and looks at their links'
 	@echo 'make statement CALL="b3tree::hash" prints a contract, of a call, a type or a crate, with every definition'
@@ -140,6 +140,14 @@ deb: doc
 
 deb-test: deb
 	@packaging/test out/deb/*.deb
+
+# What the gate has built is of one level.
+CAN_INSTALL = $(HAS_DPKG) && dpkg --status python3 pkg-config > /dev/null 2>&1 \
+    && unshare --map-root-user --mount mount -t overlay overlay -o lowerdir=packaging:/usr /usr 2> /dev/null
+
+deb-trial:
+	@if $(CAN_INSTALL); then $(MAKE) --no-print-directory deb-test LEVELS=$(CPU); \
+	    else echo "left out: make deb-test, which needs Debian's dpkg-dev, python3 and pkg-config, and a user who may mount over /usr in a namespace"; fi
 
 out/launcher: packaging/launcher.c out/flags
 	@cc -std=c11 -O2 -Wall -Wextra -DPROGRAMS='"/usr/libexec/berylwool"' $(CPPFLAGS) $(CFLAGS) $(LDFLAGS) $< -o $@
@@ -249,8 +257,8 @@ endef
 out/bao_gather: out/cpu $(SOURCES)
 	$(call built,bao_gather,--version)
 
-# The C library stands on these, of which bao_bind, bao_feed and bao_plan aren't in SOURCES.
-C_SOURCES := $(SOURCES) $(shell shopt -s globstar nullglob; echo crates/{bao_bind,bao_feed,bao_plan,berylwool}/{src,specs,proofs}/**)
+# The C library stands on these, of which bao_bind and bao_plan aren't in SOURCES.
+C_SOURCES := $(SOURCES) $(shell shopt -s globstar nullglob; echo crates/{bao_bind,bao_plan,berylwool}/{src,specs,proofs}/**)
 
 # Where the kit's three functions over malloc lie.
 KIT_C = $(dir $(shell rt doc))c/liblibc_c.a
@@ -272,7 +280,7 @@ out/libberylwool.a: out/c/berylwool.o out/flags c/strerror.c c/berylwool.h
 	@objcopy --wildcard --keep-global-symbol='bw_*' out/c/bw.o
 	@rm -f $@ && ar rcs $@ out/c/bw.o
 
-# Each name has the version BERYLWOOL_0, and is looked up when the library is loaded.
+# Each name has the version BERYLWOOL_0.2, of the interface, and is looked up when the library is loaded.
 out/libberylwool.so: out/libberylwool.a c/berylwool.map
 	@cc -shared -o $@ -Wl,--whole-archive $< -Wl,--no-whole-archive -Wl,-soname,libberylwool.so.0 -Wl,--version-script,c/berylwool.map \
 	    -Wl,-z,defs -Wl,-z,now $(LDFLAGS)
@@ -314,7 +322,7 @@ out/pieces: c/pieces.c
 	@cc -std=c11 -O3 -DBLAKE3_NO_AVX512 -I$(BLAKE3_C) $< $(BLAKE3_C)/blake3.c $(BLAKE3_C)/blake3_dispatch.c $(BLAKE3_C)/blake3_portable.c \
 	    $(foreach it,sse2 sse41 avx2,$(BLAKE3_C)/blake3_$(it)_x86-64_unix.S) -o $@
 
-out/c/compare: c/compare.c c/berylwool.h out/libberylwool.a
+out/c/compare: c/compare.c c/berylwool.h c/tests.h out/libberylwool.a
 	@cc -std=c11 -O2 -Wall -Wextra -Wpedantic -pthread -Ic $< out/libberylwool.a -o $@
 
 c-bench: c-library

@@ -68,6 +68,14 @@ class Trial:
         return status
 
 
+def packages(places):
+    """Tries Debian's packages of what the trials built, in these folders, and returns the status."""
+    program, library = places["bao_gather"], places["berylwool"]
+    if program != library:
+        shutil.copy(f"{program}/out/bao_gather", f"{library}/out/")
+    return Trial("deb-trial", library, ONE_JOB).end()
+
+
 def main():
     rt = rt_module.load()
     crates = {it.name: it for it in rt.rtlib.crates_below(os.getcwd())}
@@ -89,7 +97,7 @@ def main():
             begun += [Trial(TRIALS[name], ".") for name in waits]
         for it in begun:
             status = it.end() or status
-    return status
+        return status or packages({name: f"{room}/{target}" if name not in waits else "." for name, target in TRIALS.items()})
 
 
 if __name__ == "__main__":
