@@ -1,4 +1,4 @@
-ghost use Rattle.std.specs.Prelude.{◌≡◌, ℕ, ◌+◌, ◌-◌, ◌*◌, ◌%◌, ◌^◌, ◌<◌, ◌≤◌, ◌↔◌, List, [], ◌++◌, length, take, IsErr, OnErr, OnOk};
+ghost use Rattle.std.specs.Prelude.{◌≡◌, ℕ, ◌+◌, ◌-◌, ◌*◌, ◌%◌, ◌^◌, ◌<◌, ◌≤◌, ◌↔◌, List, [], ◌++◌, length, take, IsErr, MatchResult, OnErr, OnOk};
 ghost use Rattle.std.specs.Int.{IsPowerOfTwo};
 
 use crate::chunk::CHUNK_LEN;
@@ -77,7 +77,8 @@ impl Hasher {
 
     /// Returns a hasher in `mode` that has no input yet.
     pub fn new(mode: &Mode) -> Hasher
-        ensures { Holds result mode.now [] }
+        ensures holds { Holds result mode.now [] }
+        ensures splits { Splits result mode.now [] [] }
     {
         Hasher {
             mode: *mode,
@@ -88,12 +89,32 @@ impl Hasher {
         }
     }
 
+    /// Returns another hasher with the same input so far: what one of them takes in then, the other doesn't.
+    pub fn copy(&self) -> Hasher
+        ensures { (mode : Mode) (s : List ℕ) → Holds self.now mode s → Holds result mode s }
+    {
+        let mut stack = ArrayVec::new();
+        // There is room for all of an equal stack.
+        let _ = stack.try_extend_from_slice(self.stack.as_slice());
+        Hasher {
+            mode: self.mode,
+            stack,
+            chunks: self.chunks,
+            buffer: self.buffer,
+            buffered: self.buffered,
+        }
+    }
+
     /// Appends `bytes` to the input.
     ///
     /// Refuses with `TooLong` (201) exactly if the input would be longer than 2^64 - 1 bytes; the hasher is
     /// then unchanged.
     pub fn update(&mut self, bytes: &[u8]) -> Result<(), TooLong>
         ensures taken { (mode : Mode) (s : List ℕ) → Holds self.old mode s → OnOk result (Holds self.new mode (s ++ bytes.now)) }
+
+        // After whole subtrees, of which `update_subtree` took in some by their values.
+        ensures ended { (mode : Mode) (s : List ℕ) → Splits self.old mode s [] → 0 < length bytes.now
+            → MatchResult result (λ _. Holds self.new mode (s ++ bytes.now)) (λ _. 2 ^ 64 - 1 < length s + length bytes.now) }
         ensures refused { (mode : Mode) (s : List ℕ) → Holds self.old mode s
             → (IsErr result ↔ (2 ^ 64 - 1 < length s + length bytes.now)) }
         ensures unchanged { OnErr result (self.new ≡ self.old) }
@@ -110,6 +131,31 @@ impl Hasher {
         Ok(())
     }
 
+    /// Appends `chunks` chunks by the chaining value of their subtree, in place of their bytes.
+    ///
+    /// `chunks` is a power of two, at least 8, and the chunks so far are a multiple of it, all of them in such
+    /// subtrees. At least one byte must follow, since only then is the subtree not the root.
+    pub fn update_subtree(&mut self, chunks: usize, value: Cv)
+        requires empty { self.old.buffered ≡ 0 }
+        requires whole { IsPowerOfTwo chunks }
+        requires eighths { chunks % 8 ≡ 0 }
+        requires place { self.old.chunks % chunks ≡ 0 }
+        requires fits { 1024 * self.old.chunks + 1024 * chunks < 2 ^ 64 }
+        ensures chunks { self.new.chunks ≡ self.old.chunks + chunks }
+        ensures buffered { self.new.buffered ≡ 0 }
+        ensures mode { self.new.mode ≡ self.old.mode }
+        ensures splits { (mode : Mode) (earlier piece : List ℕ) → Splits self.old mode earlier [] → length piece ≡ 1024 * chunks
+            → value.0 ≡ subtree_cv self.old.mode self.old.chunks piece → Splits self.new mode (earlier ++ piece) [] }
+    {
+        push_subtree(
+            &mut self.stack,
+            &self.mode,
+            self.chunks / chunks as u64,
+            value.0,
+        );
+        self.chunks += chunks as u64;
+    }
+
     // Takes in some of the bytes, and answers their number: whole subtrees where the buffer is empty, and
     // what the buffer has room for. At least one byte goes to the buffer, since it may be the last.
     fn take_some(&mut self, bytes: &[u8]) -> usize
@@ -118,7 +164,7 @@ impl Hasher {
         ensures some { 0 < result }
         ensures within { result ≤ length bytes.now }
         ensures total { 1024 * self.new.chunks + self.new.buffered ≡ 1024 * self.old.chunks + self.old.buffered + result }
-        ensures taken { (mode : Mode) (s : List ℕ) → Holds self.old mode s → Holds self.new mode (s ++ take result bytes.now) }
+        ensures taken { (mode : Mode) (earlier last : List ℕ) → Splits self.old mode earlier last → Holds self.new mode (earlier ++ last ++ take result bytes.now) }
     {
         if self.buffered == BUFFER_LEN {
             self.stack_buffer();
@@ -141,7 +187,7 @@ impl Hasher {
     {
         let value = subtree_value(&self.mode, self.chunks, &self.buffer[..self.buffered]);
         self.buffered = 0;
-        self.push(BUFFER_CHUNKS, value);
+        self.update_subtree(BUFFER_CHUNKS, Cv(value));
     }
 
     // Moves whole subtrees from the front of `bytes` to the stack, where the buffer is empty, and answers
@@ -163,32 +209,10 @@ impl Hasher {
             let rest = &bytes[taken..];
             let chunks = whole_chunks(self.chunks, rest.len());
             let value = subtree_value(&self.mode, self.chunks, &rest[..CHUNK_LEN * chunks]);
-            self.push(chunks, value);
+            self.update_subtree(chunks, Cv(value));
             taken += CHUNK_LEN * chunks;
         }
         taken
-    }
-
-    // Adds the value of the next `chunks` chunks, a whole subtree, to the stack. The buffer is empty.
-    fn push(&mut self, chunks: usize, value: [u32; 8])
-        requires empty { self.old.buffered ≡ 0 }
-        requires whole { IsPowerOfTwo chunks }
-        requires eighths { chunks % 8 ≡ 0 }
-        requires place { self.old.chunks % chunks ≡ 0 }
-        requires fits { 1024 * self.old.chunks + 1024 * chunks < 2 ^ 64 }
-        ensures chunks { self.new.chunks ≡ self.old.chunks + chunks }
-        ensures buffered { self.new.buffered ≡ 0 }
-        ensures mode { self.new.mode ≡ self.old.mode }
-        ensures splits { (mode : Mode) (earlier piece : List ℕ) → Splits self.old mode earlier [] → length piece ≡ 1024 * chunks
-            → value ≡ subtree_cv self.old.mode self.old.chunks piece → Splits self.new mode (earlier ++ piece) [] }
-    {
-        push_subtree(
-            &mut self.stack,
-            &self.mode,
-            self.chunks / chunks as u64,
-            value,
-        );
-        self.chunks += chunks as u64;
     }
 
     // Takes `piece` into the buffer.

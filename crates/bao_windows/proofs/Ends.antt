@@ -3,7 +3,7 @@ use Rattle.std.proofs.Common.{◌≡◌, ◌⊎◌, ℕ, ◌<◌, ◌^◌, List,
 use Rattle.std.proofs.lemmas.Bool.{cases_lt}
 use Rattle.holders.specs.declared.form.Form.{Form}
 use Rattle.holders.specs.declared.form.Form.TheVariants.{Slices, Bare}
-use Rattle.holders.specs.Places.{IsLost, OfBytes}
+use Rattle.holders.specs.Places.{AreKnown, IsLost, OfBytes}
 use Rattle.holders.specs.declared.piece.Piece.{Piece}
 use Rattle.holders.specs.Pieces.{EndsBlob, length_of}
 use Rattle.bao_windows.specs.declared.wanted.Wanted.{Wanted}
@@ -20,12 +20,12 @@ one_text faultless a b text sound (inr lost) theirs = absurd (lost.1 sound)
 one_text faultless a b text sound (inl ours) (inr lost) = absurd (lost.1 sound)
 
 -- what a source gives whose bytes are known is one
-given_once : {S : Type 0} (form : Form) (contents : S → Option (List ℕ)) (faultless : S → Type 0) (source : S) (start span : ℕ) (a b bytes : List ℕ)
-    → contents source ≡ Some bytes → length bytes < 2 ^ 64 → faultless source → gives_in form contents faultless source start span a → gives_in form contents faultless source start span b → a ≡ b
-given_once Slices contents faultless source start span a b bytes is few sound ours theirs =
-    one_text (faultless source) a b _ sound (of_known (contents source) _ bytes is few ours) (of_known (contents source) _ bytes is few theirs)
-given_once (Bare outline) contents faultless source start span a b bytes is few sound ours theirs =
-    one_text (faultless source) a b _ sound (of_known (contents source) _ bytes is few ours) (of_known (contents source) _ bytes is few theirs)
+pub given_once : {S : Type 0} (form : Form) (contents : S → Option (List ℕ)) (faultless : S → Type 0) (source : S) (start span : ℕ) (a b bytes : List ℕ)
+    → AreKnown (contents source) bytes → faultless source → gives_in form contents faultless source start span a → gives_in form contents faultless source start span b → a ≡ b
+given_once Slices contents faultless source start span a b bytes known sound ours theirs =
+    one_text (faultless source) a b _ sound (of_known (contents source) _ bytes known.0 known.1 ours) (of_known (contents source) _ bytes known.0 known.1 theirs)
+given_once (Bare outline) contents faultless source start span a b bytes known sound ours theirs =
+    one_text (faultless source) a b _ sound (of_known (contents source) _ bytes known.0 known.1 ours) (of_known (contents source) _ bytes known.0 known.1 theirs)
 
 some_one : {S : Type 0} (x y : S) → Some x ≡ Some y → x ≡ y
 some_one x y e = cc
@@ -39,7 +39,7 @@ module _ {S : Type 0} (contents : S → Option (List ℕ)) (faultless : S → Ty
       → gives_in wanted.form contents faultless source (end_start wanted.form) (end_span wanted.form) a → gives_in wanted.form contents faultless source (end_start wanted.form) (end_span wanted.form) b → a ≡ b
   given_end place source a b there ours theirs =
       let known = sound place source there in
-      given_once wanted.form contents faultless source (end_start wanted.form) (end_span wanted.form) a b known.0 known.1 known.2 known.3 ours theirs
+      given_once wanted.form contents faultless source (end_start wanted.form) (end_span wanted.form) a b known.0 (known.1, known.2) known.3 ours theirs
 
   -- a source that certifies a length isn't refused
   apart : (place l : ℕ) → CertifiesEnd contents faultless wanted sources place l → RefusesEnd contents faultless wanted sources place → ⊥

@@ -1,37 +1,14 @@
 -- What a source has that is asked for, where its bytes are known.
 use Rattle.std.proofs.Common.{◌≡◌, ◌⊎◌, inl, inr, ℕ, List, Option, None, Some, Result, Ok, Err, IfOk, refl, sym, ap, subst, ◌∙◌}
-use Rattle.b3tree.specs.Pieces.{piece}
-use Rattle.bao_text.specs.Cut.{cut_text}
 use Rattle.bao_check.specs.declared.checked.Checked.{Checked}
-use Rattle.bao_check.specs.Beside.{bare_len}
-use Rattle.bao_check.specs.Outline.{outline_claimed}
-use Rattle.holders.specs.declared.form.Form.{Form}
-use Rattle.holders.specs.declared.form.Form.TheVariants.{Slices, Bare}
 use Rattle.holders.specs.declared.piece.Piece.{Piece}
 use Rattle.holders.specs.Pieces.{piece_of}
-use Rattle.holders.specs.Places.{AreKnown, IsCutAt, IsLost, IsPartAt}
+use Rattle.holders.specs.Places.{AreKnown}
+use Rattle.bao_windows.proofs.Ends.{given_once}
 use Rattle.bao_windows.proofs.Parts.{accepted_slice}
 use Rattle.bao_windows.specs.Asked.{IsAnswer, made_in, mode_in, root_in}
-use Rattle.bao_windows.specs.Available.{gives_in}
 use Rattle.bao_windows.specs.declared.wanted.Wanted.{Wanted}
 use Rattle.determined_program.specs.Windows.{SameFound}
-
-one_text : (faultless : Type 0) (a b text : List ℕ) → faultless → (a ≡ text) ⊎ IsLost faultless a → (b ≡ text) ⊎ IsLost faultless b → a ≡ b
-one_text faultless a b text sound (inl ours) (inl theirs) = ours ∙ sym theirs
-one_text faultless a b text sound (inr lost) theirs = absurd (lost.1 sound)
-one_text faultless a b text sound (inl ours) (inr lost) = absurd (lost.1 sound)
-
-given_once : {S : Type 0} (form : Form) (contents : S → Option (List ℕ)) (faultless : S → Type 0) (source : S) (at span : ℕ) (a b bytes : List ℕ) → AreKnown (contents source) bytes
-    → faultless source → gives_in form contents faultless source at span a → gives_in form contents faultless source at span b → a ≡ b
-given_once Slices contents faultless source at span a b bytes known sound ours theirs =
-    let given : (s : List ℕ) → IsCutAt (contents source) (faultless source) at span s → IsCutAt (Some bytes) (faultless source) at span s =
-    λ s. subst (λ (o : Option (List ℕ)). IsCutAt o (faultless source) at span s) known.0 in
-    one_text (faultless source) a b (cut_text bytes at span) sound (given a ours known.1) (given b theirs known.1)
-given_once (Bare outline) contents faultless source at span a b bytes known sound ours theirs =
-    let len : ℕ = bare_len (outline_claimed outline.now) at span in
-    let given : (s : List ℕ) → IsPartAt (contents source) (faultless source) at len s → IsPartAt (Some bytes) (faultless source) at len s =
-    λ s. subst (λ (o : Option (List ℕ)). IsPartAt o (faultless source) at len s) known.0 in
-    one_text (faultless source) a b (piece bytes at len) sound (given a ours known.1) (given b theirs known.1)
 
 module _ {S : Type 0} (contents : S → Option (List ℕ)) (faultless : S → Type 0) (wanted : Wanted) (source : S) (at span : ℕ) (bytes : List ℕ) (known : AreKnown (contents source) bytes)
     (sound : faultless source) where

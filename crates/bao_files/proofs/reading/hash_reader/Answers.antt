@@ -6,7 +6,7 @@ use Rattle.b3tree.specs.Taken.{Holds}
 use Rattle.bao_files.proofs.reading.hash_reader.Goals as goal
 
 pub reads-init : goal.reads-init
-reads-init g c = (c.requires, ([], Consumes-nil (g.R.Read.remaining c.args.reader.now), AreBytes-nil, c.new-hasher.ensures))
+reads-init g c = (c.requires, ([], Consumes-nil (g.R.Read.remaining c.args.reader.now), AreBytes-nil, c.new-hasher.ensures.holds))
 
 pub reads-preserved : goal.reads-preserved
 reads-preserved g c =

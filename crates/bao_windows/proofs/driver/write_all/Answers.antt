@@ -26,7 +26,7 @@ windows-init g c =
 pub write_window-requires-clause-room : goal.write_window-requires-clause-room
 write_window-requires-clause-room g c = λ _ _.
     room_left (IsFrom c.args.wanted.now g.S.Source.contents g.S.Source.faultless c.args.sources.now) (fixed_for c.args.wanted.now) c.windows.at (c.args.total - c.windows.at)
-    (g.W.Write.contents c.args.out.now) (g.W.Write.contents c.windows.out) c.new-hasher.result c.windows.hasher c.args.wanted.now.mode c.new-hasher.ensures c.windows.invariant.wrote
+    (g.W.Write.contents c.args.out.now) (g.W.Write.contents c.windows.out) c.new-hasher.result c.windows.hasher c.args.wanted.now.mode c.new-hasher.ensures.holds c.windows.invariant.wrote
     (omega (arith, c.windows.invariant.place, c.ranges.total))
 
 pub windows-preserved : goal.windows-preserved
@@ -81,7 +81,7 @@ returns-then-ne-clause-none g c = λ _ lengths.
     let root = c.args.wanted.now.root in
     let wrote = c.windows.invariant.wrote in
     let size : length wrote.0 ≡ c.args.total = omega (arith, wrote.1, c.windows.invariant.place, c.windows-test.false) in
-    let hashed : c.finalize.result.0 ≡ hash mode wrote.0 = c.finalize.ensures mode wrote.0 (wrote.2.took mode [] c.new-hasher.ensures) in
+    let hashed : c.finalize.result.0 ≡ hash mode wrote.0 = c.finalize.ensures mode wrote.0 (wrote.2.took mode [] c.new-hasher.ensures.holds) in
     none_is (IsFrom c.args.wanted.now g.S.Source.contents g.S.Source.faultless c.args.sources.now) mode root wrote.0 c.args.total wrote.2.each size
     (λ same. differs c.finalize.result.0 root.0 (sym c.if-ne.true ∙ c.ne.ensures) (hashed ∙ same)) lengths
 
@@ -91,5 +91,5 @@ returns-clause-blob g c =
     let root = c.args.wanted.now.root in
     let wrote = c.windows.invariant.wrote in
     let size : length wrote.0 ≡ c.args.total = omega (arith, wrote.1, c.windows.invariant.place, c.windows-test.false) in
-    let hashed : c.finalize.result.0 ≡ hash mode wrote.0 = c.finalize.ensures mode wrote.0 (wrote.2.took mode [] c.new-hasher.ensures) in
+    let hashed : c.finalize.result.0 ≡ hash mode wrote.0 = c.finalize.ensures mode wrote.0 (wrote.2.took mode [] c.new-hasher.ensures.holds) in
     (wrote.0, sym hashed ∙ alike c.finalize.result.0 root.0 (sym c.if-ne.false ∙ c.ne.ensures), size, wrote.2.each, wrote.2.wrote, wrote.2.are)

@@ -5,4 +5,4 @@ pub returns : goal.returns
 returns c of s =
     let a = c.new-one.result in
     let b = c.new-other.result in
-    (none_held a b c.args.mode.now c.new-one.ensures c.new-other.ensures of s, none_held b a c.args.mode.now c.new-other.ensures c.new-one.ensures of s)
+    (none_held a b c.args.mode.now c.new-one.ensures.holds c.new-other.ensures.holds of s, none_held b a c.args.mode.now c.new-other.ensures.holds c.new-one.ensures.holds of s)

@@ -9,9 +9,9 @@ returns-clause-splits c = λ mode earlier last held.
     let number : ℕ = c.args.self.now.chunks in
     let full : length last ≡ 8192 = held.last_len ∙ c.requires.full in
     let value : c.subtree_value-value.result ≡ subtree_cv own number last = c.subtree_value-value.ensures ∙ ap (subtree_cv own number) held.buffer in
-    c.push.ensures.splits mode earlier last
+    c.update_subtree.ensures.splits mode earlier last
     (record { same_mode = held.same_mode; chunks = held.chunks; stack = held.stack; last_len = refl; buffer = refl })
     full value
 
-pub push-requires-clause-whole : goal.push-requires-clause-whole
-push-requires-clause-whole c = (3, refl)
+pub update_subtree-requires-clause-whole : goal.update_subtree-requires-clause-whole
+update_subtree-requires-clause-whole c = (3, refl)

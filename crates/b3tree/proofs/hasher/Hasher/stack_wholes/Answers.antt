@@ -16,8 +16,8 @@ wholes-preserved c =
     let size : length piece ≡ n = length-take-le n (drop taken bytes) (omega (arith, length-drop taken bytes)) in
     record {
       within = omega (arith, c.whole_chunks-chunks.ensures.within);
-      total = omega (arith, c.push.ensures.chunks, c.wholes.invariant.total);
-      buffered = c.push.ensures.buffered;
+      total = omega (arith, c.update_subtree.ensures.chunks, c.wholes.invariant.total);
+      buffered = c.update_subtree.ensures.buffered;
       splits = λ mode earlier last held.
           let before = c.wholes.invariant.splits mode earlier last held in
           let empty : last ≡ [] = nil_from_length last (before.last_len ∙ c.wholes.invariant.buffered) in
@@ -27,11 +27,11 @@ wholes-preserved c =
           let value : c.subtree_value-value.result ≡ subtree_cv c.wholes.self.mode c.wholes.self.chunks piece =
           c.subtree_value-value.ensures ∙ ap (subtree_cv c.wholes.self.mode c.wholes.self.chunks) same in
           let at : Splits c.wholes.self mode front [] = subst (λ (xs : List ℕ). Splits c.wholes.self mode front xs) empty before in
-          let pushed : Splits c.push.new.self mode (front ++ piece) [] =
-          c.push.ensures.splits mode front piece
+          let pushed : Splits c.update_subtree.new.self mode (front ++ piece) [] =
+          c.update_subtree.ensures.splits mode front piece
           (record { same_mode = at.same_mode; chunks = at.chunks; stack = at.stack; last_len = at.last_len; buffer = at.buffer }) size value in
-          subst (λ (xs : List ℕ). Splits c.push.new.self mode (earlier ++ take (taken + n) bytes) xs) (sym empty)
-          (subst (λ (xs : List ℕ). Splits c.push.new.self mode xs []) joined pushed);
+          subst (λ (xs : List ℕ). Splits c.update_subtree.new.self mode (earlier ++ take (taken + n) bytes) xs) (sym empty)
+          (subst (λ (xs : List ℕ). Splits c.update_subtree.new.self mode xs []) joined pushed);
     }
 
 pub returns-clause-splits : goal.returns-clause-splits

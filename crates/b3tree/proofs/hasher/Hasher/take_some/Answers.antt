@@ -19,30 +19,30 @@ moved earlier last (x ∷ xs) back none =
     ∙ (λ i. earlier ++ (x ∷ xs) ++ (sym empty i ++ back))
 
 -- what is held with bytes more: whole subtrees, and some that the buffer takes
-Holds_more : (new : Hasher) (mode : Mode) (s earlier last bytes : List ℕ) (whole count : ℕ) → s ≡ earlier ++ last → whole + count ≤ length bytes → 0 < count
+Holds_more : (new : Hasher) (mode : Mode) (earlier last bytes : List ℕ) (whole count : ℕ) → whole + count ≤ length bytes → 0 < count
     → (0 < whole → last ≡ []) → Splits new mode (earlier ++ take whole bytes) (last ++ take count (drop whole bytes)) → new.buffered ≡ length last + count
-    → Holds new mode (s ++ take (whole + count) bytes)
-Holds_more new mode s earlier last bytes whole count is within some none splits size =
+    → Holds new mode (earlier ++ last ++ take (whole + count) bytes)
+Holds_more new mode earlier last bytes whole count within some none splits size =
     let front : length (take whole bytes) ≡ whole = length-take-le whole bytes (omega arith) in
     record {
       earlier = earlier ++ take whole bytes;
       last = last ++ take count (drop whole bytes);
       whole =
-          (λ i. is i ++ take-add whole count bytes i)
+          (λ i. earlier ++ last ++ take-add whole count bytes i)
           ∙ moved earlier last (take whole bytes) (take count (drop whole bytes)) (λ more. none (omega arith));
       splits = splits;
       ends = λ more. omega arith;
     }
 
 pub returns-clause-taken : goal.returns-clause-taken
-returns-clause-taken c = λ mode s held.
+returns-clause-taken c = λ mode earlier last held.
     let middle : Hasher = c.if-self-eq-BUFFER_LEN.self in
     let whole : ℕ = c.stack_wholes-whole.result in
     let count : ℕ = c.min-count.result in
-    let done : (earlier last : List ℕ) → s ≡ earlier ++ last → Splits middle mode earlier last → length last ≡ middle.buffered → middle.buffered < 8192
-    → Holds c.keep.new.self mode (s ++ take (whole + count) c.args.bytes.now) =
-    λ earlier last is splits size room.
     let bytes : List ℕ = c.args.bytes.now in
+    let done : (earlier last : List ℕ) → Splits middle mode earlier last → length last ≡ middle.buffered → middle.buffered < 8192
+    → Holds c.keep.new.self mode (earlier ++ last ++ take (whole + count) bytes) =
+    λ earlier last splits size room.
     let same : take count (take (length bytes - whole) (drop whole bytes)) ≡ take count (drop whole bytes) =
     take-take count (length bytes - whole) (drop whole bytes) (omega arith) in
     let left : c.stack_wholes-whole.new.self.buffered ≡ middle.buffered = c.stack_wholes-whole.ensures.buffered in
@@ -53,19 +53,19 @@ returns-clause-taken c = λ mode s held.
     (c.keep.ensures.splits mode (earlier ++ take whole bytes) last stacked.1) in
     let more : c.keep.new.self.buffered ≡ length last + count =
     omega (arith, c.keep.ensures.buffered, size, left, size_of, ap length same) in
-    Holds_more c.keep.new.self mode s earlier last c.args.bytes.now whole count is (omega arith) (omega arith) stacked.0 kept more in
+    Holds_more c.keep.new.self mode earlier last bytes whole count (omega arith) (omega arith) stacked.0 kept more in
     elim c.if-self-eq-BUFFER_LEN.branch [
       | then-self-eq-BUFFER_LEN w ↦
-          let all : List ℕ = held.earlier ++ held.last in
+          let all : List ℕ = earlier ++ last in
           let none : middle.buffered ≡ 0 = ap (λ (h : Hasher). h.buffered) w.self-is ∙ w.stack_buffer.ensures.buffered in
           let stacked : Splits middle mode all [] =
-          subst (λ (h : Hasher). Splits h mode all []) (sym w.self-is) (w.stack_buffer.ensures.splits mode held.earlier held.last held.splits) in
-          done all [] (held.whole ∙ sym (append-nil all)) stacked (sym none) (omega arith)
+          subst (λ (h : Hasher). Splits h mode all []) (sym w.self-is) (w.stack_buffer.ensures.splits mode earlier last held) in
+          subst (λ (xs : List ℕ). Holds c.keep.new.self mode (xs ++ take (whole + count) bytes)) (append-nil all)
+          (done all [] stacked (sym none) (omega arith))
       | else-self-eq-BUFFER_LEN w ↦
           let same : middle.buffered ≡ c.args.self.now.buffered = ap (λ (h : Hasher). h.buffered) w.self-is in
           let limit : c.args.self.now.buffered ≤ 8192 = c.args.self.now.in_buffer in
           let other : c.args.self.now.buffered ≡ 8192 → ⊥ = w.if-self-eq-BUFFER_LEN.false in
-          let splits : Splits middle mode held.earlier held.last =
-          subst (λ (h : Hasher). Splits h mode held.earlier held.last) (sym w.self-is) held.splits in
-          done held.earlier held.last held.whole splits splits.last_len (omega arith)
+          let splits : Splits middle mode earlier last = subst (λ (h : Hasher). Splits h mode earlier last) (sym w.self-is) held in
+          done earlier last splits splits.last_len (omega arith)
     ]

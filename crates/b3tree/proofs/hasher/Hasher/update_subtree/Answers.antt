@@ -2,7 +2,7 @@ use Rattle.std.proofs.Common.{◌≡◌, ◌<◌, ℕ, ◌+◌, ◌*◌, ◌/◌
 use Rattle.b3tree.specs.declared.mode.Mode.{Mode}
 use Rattle.b3tree.specs.Stack.{whole_subtrees}
 use Rattle.b3tree.specs.Tree.{subtree_cv}
-use Rattle.b3tree.proofs.hasher.Hasher.push.Goals as goal
+use Rattle.b3tree.proofs.hasher.Hasher.update_subtree.Goals as goal
 
 pub returns-clause-splits : goal.returns-clause-splits
 returns-clause-splits c = λ mode earlier piece held size value.
