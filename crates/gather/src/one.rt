@@ -1,14 +1,14 @@
-ghost use Rattle.std.specs.Prelude.{◌≡◌, ◌≤◌, ◌+◌, ◌⊎◌, ℕ, List, IsTrue, length, sum_by};
-ghost use Rattle.store_core.specs.Stores.{fixed_of};
+ghost use Rattle.std.specs.Prelude.{◌≡◌, ◌≤◌, ◌+◌, ◌⊎◌, ℕ, List, IsTrue, true, is_some, length, sum_by};
+ghost use Rattle.store_core.specs.Stores.{fixed_of, state_of};
 ghost use Rattle.gather.specs.Claims.{Among};
 ghost use Rattle.bao_text.specs.Choice.{chunk_count};
 ghost use Rattle.gather.specs.Filled.{HasAllParents, IsFilled};
 ghost use Rattle.holders.specs.Available.{HaveSlices};
 ghost use Rattle.holders.specs.declared.grain.Grain.TheVariants.{Group as ByGroup};
-ghost use Rattle.gather.specs.Counts.{HasFailed, IsAnswered, IsToldTooLarge};
+ghost use Rattle.gather.specs.Counts.{HasFailed, IsAnswered, IsToldTooLarge, Still};
 ghost use Rattle.gather.specs.Lasting.{HasParent, HoldsChunk, IsBusy, Records};
 ghost use Rattle.holders.specs.Blobs.{IsBlob};
-ghost use Rattle.holders.specs.Holders.{AreLater, IsHanded};
+ghost use Rattle.holders.specs.Holders.{AreLater, IsHanded, IsNone};
 ghost use Rattle.holders.specs.Blobs.{AreLonger, IsTooLarge};
 ghost use Rattle.gather.specs.Worked.{AddsBlobs, AddsCertified, Gains, HasWorked, worker_claims};
 
@@ -85,7 +85,12 @@ impl Shelf for Alone {
         store.commit_parents(group, piece)
     }
 
-    fn has_parent(&self, store: &mut Store, boundary: u32) -> bool {
+    // No parent that is held is asked for again.
+    fn has_parent(&self, store: &mut Store, boundary: u32) -> bool
+        ensures still { Still (HasWorked IsNone) worker_claims store.old store.new }
+        ensures held { result ≡ true → HasParent store.new boundary }
+        ensures all { result ≡ is_some ((state_of store.old).parents boundary) }
+    {
         store.has_parent(boundary)
     }
 
