@@ -1,5 +1,6 @@
 pub mod Bytes
 pub mod Pieces
+pub mod GroupValues
 pub mod Served
 pub mod Turns
 pub mod Owning
@@ -8,6 +9,7 @@ pub mod Parts
 pub mod Covered
 pub mod Answering
 pub mod Slots
+pub mod Taken
 pub mod Finishing
 pub mod Writing
 pub mod Outlines

@@ -4,6 +4,7 @@ use Rattle.std.proofs.lemmas.Option.{slice_get-get_or}
 use Rattle.b3tree.specs.Hashing.{hash}
 use Rattle.b3tree.specs.Valid.{AreBytes}
 use Rattle.b3tree.specs.declared.mode.Mode.{Mode}
+use Rattle.b3tree.specs.declared.values.Cv.{Cv}
 use Rattle.bao_check.specs.Accepted.{IsAccepted}
 use Rattle.bao_check.specs.Checked.{HoldsLast, piece_claimed, piece_mode, piece_nodes, piece_places, piece_root, piece_text}
 use Rattle.bao_check.specs.Inputs.{NamesCollision}
@@ -18,11 +19,11 @@ use Rattle.holders.specs.declared.form.Form.{Form}
 use Rattle.holders.specs.declared.form.Form.TheVariants.{Slices, Bare}
 use Rattle.holders.specs.declared.piece.Piece.{Piece}
 use Rattle.bao_windows.proofs.Making.{handed_in}
-use Rattle.bao_windows.proofs.Pieces.{length_each, takes_of}
+use Rattle.bao_windows.proofs.Pieces.{added_value, length_each, some_is, takes_of}
 use Rattle.bao_windows.specs.declared.wanted.Wanted.{Wanted}
 use Rattle.bao_windows.specs.Asked.{IsAcceptedIn, IsAnswer, IsSound, made_in, mode_in, root_in}
 use Rattle.bao_windows.specs.Available.{CertifiesEnd, GaveEnd, HasNot, HasRefused, HasRefusedEnd, IsAcceptedAs, IsEndOf, IsFitting, IsNoEnd, Refuses, RefusesEnd, end_start, gives_in, span_in}
-use Rattle.bao_windows.specs.Windows.{IsFrom, IsLengthOfEach, LacksChunk, Takes, TakesOf, fixed_for}
+use Rattle.bao_windows.specs.Windows.{IsAddedValue, IsFrom, IsLengthOfEach, IsValueIn, LacksChunk, Takes, TakesOf, fixed_for}
 
 -- the source that is read at a place
 pub there_at : {S : Type 0} (sources : List S) (place : ℕ) (source : S) → place < length sources → source ≡ get_or sources place source → slice_get sources place ≡ Some source
@@ -61,9 +62,6 @@ accepted_slice mode root slice piece is sound =
     (subst (λ (m : Mode). IsAccepted m root (piece_text piece) (piece_nodes piece)) sound.mode_is
     (subst (λ (r : List ℕ). IsAccepted (piece_mode piece) r (piece_text piece) (piece_nodes piece)) sound.root_is sound.accepted))
 
-some_is : {S : Type 0} (x y : S) → Some x ≡ Some y → x ≡ y
-some_is x y e = cc
-
 -- a slice that is made beside an outline claims its length
 claims_length : (form : Form) (at : ℕ) (text : List ℕ) → IsLengthOf form (length_of (made_in form at 1 text))
 claims_length Slices at text = tt
@@ -99,6 +97,11 @@ module _ {S : Type 0} (contents : S → Option (List ℕ)) (faultless : S → Ty
       → Takes took (IsFrom wanted contents faultless sources) (fixed_for wanted) at len old new
   took_found piece took len old new is takes =
       takes_of took (IsFrom wanted contents faultless sources) wanted.mode wanted.root piece at len old new (found_is piece is).1 (came_from piece is) takes
+
+  -- and the value that it has of that
+  pub value_found : (piece : Checked) (took : Bool) (len : ℕ) (old new : List ℕ) (value : Option Cv) → found ≡ Some piece → IfSome value (IsValueIn piece at len) → TakesOf took piece at len old new
+      → took ≡ true → IfSome value (IsAddedValue wanted.mode at old new)
+  value_found piece took len old new value is = added_value piece wanted.mode at len old new value took (found_is piece is).1.mode_is
 
   pub refused_found : (piece : Checked) (took : Bool) (len : ℕ) (old new : List ℕ) → found ≡ Some piece → TakesOf took piece at len old new → took ≡ false
       → Refuses contents faultless wanted sources at len span place

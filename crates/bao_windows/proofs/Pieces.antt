@@ -1,9 +1,12 @@
 -- Bytes that are taken from checked pieces.
-use Rattle.std.proofs.Common.{◌≡◌, ◌⊎◌, ℕ, ◌+◌, ◌-◌, ◌*◌, ◌/◌, ◌%◌, ◌<◌, min, Bool, true, false, List, ◌++◌, length, None, Some, slice_get, ◌∙◌, sym, ap, subst, arith, inl, inr, refl, append_assoc, length-append}
+use Rattle.std.proofs.Common.{◌≡◌, ◌⊎◌, ℕ, ◌+◌, ◌-◌, ◌*◌, ◌/◌, ◌%◌, ◌<◌, ◌≤◌, min, Bool, true, false, List, [], ◌++◌, length, take, drop, IfSome, None, Option, Some, slice_get, ◌∙◌, sym, ap, subst, arith, inl, inr, refl, append_assoc, length-append, length-drop}
+use Rattle.std.proofs.lemmas.List.{append_cancel_left, drop-append-le, drop_at, take-append-le, take_all}
 use Rattle.std.proofs.lemmas.Option.{slice_get-get_or}
 use Rattle.b3tree.specs.declared.mode.Mode.{Mode}
+use Rattle.b3tree.specs.declared.values.Cv.{Cv}
 use Rattle.b3tree.specs.declared.values.Hash.{Hash}
 use Rattle.b3tree.specs.Hashing.{hash}
+use Rattle.b3tree.specs.Tree.{subtree_cv}
 use Rattle.b3tree.specs.Valid.{AreBytes}
 use Rattle.bao_check.specs.Accepted.{IsAccepted}
 use Rattle.bao_check.specs.declared.checked.Checked.{Checked}
@@ -12,13 +15,14 @@ use Rattle.bao_check.specs.Inputs.{NamesCollision}
 use Rattle.bao_check.specs.Laws.{BindsChunk}
 use Rattle.bao_check.specs.Pieces.{chunk_in}
 use Rattle.bao_check.specs.declared.tail.Tail.{Tail}
+use Rattle.bao_text.specs.Nodes.{TreeNode}
 use Rattle.bao_check.specs.Tail.{tail_piece}
 use Rattle.holders.specs.Blobs.{HasCollision, fixed_as}
 use Rattle.holders.specs.declared.piece.Piece.{Piece}
 use Rattle.holders.specs.Pieces.{IsAcceptedPiece, piece_of}
-use Rattle.bao_windows.proofs.Bytes.{both, chunk_byte}
+use Rattle.bao_windows.proofs.Bytes.{both, chunk_byte, place_of}
 use Rattle.bao_windows.specs.Asked.{IsSound}
-use Rattle.bao_windows.specs.Windows.{AddsOf, AreBytesAt, AreOfPiece, HasByte, IsAt, IsLengthOfEach, LacksChunk, Takes, TakesOf}
+use Rattle.bao_windows.specs.Windows.{AddsOf, AreBytesAt, AreOfPiece, HasByte, HasChunks, IsAddedValue, IsAt, IsLengthOfEach, IsValueIn, LacksChunk, Takes, TakesOf}
 
 -- the bytes of one of its chunks
 pub of_chunk : (piece : Checked) (at c : ℕ) (bytes : List ℕ) → at ≡ 1024 * c → chunk_in (piece_text piece) (piece_places piece) c ≡ Some bytes
@@ -32,16 +36,34 @@ of_chunk piece at c bytes same there binds = record {
   ];
 }
 
+pub some_is : {X : Type 0} (x y : X) → Some x ≡ Some y → x ≡ y
+some_is x y e = cc
+
+-- one chunk more
+chunks_more : (text : List ℕ) (places : List (ℕ × TreeNode)) (at m : ℕ) (xs bytes : List ℕ) → at % 1024 ≡ 0 → m % 1024 ≡ 0 → length xs ≡ m → length bytes ≤ 1024
+    → HasChunks text places (at / 1024) xs → chunk_in text places ((at + m) / 1024) ≡ Some bytes → HasChunks text places (at / 1024) (xs ++ bytes)
+chunks_more text places at m xs bytes aligned whole size one has there k below = elim (place_of k (m / 1024)) [
+  | inl low ↦
+      has k (omega (arith, low, whole, size))
+      ∙ ap (λ (s : List ℕ). Some s) (sym (ap (λ (s : List ℕ). take 1024 s) (drop-append-le (1024 * k) xs bytes (omega (arith, low, whole, size)))
+      ∙ take-append-le 1024 (drop (1024 * k) xs) bytes (omega (arith, low, whole, size, length-drop (1024 * k) xs))))
+  | inr high ↦
+      let here : 1024 * k ≡ m = omega (arith, high, below, length-append xs bytes, size, one, whole) in
+      let last : take 1024 (drop (1024 * k) (xs ++ bytes)) ≡ bytes = ap (λ (s : List ℕ). take 1024 s) (drop_at xs bytes (1024 * k) (omega (arith, here, size))) ∙ take_all 1024 bytes one in
+      subst (λ (c : ℕ). chunk_in text places c ≡ Some (take 1024 (drop (1024 * k) (xs ++ bytes)))) (omega (arith, here, aligned)) (there ∙ ap (λ (s : List ℕ). Some s) (sym last))
+]
+
 -- and more follow
-pub adds_more_of : (piece : Checked) (at m n : ℕ) (old mid new bytes : List ℕ) → AddsOf piece at m old mid → new ≡ mid ++ bytes → length bytes ≡ n → AreOfPiece piece (at + m) bytes
-    → AddsOf piece at (m + n) old new
-adds_more_of piece at m n old mid new bytes first is size each =
+pub adds_more_of : (piece : Checked) (at m n : ℕ) (old mid new bytes : List ℕ) → at % 1024 ≡ 0 → m % 1024 ≡ 0 → n ≤ 1024 → chunk_in (piece_text piece) (piece_places piece) ((at + m) / 1024) ≡ Some bytes
+    → AddsOf piece at m old mid → new ≡ mid ++ bytes → length bytes ≡ n → AreOfPiece piece (at + m) bytes → AddsOf piece at (m + n) old new
+adds_more_of piece at m n old mid new bytes aligned whole one there first is size each =
     let xs : List ℕ = first.bytes in
     let next : AreOfPiece piece (at + length xs) bytes = subst (λ (k : ℕ). AreOfPiece piece (at + k) bytes) (sym first.size) each in
     record {
       bytes = xs ++ bytes;
       is = is ∙ ap (λ (s : List ℕ). s ++ bytes) first.is ∙ append_assoc old xs bytes;
       size = omega (arith, length-append xs bytes, first.size, size);
+      chunks = chunks_more (piece_text piece) (piece_places piece) at m xs bytes aligned whole first.size (omega (arith, size, one)) first.chunks there;
       each = record {
         chunks = both (HasByte (piece_text piece) (piece_places piece)) at xs bytes first.each.chunks next.chunks;
         each = λ blob valid hashed.
@@ -89,8 +111,20 @@ takes_of true handed mode root piece at len old new sound from adds =
     record { bytes = adds.bytes; is = adds.is; size = adds.size; each = bytes_of handed mode root piece at adds.bytes sound from adds.each }
 takes_of false handed mode root piece at len old new sound from none = none.0
 
-some_is : {X : Type 0} (x y : X) → Some x ≡ Some y → x ≡ y
-some_is x y e = cc
+-- the value that the piece has of what is taken of it
+pub added_value : (piece : Checked) (mode : Mode) (at len : ℕ) (old new : List ℕ) (value : Option Cv) (took : Bool) → piece_mode piece ≡ mode → IfSome value (IsValueIn piece at len)
+    → TakesOf took piece at len old new → took ≡ true → IfSome value (IsAddedValue mode at old new)
+added_value piece mode at len old new None took same known takes done = tt
+added_value piece mode at len old new (Some v) false same known takes done = let wrong : false ≡ true = done in cc
+added_value piece mode at len old new (Some v) true same known adds done = λ bytes is.
+    let own : adds.bytes ≡ bytes = append_cancel_left old adds.bytes bytes (sym adds.is ∙ is) in
+    known adds.bytes adds.size adds.chunks ∙ (λ i. subtree_cv (same i) (at / 1024) (own i))
+
+-- the value of what follows nothing
+pub first_value : (mode : Mode) (at : ℕ) (old new : List ℕ) (value : Option Cv) → old ≡ [] → IfSome value (IsAddedValue mode at old new)
+    → IfSome value (λ v. v.0 ≡ subtree_cv mode (at / 1024) new)
+first_value mode at old new None none known = tt
+first_value mode at old new (Some v) none known = known new (ap (λ (xs : List ℕ). xs ++ new) (sym none))
 
 -- a chunk that the piece doesn't hold, of those that so many bytes begin in
 pub lacks_no_chunk : (piece : Checked) (at len came : ℕ) → at % 1024 ≡ 0 → (came % 1024 ≡ 0) ⊎ (came ≡ len) → came < len

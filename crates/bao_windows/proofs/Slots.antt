@@ -1,7 +1,7 @@
 -- The bytes of a window's slots.
-use Rattle.std.proofs.Common.{◌≡◌, ℕ, ◌+◌, ◌-◌, ◌*◌, ◌<◌, ◌≤◌, min, suc, List, [], ◌∷◌, ◌++◌, length, take, take_at, drop, get_or, slice_index_or, ◌∙◌, sym, ap, subst, arith, inl, inr, refl, Option, None, Some, IfErr, IfSome, OnOk, Result, Ok, Err, length-append, ◌⊎◌}
+use Rattle.std.proofs.Common.{◌≡◌, ℕ, ◌+◌, ◌-◌, ◌*◌, ◌<◌, ◌≤◌, min, suc, List, [], ◌∷◌, ◌++◌, length, take, take_at, drop, get_or, slice_index_or, ◌∙◌, sym, ap, subst, arith, inl, inr, refl, Option, None, Some, IfErr, IfSome, OnOk, Result, Ok, Err, append-nil, length-append, ◌⊎◌}
 use Rattle.std.proofs.lemmas.Grind.{flat_map-append}
-use Rattle.std.proofs.lemmas.List.{drop_more, take-append-drop}
+use Rattle.std.proofs.lemmas.List.{drop_more, take-append-drop, take_more}
 use Rattle.bao_windows.specs.declared.fault.GatherFault.{GatherFault}
 use Rattle.bao_windows.specs.declared.fault.GatherFault.TheVariants.{Starved, Unfinished}
 use Rattle.holders.specs.declared.fixed.Fixed.{Fixed}
@@ -10,7 +10,7 @@ use Rattle.bao_windows.proofs.Bytes.{both_at, none_at, place_of}
 use Rattle.bao_windows.specs.declared.wanted.Wanted.{Wanted}
 use Rattle.bao_windows.specs.declared.window.Slot.{Slot}
 use Rattle.bao_windows.specs.Available.{IsFilled, IsMissing, IsTried}
-use Rattle.bao_windows.specs.Windows.{Adds, AreBytesAt, AreOfSlot, HasFault, IsFrom, fixed_for, window_bytes}
+use Rattle.bao_windows.specs.Windows.{Adds, AreBytesAt, AreOfWindow, HasFault, IsFrom, IsOfSlot, IsValue, IsValued, fixed_for, window_bytes}
 
 -- where the bytes of a part end
 next_at : (handed : Piece → Type 0) (fixed : Fixed) (start total k : ℕ) (n : ℕ) (rest : List ℕ) → n ≡ min 65536 (total - (start + 65536 * k))
@@ -24,16 +24,16 @@ next_at handed fixed start total k n rest size few each = elim (place_of n 65536
 
 -- those of slots from number k on
 pub filled : (handed : Piece → Type 0) (fixed : Fixed) (start total k : ℕ) (window : List Slot)
-    → ((i n : ℕ) (d : Slot) → n ≡ k + i → i < length window → AreOfSlot handed fixed start total n (slice_index_or window i d).bytes.items)
+    → ((i n : ℕ) (d : Slot) → n ≡ k + i → i < length window → IsOfSlot handed fixed start total n (slice_index_or window i d))
     → (length (window_bytes window) ≡ min (65536 * length window) (total - (start + 65536 * k))) × AreBytesAt handed fixed (start + 65536 * k) (window_bytes window)
 filled handed fixed start total k [] each = (omega arith, none_at handed fixed (start + 65536 * k) [] refl)
 filled handed fixed start total k (slot ∷ rest) each =
-    let head : AreOfSlot handed fixed start total k slot.bytes.items = each 0 k slot (omega arith) (omega arith) in
+    let head : IsOfSlot handed fixed start total k slot = each 0 k slot (omega arith) (omega arith) in
     let tail = filled handed fixed start total (k + 1) rest (λ i n d same less. each (suc i) n d (omega (arith, same)) (omega (arith, less))) in
     let long = length-append slot.bytes.items (window_bytes rest) in (
-      omega (arith, long, head.size, tail.0),
+      omega (arith, long, head.valued.size, tail.0),
       both_at handed fixed (start + 65536 * k) slot.bytes.items (window_bytes rest) head.each
-          (next_at handed fixed start total k (length slot.bytes.items) (window_bytes rest) head.size (omega (arith, tail.0)) tail.1),
+          (next_at handed fixed start total k (length slot.bytes.items) (window_bytes rest) head.valued.size (omega (arith, tail.0)) tail.1),
     )
 
 -- the bytes before a slot, its own, and those after it
@@ -45,30 +45,43 @@ parted_at window i slot within is =
     ∙ flat_map-append (λ (s : Slot). s.bytes.items) (take i window) (drop i window)
     ∙ ap (λ (ss : List Slot). window_bytes (take i window) ++ window_bytes ss) rest
 
+-- one slot more
+pub slot_more : (window : List Slot) (i : ℕ) (slot : Slot) → i < length window → slot ≡ get_or window i slot → window_bytes (take (i + 1) window) ≡ window_bytes (take i window) ++ slot.bytes.items
+slot_more window i slot within is =
+    ap window_bytes (take_more window i slot within ∙ ap (λ (s : Slot). take i window ++ s ∷ []) (sym is))
+    ∙ flat_map-append (λ (s : Slot). s.bytes.items) (take i window) (slot ∷ [])
+    ∙ ap (λ (xs : List ℕ). window_bytes (take i window) ++ xs) (append-nil slot.bytes.items)
+
 -- what is so of all slots without a fault
 pub none_faulty : (window : List Slot) (P : ℕ → Slot → Type 0) → ((i : ℕ) (d : Slot) → i < length window → (slice_index_or window i d).fault ≡ None)
     → ((i : ℕ) (d : Slot) → i < length window → (slice_index_or window i d).fault ≡ None → P i (slice_index_or window i d))
     → (i n : ℕ) (d : Slot) → n ≡ 0 + i → i < length window → P n (slice_index_or window i d)
 none_faulty window P clean holds i n d same less = let at : i ≡ n = omega (arith, same) in subst (λ (k : ℕ). P k (slice_index_or window i d)) at (holds i d less (clean i d less))
 
--- the bytes of a window whose slots have no fault
+-- a window whose slots have no fault
 pub window_filled : (handed : Piece → Type 0) (fixed : Fixed) (start total : ℕ) (window : List Slot)
-    → ((i : ℕ) (d : Slot) → i < length window → (slice_index_or window i d).fault ≡ None → AreOfSlot handed fixed start total i (slice_index_or window i d).bytes.items)
-    → ((i : ℕ) (d : Slot) → i < length window → (slice_index_or window i d).fault ≡ None)
-    → (length (window_bytes window) ≡ min (65536 * length window) (total - start)) × AreBytesAt handed fixed start (window_bytes window)
+    → ((i : ℕ) (d : Slot) → i < length window → (slice_index_or window i d).fault ≡ None → IsOfSlot handed fixed start total i (slice_index_or window i d))
+    → ((i : ℕ) (d : Slot) → i < length window → (slice_index_or window i d).fault ≡ None) → AreOfWindow handed fixed start total window
 window_filled handed fixed start total window tried clean =
     let both = filled handed fixed start total 0 window
-    (none_faulty window (λ (n : ℕ) (slot : Slot). AreOfSlot handed fixed start total n slot.bytes.items) clean tried) in
+    (none_faulty window (λ (n : ℕ) (slot : Slot). IsOfSlot handed fixed start total n slot) clean tried) in
     let place : start + 65536 * 0 ≡ start = omega arith in
-    (omega (arith, both.0), subst (λ (at : ℕ). AreBytesAt handed fixed at (window_bytes window)) place both.1)
-
--- the bytes of a slot that was filled by itself
-pub slot_filled : (handed : Piece → Type 0) (fixed : Fixed) (start total number at len : ℕ) (old new : List ℕ) → at ≡ start + 65536 * number → len ≡ min 65536 (total - at) → old ≡ []
-    → Adds handed fixed at len old new → AreOfSlot handed fixed start total number new
-slot_filled handed fixed start total number at len old new place size none adds =
-    let same : adds.bytes ≡ new = sym (adds.is ∙ ap (λ (xs : List ℕ). xs ++ adds.bytes) none) in
     record {
-      size = omega (arith, ap (λ (xs : List ℕ). length xs) same, adds.size, size, place);
+      valued = λ i d less. (tried i d less (clean i d less)).valued;
+      size = omega (arith, both.0);
+      each = subst (λ (at : ℕ). AreBytesAt handed fixed at (window_bytes window)) place both.1;
+    }
+
+-- a slot that was filled by itself
+pub slot_filled : (handed : Piece → Type 0) (fixed : Fixed) (start total number at len : ℕ) (old : List ℕ) (slot : Slot) → at ≡ start + 65536 * number → len ≡ min 65536 (total - at) → old ≡ []
+    → Adds handed fixed at len old slot.bytes.items → (length slot.bytes.items ≡ min 65536 (total - at) → IsValue fixed.mode at total slot.bytes.items slot.value)
+    → IsOfSlot handed fixed start total number slot
+slot_filled handed fixed start total number at len old slot place size none adds value =
+    let new : List ℕ = slot.bytes.items in
+    let same : adds.bytes ≡ new = sym (adds.is ∙ ap (λ (xs : List ℕ). xs ++ adds.bytes) none) in
+    let long : length new ≡ min 65536 (total - at) = omega (arith, ap (λ (xs : List ℕ). length xs) same, adds.size, size) in
+    record {
+      valued = subst (λ (n : ℕ). IsValued slot fixed.mode n total) place (record { size = long; value = value long });
       each = subst (λ (n : ℕ). AreBytesAt handed fixed n new) place (subst (λ (xs : List ℕ). AreBytesAt handed fixed at xs) same adds.each);
     }
 
@@ -89,8 +102,8 @@ pub filled_so : {S : Type 0} (contents : S → Option (List ℕ)) (faultless : S
     → OnOk result ((i : ℕ) (d : Slot) → i < length new → (slice_index_or new i d).fault ≡ None) → IfErr result (HasFault new)
     → IsFilled contents faultless wanted sources start total old new result
 filled_so contents faultless wanted sources start total old new (Ok u) same tried clean has =
-    let both = window_filled (IsFrom wanted contents faultless sources) (fixed_for wanted) start total new (λ i d less none. (tried i d less).filled none) clean in
-    record { same = same; whole = record { size = both.0; each = both.1 }; fault = tt; missing = λ e. cc }
+    let whole = window_filled (IsFrom wanted contents faultless sources) (fixed_for wanted) start total new (λ i d less none. (tried i d less).filled none) clean in
+    record { same = same; whole = whole; fault = tt; missing = λ e. cc }
 filled_so contents faultless wanted sources start total old new (Err fault) same tried clean has =
     let own = faulty contents faultless wanted sources start total new fault tried has in
     record { same = same; whole = tt; fault = own.0; missing = λ e. let is : fault ≡ Unfinished = cc in own.1 is }

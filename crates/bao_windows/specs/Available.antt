@@ -17,7 +17,7 @@ use Rattle.holders.specs.declared.piece.Piece.{Piece}
 use Rattle.holders.specs.Pieces.{EndsBlob, length_of, nodes_of}
 use Rattle.bao_windows.specs.declared.wanted.Wanted.{Wanted}
 use Rattle.bao_windows.specs.declared.window.Slot.{Slot}
-use Rattle.bao_windows.specs.Windows.{AreOfSlot, AreOfWindow, IsFrom, LacksChunk, fixed_for}
+use Rattle.bao_windows.specs.Windows.{AreOfWindow, IsFrom, IsOfSlot, LacksChunk, fixed_for}
 
 -- a text as a slice
 abbrev pub slice_piece : ℕ → ℕ → List ℕ → Piece
@@ -147,9 +147,9 @@ pub record IsFirstEnd {S : Type 0} (contents : S → Option (List ℕ)) (faultle
 abbrev pub HasNoEnd : {S : Type 0} → (S → Option (List ℕ)) → (S → Type 0) → Wanted → List S → Type 0
 HasNoEnd contents faultless wanted sources = (place : ℕ) → place < length sources → RefusesEnd contents faultless wanted sources place
 
--- A slot of a window was to be filled: it has no fault and the bytes of its group, or no source had them, or there was no memory.
+-- A slot of a window was to be filled: it has no fault and the bytes of its group with their value, or no source had them, or there was no memory.
 pub record IsTried {S : Type 0} (contents : S → Option (List ℕ)) (faultless : S → Type 0) (wanted : Wanted) (sources : List S) (start total number : ℕ) (slot : Slot) : Type 0 where
-  pub filled : slot.fault ≡ None → AreOfSlot (IsFrom wanted contents faultless sources) (fixed_for wanted) start total number slot.bytes.items
+  pub filled : slot.fault ≡ None → IsOfSlot (IsFrom wanted contents faultless sources) (fixed_for wanted) start total number slot
   pub fault : IfSome slot.fault (λ fault. (fault ≡ Unfinished) ⊎ (fault ≡ Starved))
   pub missing : slot.fault ≡ Some Unfinished → IsMissing contents faultless wanted sources total
 

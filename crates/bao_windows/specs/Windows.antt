@@ -1,7 +1,10 @@
 -- Parts of a blob that are gathered, and what is known of their bytes.
-use Rattle.std.specs.Prelude.{◌≡◌, ◌⊎◌, ℕ, ◌+◌, ◌-◌, ◌*◌, ◌<◌, ◌≤◌, min, Bool, true, false, List, ◌++◌, length, Option, Some, slice_get, slice_index, slice_index_or}
+use Rattle.std.specs.Prelude.{◌≡◌, ◌⊎◌, ℕ, ◌+◌, ◌-◌, ◌*◌, ◌/◌, ◌<◌, ◌≤◌, min, Bool, true, false, List, ◌++◌, length, take, drop, IfSome, None, Option, Some, slice_get, slice_index, slice_index_or}
 use Rattle.std.specs.List.{flat_map}
+use Rattle.b3tree.specs.declared.mode.Mode.{Mode}
+use Rattle.b3tree.specs.declared.values.Cv.{Cv}
 use Rattle.b3tree.specs.Hashing.{hash}
+use Rattle.b3tree.specs.Tree.{subtree_cv}
 use Rattle.b3tree.specs.Valid.{AreBytes}
 use Rattle.bao_check.specs.declared.checked.Checked.{Checked}
 use Rattle.bao_check.specs.Checked.{piece_mode, piece_places, piece_root, piece_text}
@@ -78,12 +81,26 @@ pub record AreOfPiece (piece : Checked) (at : ℕ) (bytes : List ℕ) : Type 0 w
   pub each : (blob : List ℕ) → AreBytes blob → hash (piece_mode piece) blob ≡ piece_root piece
       → AllAt (IsAt blob (NamesCollision (piece_mode piece) blob (piece_text piece) (piece_places piece))) at bytes
 
+-- an encoding has these bytes as its chunks from this one on
+abbrev pub HasChunks : List ℕ → List (ℕ × TreeNode) → ℕ → List ℕ → Type 0
+HasChunks text places first bytes = (k : ℕ) → 1024 * k < length bytes → chunk_in text places (first + k) ≡ Some (take 1024 (drop (1024 * k) bytes))
+
 -- so many of a checked piece's bytes follow
 pub record AddsOf (piece : Checked) (at len : ℕ) (old new : List ℕ) : Type 0 where
   pub bytes : List ℕ
   pub is : new ≡ old ++ bytes
   pub size : length bytes ≡ len
+  pub chunks : HasChunks (piece_text piece) (piece_places piece) (at / 1024) bytes
   pub each : AreOfPiece piece at bytes
+
+-- the chaining value of so many of a checked piece's bytes, those of its chunks from an offset on
+abbrev pub IsValueIn : Checked → ℕ → ℕ → Cv → Type 0
+IsValueIn piece at len value =
+    (bytes : List ℕ) → length bytes ≡ len → HasChunks (piece_text piece) (piece_places piece) (at / 1024) bytes → value.0 ≡ subtree_cv (piece_mode piece) (at / 1024) bytes
+
+-- the chaining value of the bytes that follow, which begin at an offset
+abbrev pub IsAddedValue : Mode → ℕ → List ℕ → List ℕ → Cv → Type 0
+IsAddedValue mode at old new value = (bytes : List ℕ) → new ≡ old ++ bytes → value.0 ≡ subtree_cv mode (at / 1024) bytes
 
 -- A piece lacks a chunk of those that `len` bytes from a place on begin in: it doesn't hold the chunk, or not with as many bytes as it has of
 -- these.
@@ -102,17 +119,28 @@ TakesOf false piece at len old new = (new ≡ old) × LacksChunk (piece_of 0 pie
 abbrev pub window_bytes : List Slot → List ℕ
 window_bytes window = flat_map (λ slot. slot.bytes.items) window
 
--- how many bytes of a blob of `total` bytes slot number `number` of a window has that begins at a place
-abbrev pub slot_len : ℕ → ℕ → ℕ → ℕ
-slot_len start total number = min 65536 (total - (start + 65536 * number))
+-- the chaining value of the group of these bytes, which begins at an offset, unless the blob, of `total` bytes, ends with it
+pub record IsValue (mode : Mode) (at total : ℕ) (bytes : List ℕ) (value : Option Cv) : Type 0 where
+  pub some : IfSome value (λ value. (at + 65536 < total) × (value.0 ≡ subtree_cv mode (at / 1024) bytes))
+  pub none : value ≡ None → total ≤ at + 65536
 
--- the bytes are those of that slot
-pub record AreOfSlot (handed : Piece → Type 0) (fixed : Fixed) (start total number : ℕ) (bytes : List ℕ) : Type 0 where
-  pub size : length bytes ≡ slot_len start total number
-  pub each : AreBytesAt handed fixed (start + 65536 * number) bytes
+-- the slot has as many bytes as a blob of `total` bytes has in the group that begins at an offset, and their value
+pub record IsValued (slot : Slot) (mode : Mode) (at total : ℕ) : Type 0 where
+  pub size : length slot.bytes.items ≡ min 65536 (total - at)
+  pub value : IsValue mode at total slot.bytes.items slot.value
+
+-- each slot of a window that begins at an offset has
+abbrev pub AreValued : List Slot → Mode → ℕ → ℕ → Type 0
+AreValued window mode start total = (i : ℕ) (d : Slot) → i < length window → IsValued (slice_index_or window i d) mode (start + 65536 * i) total
+
+-- the slot with this number has the bytes of its group
+pub record IsOfSlot (handed : Piece → Type 0) (fixed : Fixed) (start total number : ℕ) (slot : Slot) : Type 0 where
+  pub valued : IsValued slot fixed.mode (start + 65536 * number) total
+  pub each : AreBytesAt handed fixed (start + 65536 * number) slot.bytes.items
 
 -- the bytes of a window that begins at a place are those of a blob of `total` bytes there, as far as it has slots and the blob goes
 pub record AreOfWindow (handed : Piece → Type 0) (fixed : Fixed) (start total : ℕ) (window : List Slot) : Type 0 where
+  pub valued : AreValued window fixed.mode start total
   pub size : length (window_bytes window) ≡ min (65536 * length window) (total - start)
   pub each : AreBytesAt handed fixed start (window_bytes window)
 

@@ -12,8 +12,8 @@ ghost use Rattle.holders.specs.Blobs.{IsBlob};
 ghost use Rattle.bao_windows.specs.declared.fault.WindowsFault.TheVariants as WindowsFault;
 ghost use Rattle.bao_windows.specs.Available.{HasNoEnd, IsFilled, IsMissing};
 ghost use Rattle.bao_windows.specs.Copies.{HaveCopies, IsOwn};
-ghost use Rattle.bao_windows.specs.Windows.{AreOfWindow, IsFrom, IsLengthOfEach, fixed_for, window_bytes};
-ghost use Rattle.bao_windows.specs.Written.{AreTooLong, HasRoomFor, IsBegun, IsOfWindow, IsOfWindows, IsOfWriting, IsPut, IsWrittenOut, WroteAll, WroteBlob, WroteOf};
+ghost use Rattle.bao_windows.specs.Windows.{AreOfWindow, AreValued, IsFrom, IsLengthOfEach, fixed_for};
+ghost use Rattle.bao_windows.specs.Written.{AreNext, AreTooLong, HasTakenTo, IsBegun, IsOfWindow, IsOfWindows, IsOfWriting, IsPut, IsWrittenOut, WroteAll, WroteBlob, WroteOf};
 
 use crate::fault::{GatherFault, WindowsFault};
 use crate::length::certified_length;
@@ -46,11 +46,11 @@ fn write_window<R: Threads + Sync, S: Source + Sync, W: Write>(
 ) -> Result<u64, WindowsFault>
     requires aligned { at % 65536 ≡ 0 }
     requires below { at < total }
-    requires room { HasRoomFor hasher.old (total - at) }
+    requires taken { HasTakenTo wanted.now.mode total at hasher.old }
     requires whole { AreOfWindow (IsFrom wanted.now S.contents S.faultless sources.now) (fixed_for wanted.now) at total window.now }
     ensures next { IfOk result (λ end. end ≡ at + min (65536 * length window.now) (total - at)) }
     ensures whole { IfOk result (λ end. end < total → AreOfWindow (IsFrom wanted.now S.contents S.faultless sources.now) (fixed_for wanted.now) end total next.new) }
-    ensures wrote { IfOk result (λ end. WroteOf (IsFrom wanted.now S.contents S.faultless sources.now) (fixed_for wanted.now) at (end - at) (W.contents out.old) (W.contents out.new) hasher.old hasher.new) }
+    ensures wrote { IfOk result (λ end. WroteOf (IsFrom wanted.now S.contents S.faultless sources.now) (fixed_for wanted.now) total at (end - at) (W.contents out.old) (W.contents out.new) hasher.old hasher.new) }
     ensures begun { IsBegun (IsFrom wanted.now S.contents S.faultless sources.now) (fixed_for wanted.now) at (W.contents out.old) (W.contents out.new) }
     ensures fault { IfErr result IsOfWindow }
     ensures missing { IsErrOf result (WindowsFault.Gather GatherFault.Unfinished) → IsMissing S.contents S.faultless wanted.now sources.now total }
@@ -58,7 +58,7 @@ fn write_window<R: Threads + Sync, S: Source + Sync, W: Write>(
     let count = GROUP_BYTES.saturating_mul(window.len() as u64);
     let end = at + count.min(total - at);
     if end >= total {
-        return match put_window(rt, window, hasher, out) {
+        return match put_window(window, hasher, out) {
             Ok(()) => Ok(end),
             Err(fault) => Err(fault),
         };
@@ -70,9 +70,9 @@ fn write_window<R: Threads + Sync, S: Source + Sync, W: Write>(
             ensures { IsFilled S.contents S.faultless wanted.entry.now sources.entry.now end total next.entry.now next.exit.now result }
         { fill_window(rt, alloc, wanted, workers, sources, end, total, next) },
         &mut || -> Result<(), WindowsFault>
-            requires { IsSync R.row × HasRoomFor hasher.now (length (window_bytes window.now)) }
-            ensures { IsPut (window_bytes window.entry.now) (W.contents out.entry.now) (W.contents out.exit.now) hasher.entry.now hasher.exit.now result }
-        { put_window(rt, window, hasher, out) },
+            requires { AreNext (AreValued window.now) hasher.now }
+            ensures { IsPut window.entry.now (W.contents out.entry.now) (W.contents out.exit.now) hasher.entry.now hasher.exit.now result }
+        { put_window(window, hasher, out) },
     );
     match put {
         Ok(()) => {}

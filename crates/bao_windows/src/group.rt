@@ -1,11 +1,12 @@
-ghost use Rattle.std.specs.Prelude.{◌≡◌, ◌+◌, ◌%◌, ◌^◌, ◌<◌, false, true, IfOk};
+ghost use Rattle.std.specs.Prelude.{◌≡◌, ◌+◌, ◌%◌, ◌^◌, ◌<◌, false, true, IfOk, IfSome};
 ghost use Rattle.bao_windows.specs.Available.{LacksGroup, LacksOne};
-ghost use Rattle.bao_windows.specs.Windows.{Adds, IsFrom, fixed_for};
+ghost use Rattle.bao_windows.specs.Windows.{Adds, IsAddedValue, IsFrom, fixed_for};
 
 use crate::appending::CHUNK_BYTES;
 use crate::taking::take_any;
 use crate::wanted::Wanted;
 use b3par::Source;
+use b3tree::Cv;
 use bao_check::GROUP_BYTES;
 use holders::{ByteRange, Grain};
 use std::alloc::{AllocError, Global};
@@ -31,7 +32,19 @@ fn take_chunks<S: Source>(
             start: part.start + came,
             len: CHUNK_BYTES.min(part.len - came),
         };
-        if !take_any(alloc, wanted, sources, last, chunk, CHUNK_BYTES, room, into)? {
+        // A chunk alone is no group: no value comes with it.
+        let mut value = None;
+        if !take_any(
+            alloc,
+            wanted,
+            sources,
+            last,
+            chunk,
+            CHUNK_BYTES,
+            room,
+            &mut value,
+            into,
+        )? {
             return Ok(false);
         }
         came += chunk.len;
@@ -40,7 +53,7 @@ fn take_chunks<S: Source>(
 }
 
 // Takes the chunks of a group, which are this part: from the first source in turn that has all of them, or else, where the grain is a
-// chunk, each from the first that has it.
+// chunk, each from the first that has it; and in the first case the group's value, if the slice has it.
 pub(crate) fn take_group<S: Source>(
     alloc: Global,
     wanted: &Wanted<'_>,
@@ -48,17 +61,30 @@ pub(crate) fn take_group<S: Source>(
     last: &mut usize,
     part: ByteRange,
     room: &mut Vec<u8>,
+    value: &mut Option<Cv>,
     into: &mut Vec<u8>,
 ) -> Result<bool, AllocError>
     requires aligned { part.start % 65536 ≡ 0 }
     requires some { 0 < part.len }
     requires range { part.start + part.len < 2 ^ 64 }
     ensures took { IfOk result (λ took. took ≡ true → Adds (IsFrom wanted.now S.contents S.faultless sources.now) (fixed_for wanted.now) part.start part.len into.old.items into.new.items) }
+    ensures value { IfOk result (λ took. took ≡ true → IfSome value.new (IsAddedValue wanted.now.mode part.start into.old.items into.new.items)) }
     ensures lacks { IfOk result (λ took. took ≡ false → LacksGroup S.contents S.faultless wanted.now sources.now part.start part.len) }
 {
-    if take_any(alloc, wanted, sources, last, part, GROUP_BYTES, room, into)? {
+    if take_any(
+        alloc,
+        wanted,
+        sources,
+        last,
+        part,
+        GROUP_BYTES,
+        room,
+        value,
+        into,
+    )? {
         return Ok(true);
     }
+    *value = None;
     match wanted.grain {
         Grain::Group => Ok(false),
         Grain::Chunk => take_chunks(alloc, wanted, sources, last, part, room, into),

@@ -18,5 +18,6 @@ mod law;
 mod length;
 mod output;
 mod taking;
+mod value;
 mod wanted;
 mod window;

@@ -1,34 +1,41 @@
-ghost use Rattle.std.specs.Prelude.{◌≡◌, ◌+◌, ◌<◌, length, IfErr, OnOk};
+ghost use Rattle.std.specs.Prelude.{◌≡◌, IfErr, OnOk};
 ghost use Rattle.std.specs.Io.KnownBytes.{Appends};
 ghost use Rattle.b3tree.specs.Valid.{AreBytes};
 ghost use Rattle.bao_windows.specs.declared.fault.WindowsFault.TheVariants as WindowsFault;
-ghost use Rattle.bao_windows.specs.Windows.{window_bytes};
-ghost use Rattle.bao_windows.specs.Written.{HasRoomFor, IsPut, TookIn, WroteBeginning};
+ghost use Rattle.bao_windows.specs.Windows.{AreValued, IsValued, window_bytes};
+ghost use Rattle.bao_windows.specs.Written.{AreNext, IsPut, Took, WroteBeginning};
 
 use crate::fault::WindowsFault;
 use crate::window::Slot;
 use b3tree::{Hasher, bytes_are};
+use bao_check::GROUP_LEN;
 use bao_text::write_text;
 use std::io::Write;
-use std::thread::{Threads, join_mut};
 
-// A window of fewer groups than this is hashed before another thread would have begun to.
-const FEW_GROUPS: usize = 16;
+// Takes a slot into the hash: by the value of its group, or, where the blob ends with it, by its bytes.
+fn take_slot(slot: &Slot, hasher: &mut Hasher)
+    requires { AreNext (IsValued slot.now) hasher.old }
+    ensures { Took (IsValued slot.now) hasher.old hasher.new slot.now.bytes.items }
+{
+    match slot.value {
+        Some(value) => hasher.update_subtree(GROUP_LEN as usize, value),
+        None => match hasher.update(slot.bytes.as_slice()) {
+            Ok(()) => {}
+            Err(_) => unreachable!(),
+        },
+    }
+}
 
-// Takes the bytes of a window into the hash.
+// Takes a window into the hash.
 fn take_in(window: &[Slot], hasher: &mut Hasher)
-    requires { HasRoomFor hasher.old (length (window_bytes window.now)) }
-    ensures took { TookIn hasher.old hasher.new (window_bytes window.now) }
+    requires { AreNext (AreValued window.now) hasher.old }
+    ensures took { Took (AreValued window.now) hasher.old hasher.new (window_bytes window.now) }
     ensures are { AreBytes (window_bytes window.now) }
 {
     for slot in window {
-        let bytes = slot.bytes.as_slice();
         // A law, so that the proof has what it says: nothing runs.
-        bytes_are(bytes);
-        match hasher.update(bytes) {
-            Ok(()) => {}
-            Err(_) => unreachable!(),
-        }
+        bytes_are(slot.bytes.as_slice());
+        take_slot(slot, hasher);
     }
 }
 
@@ -47,32 +54,15 @@ fn write_slots<W: Write>(window: &[Slot], out: &mut W) -> Result<(), WindowsFaul
     Ok(())
 }
 
-// Takes the bytes of a window into the hash and writes them, at the same time where they are many.
-pub(crate) fn put_window<R: Threads + Sync, W: Write>(
-    rt: &R,
+// Takes a window into the hash and writes its bytes.
+pub(crate) fn put_window<W: Write>(
     window: &[Slot],
     hasher: &mut Hasher,
     out: &mut W,
 ) -> Result<(), WindowsFault>
-    requires room { HasRoomFor hasher.old (length (window_bytes window.now)) }
-    ensures { IsPut (window_bytes window.now) (W.contents out.old) (W.contents out.new) hasher.old hasher.new result }
+    requires { AreNext (AreValued window.now) hasher.old }
+    ensures { IsPut window.now (W.contents out.old) (W.contents out.new) hasher.old hasher.new result }
 {
-    if window.len() < FEW_GROUPS {
-        take_in(window, hasher);
-        return write_slots(window, out);
-    }
-    let (_, written) = join_mut(
-        rt,
-        &mut || -> ()
-            requires { HasRoomFor hasher.now (length (window_bytes window.now)) }
-            ensures took { TookIn hasher.entry.now hasher.exit.now (window_bytes window.entry.now) }
-            ensures are { AreBytes (window_bytes window.entry.now) }
-        { take_in(window, hasher) },
-        &mut || -> Result<(), WindowsFault>
-            ensures text { OnOk result (Appends (W.contents out.entry.now) (W.contents out.exit.now) (window_bytes window.entry.now)) }
-            ensures begun { WroteBeginning (W.contents out.entry.now) (W.contents out.exit.now) (window_bytes window.entry.now) }
-            ensures fault { IfErr result (λ fault. fault ≡ WindowsFault.Write) }
-        { write_slots(window, out) },
-    );
-    written
+    take_in(window, hasher);
+    write_slots(window, out)
 }

@@ -1,15 +1,18 @@
-ghost use Rattle.std.specs.Prelude.{◌≡◌, ◌+◌, ◌%◌, ◌^◌, ◌<◌, false, length, IfOk};
+ghost use Rattle.std.specs.Prelude.{◌≡◌, ◌+◌, ◌%◌, ◌^◌, ◌<◌, false, true, length, IfOk, IfSome};
 ghost use Rattle.bao_windows.specs.Available.{AllRefuse, IsFitting, IsWithin, Refuses};
-ghost use Rattle.bao_windows.specs.Windows.{IsFrom, IsInTurn, Takes, fixed_for};
+ghost use Rattle.bao_windows.specs.Windows.{IsAddedValue, IsFrom, IsInTurn, Takes, fixed_for};
 
 use crate::appending::append_part;
 use crate::asking::ask;
+use crate::value::group_value;
 use crate::wanted::Wanted;
 use b3par::Source;
+use b3tree::Cv;
 use holders::ByteRange;
 use std::alloc::{AllocError, Global};
 
-// Takes a part of the blob from one source, of which `span` bytes from the part's place on are asked for.
+// Takes a part of the blob from one source, of which `span` bytes from the part's place on are asked for, and the part's value, if it is a
+// group of which the slice has that.
 fn take_part<S: Source>(
     alloc: Global,
     wanted: &Wanted<'_>,
@@ -18,6 +21,7 @@ fn take_part<S: Source>(
     part: ByteRange,
     span: u64,
     room: &mut Vec<u8>,
+    value: &mut Option<Cv>,
     into: &mut Vec<u8>,
 ) -> Result<bool, AllocError>
     requires fitting { IsFitting wanted.now wanted.now.form }
@@ -26,6 +30,7 @@ fn take_part<S: Source>(
     requires aligned { part.start % 1024 ≡ 0 }
     requires range { part.start + part.len < 2 ^ 64 }
     ensures took { IfOk result (λ took. Takes took (IsFrom wanted.now S.contents S.faultless sources.now) (fixed_for wanted.now) part.start part.len into.old.items into.new.items) }
+    ensures value { IfOk result (λ took. took ≡ true → IfSome value.new (IsAddedValue wanted.now.mode part.start into.old.items into.new.items)) }
     ensures refused { IfOk result (λ took. took ≡ false → Refuses S.contents S.faultless wanted.now sources.now part.start part.len span place) }
 {
     let asked = ByteRange {
@@ -33,7 +38,10 @@ fn take_part<S: Source>(
         len: span,
     };
     match ask(alloc, wanted, &sources[place], asked, room)? {
-        Some(piece) => append_part(&piece, part.start, part.len, into),
+        Some(piece) => {
+            *value = group_value(&piece, part);
+            append_part(&piece, part.start, part.len, into)
+        }
         None => Ok(false),
     }
 }
@@ -52,7 +60,8 @@ fn in_turn(first: usize, count: usize, turn: usize) -> usize
     }
 }
 
-// Takes a part of the blob from the first source in turn that has it: the one that had one last, and then the others, each once.
+// Takes a part of the blob, and its value, from the first source in turn that has it: the one that had one last, and then the others, each
+// once.
 pub(crate) fn take_any<S: Source>(
     alloc: Global,
     wanted: &Wanted<'_>,
@@ -61,11 +70,13 @@ pub(crate) fn take_any<S: Source>(
     part: ByteRange,
     span: u64,
     room: &mut Vec<u8>,
+    value: &mut Option<Cv>,
     into: &mut Vec<u8>,
 ) -> Result<bool, AllocError>
     requires aligned { part.start % 1024 ≡ 0 }
     requires range { part.start + part.len < 2 ^ 64 }
     ensures took { IfOk result (λ took. Takes took (IsFrom wanted.now S.contents S.faultless sources.now) (fixed_for wanted.now) part.start part.len into.old.items into.new.items) }
+    ensures value { IfOk result (λ took. took ≡ true → IfSome value.new (IsAddedValue wanted.now.mode part.start into.old.items into.new.items)) }
     ensures refused { IfOk result (λ took. took ≡ false → AllRefuse S.contents S.faultless wanted.now sources.now part.start part.len span) }
 {
     if !wanted.is_fitting() || !wanted.begins_within(part.start) {
@@ -75,7 +86,7 @@ pub(crate) fn take_any<S: Source>(
     let first = (*last).min(count.saturating_sub(1));
     for turn in 0..count {
         let place = in_turn(first, count, turn);
-        if take_part(alloc, wanted, sources, place, part, span, room, into)? {
+        if take_part(alloc, wanted, sources, place, part, span, room, value, into)? {
             *last = place;
             return Ok(true);
         }

@@ -1,12 +1,15 @@
-ghost use Rattle.std.specs.Prelude.{◌≡◌, ◌⊎◌, ℕ, ◌+◌, ◌-◌, ◌*◌, ◌%◌, ◌<◌, ◌≤◌, min, length, vec_len, false, true, None, Ok, Some, IfErr, IfOk, IfSome, IsErrOf, OnOk, slice_index_or};
+ghost use Rattle.std.specs.Prelude.{◌≡◌, ◌⊎◌, ℕ, ◌+◌, ◌-◌, ◌*◌, ◌/◌, ◌%◌, ◌<◌, ◌≤◌, min, length, vec_len, false, true, None, Ok, Some, IfErr, IfOk, IfSome, IsErrOf, OnOk, slice_index_or};
+ghost use Rattle.b3tree.specs.Tree.{subtree_cv};
 ghost use Rattle.bao_windows.specs.declared.fault.GatherFault.TheVariants.{Starved, Unfinished};
 ghost use Rattle.bao_windows.specs.Available.{IsFilled, IsTried};
-ghost use Rattle.bao_windows.specs.Windows.{HasFault};
+ghost use Rattle.bao_windows.specs.Windows.{HasFault, IsValue};
 
+use crate::appending::CHUNK_BYTES;
 use crate::fault::GatherFault;
 use crate::group::take_group;
 use crate::wanted::Wanted;
 use b3par::Source;
+use b3tree::{Cv, Mode, subtree_cv};
 use bao_check::GROUP_BYTES;
 use holders::ByteRange;
 use std::alloc::{AllocError, Global};
@@ -19,6 +22,8 @@ const WINDOW_GROUPS: usize = 64;
 #[derive(Drop)]
 pub(crate) struct Slot {
     pub(crate) bytes: Vec<u8>,
+    // The chaining value of the group, unless the blob ends with it.
+    pub(crate) value: Option<Cv>,
     // What a source gave last.
     room: Vec<u8>,
     // The source that had a part last.
@@ -37,6 +42,7 @@ pub(crate) fn new_window(alloc: Global, total: u64) -> Result<Vec<Slot>, AllocEr
     'slots: while window.len() < count {
         window.push(Slot {
             bytes: Vec::new(alloc),
+            value: None,
             room: Vec::new(alloc),
             last: 0,
             fault: None,
@@ -58,6 +64,21 @@ fn fault_of(taken: Result<bool, AllocError>) -> Option<GatherFault>
     }
 }
 
+// The chaining value of the group of these bytes, which begins at byte `at`, unless the blob, of `total` bytes, ends with it. It is made of
+// the bytes, where none came with them.
+fn value_of(mode: &Mode, at: u64, total: u64, came: Option<Cv>, bytes: &[u8]) -> Option<Cv>
+    requires { at ≤ total }
+    ensures { IfSome came (λ value. value.0 ≡ subtree_cv mode.now (at / 1024) bytes.now) → length bytes.now ≡ min 65536 (total - at) → IsValue mode.now at total bytes.now result }
+{
+    if total - at <= GROUP_BYTES || bytes.len() as u64 != GROUP_BYTES {
+        return None;
+    }
+    match came {
+        Some(value) => Some(value),
+        None => Some(subtree_cv(mode, at / CHUNK_BYTES, bytes)),
+    }
+}
+
 // Fills the slot with this number of a window that begins with byte `start` of a blob of `total` bytes.
 fn fill_slot<S: Source>(
     alloc: Global,
@@ -73,6 +94,7 @@ fn fill_slot<S: Source>(
     ensures { IsTried S.contents S.faultless wanted.now sources.now start total number slot.new }
 {
     slot.bytes.clear();
+    slot.value = None;
     slot.fault = None;
     let before = GROUP_BYTES.saturating_mul(number as u64);
     if before >= total - start {
@@ -90,9 +112,11 @@ fn fill_slot<S: Source>(
         &mut slot.last,
         part,
         &mut slot.room,
+        &mut slot.value,
         &mut slot.bytes,
     );
     slot.fault = fault_of(taken);
+    slot.value = value_of(&wanted.mode, at, total, slot.value, slot.bytes.as_slice());
 }
 
 // The first fault of a window's slots.

@@ -27,6 +27,6 @@ chunks-preserved c =
         | inl low ↦ inr (omega (arith, low, c.min-count.ensures, c.chunks-test.true))
         | inr high ↦ inl (omega (arith, high, c.min-count.ensures, c.chunks.invariant.step, c.chunks-test.true))
       ];
-      done = adds_more_of piece at came n _ _ _ bytes c.chunks.invariant.done c.in_ok-extend_from_slice.ensures.items size
+      done = adds_more_of piece at came n _ _ _ bytes c.requires.aligned (omega (arith, c.chunks.invariant.step, c.chunks-test.true)) (omega (arith, c.min-count.ensures)) (sym c.in-Some.ensures.value) c.chunks.invariant.done c.in_ok-extend_from_slice.ensures.items size
           (of_chunk piece (at + came) ((at + came) / 1024) bytes same (sym c.in-Some.ensures.value) c.in-Some.ensures.binds);
     }

@@ -10,7 +10,7 @@ invariant-windows g l = record {
   some : 0 < length l.window.items;
   more : 0 < length l.next.items;
   whole : l.at < l.total → AreOfWindow (IsFrom l.wanted g.S.Source.contents g.S.Source.faultless l.sources) (fixed_for l.wanted) l.at l.total l.window.items;
-  wrote : WroteOf (IsFrom l.wanted g.S.Source.contents g.S.Source.faultless l.sources) (fixed_for l.wanted) 0 l.at
+  wrote : WroteOf (IsFrom l.wanted g.S.Source.contents g.S.Source.faultless l.sources) (fixed_for l.wanted) l.total 0 l.at
       (g.W.Write.contents l.initial.out) (g.W.Write.contents l.out) l.initial.hasher l.hasher;
 }
 

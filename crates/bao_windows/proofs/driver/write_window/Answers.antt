@@ -1,16 +1,31 @@
-use Rattle.std.proofs.Common.{◌+◌, ◌-◌, ◌%◌, ◌≤◌, ◌≡◌, length, arith, rules}
-use Rattle.bao_windows.proofs.Writing.{begun_put, fewer}
-use Rattle.bao_windows.specs.Windows.{IsFrom, fixed_for, window_bytes}
-use Rattle.bao_windows.specs.Written.{HasRoomFor}
+use Rattle.std.proofs.Common.{◌+◌, ◌%◌, ◌≤◌, ◌≡◌, arith, rules}
+use Rattle.bao_windows.proofs.Writing.{begun_put}
+use Rattle.bao_windows.specs.Windows.{AreValued, IsFrom, fixed_for}
+use Rattle.bao_windows.specs.Written.{AreNext}
 use Rattle.bao_windows.proofs.driver.write_window.Goals as goal
 
-pub put_window-requires-clause-room : goal.put_window-requires-clause-room
-put_window-requires-clause-room g c κs within = fewer c.args.hasher.now (c.args.total - c.args.at) (length (window_bytes c.args.window.now)) c.requires.room (omega (arith, c.requires.whole.size))
+pub put_window-requires : goal.put_window-requires
+put_window-requires g c = record {
+  mode = c.args.wanted.now.mode;
+  at = c.args.at;
+  total = c.args.total;
+  are = c.requires.whole.valued;
+  taken = c.requires.taken;
+  aligned = c.requires.aligned;
+  fits = omega (arith, c.ranges.total);
+}
 
 pub join_mut-filled-requires-after_bounds : goal.join_mut-filled-requires-after_bounds
 join_mut-filled-requires-after_bounds g c κs within =
-    let room : HasRoomFor c.args.hasher.now (length (window_bytes c.args.window.now)) =
-    fewer c.args.hasher.now (c.args.total - c.args.at) (length (window_bytes c.args.window.now)) c.requires.room (omega (arith, c.requires.whole.size)) in
+    let next : AreNext (AreValued c.args.window.now) c.args.hasher.now = record {
+      mode = c.args.wanted.now.mode;
+      at = c.args.at;
+      total = c.args.total;
+      are = c.requires.whole.valued;
+      taken = c.requires.taken;
+      aligned = c.requires.aligned;
+      fits = omega (arith, c.ranges.total);
+    } in
     let ends : c.args.at + c.min.result ≤ c.args.total = omega (arith, c.min.ensures, c.requires.below) in
     let whole : (c.args.at + c.min.result) % 65536 ≡ 0 = omega (arith, c.min.ensures, c.requires.below, c.requires.aligned, c.saturating_mul-count.ensures, c.if-end-total.false, c.ranges.total) in
     search rules
