@@ -43,7 +43,7 @@ int main(void) {
     LEAST(pieces, 512, kept = bw_hasher_update(&hasher, bytes, 1 << 16))
     printf("bw_hasher_update of 64 KiB: %.0f ns, %.2f GB/s\n", pieces * 1e9, 65536 / pieces / 1e9);
     kept = bw_hash(&plain, bytes, 1 << 20, 0, root, sizeof root);
-    size_t text_len = (size_t)bw_encoded_len(1 << 20), used = 0;
+    size_t text_len = (size_t)bw_slice_len(1 << 20, 0, UINT64_MAX), used = 0;
     uint8_t *text = malloc(text_len), *slice = malloc(1 << 18);
     uint64_t at = 0, mask = 0;
     if (!text || !slice) return 1;

@@ -267,6 +267,12 @@ BW_USE bw_status bw_hash(const bw_mode *mode, const uint8_t *bytes, size_t len, 
  * What the handle owned is freed. BW_MEMORY: the handle is empty. */
 BW_USE bw_status bw_hasher_new(const bw_mode *mode, bw_hasher *hasher) BW_NONNULL(1, 2);
 
+/* Makes `other` another hasher with the same mode and input so far.
+ *
+ * What one of them takes in then, the other doesn't. What `other` owned is freed. BW_NO_HANDLE,
+ * BW_MEMORY: `other` is empty. */
+BW_USE bw_status bw_hasher_copy(bw_hasher *hasher, bw_hasher *other) BW_NONNULL(1, 2);
+
 /* Appends `bytes` to a hasher's input.
  *
  * BW_TOO_LONG, BW_NO_HANDLE: the hasher is unchanged. */
@@ -282,16 +288,12 @@ BW_USE bw_status bw_hasher_finish(bw_hasher *hasher, uint64_t at, uint8_t *out,
 /* --- Encodings written, to the front of `out`, with their length in *used. BW_TEXT_MEMORY.
  * BW_ROOM: `out` is unchanged, and *used is the length needed. */
 
-/* Returns the length of the combined encoding of a blob of `len` bytes, or 0 if it is above 2^64 -
- * 1. */
-uint64_t bw_encoded_len(uint64_t len);
-
 /* Returns the length of the outboard encoding of a blob of `len` bytes, or 0 if it is above 2^64 -
  * 1. */
 uint64_t bw_outboard_len(uint64_t len);
 
 /* Returns the length of the slice (start, slice_len) of a blob of `len` bytes, or 0 if it is above
- * 2^64 - 1. It is at most that of the combined encoding. */
+ * 2^64 - 1. It is at most that of the combined encoding, which is the slice (0, 2^64 - 1). */
 uint64_t bw_slice_len(uint64_t len, uint64_t start, uint64_t slice_len);
 
 /* Writes the combined encoding of a blob, and its hash to `root`.

@@ -149,7 +149,7 @@ static void share_times(const blob *it, int count, double *committed, double *re
 
 static void shared(const uint8_t *bytes, size_t len) {
     blob it = {bytes, len, {0}, room(groups_of(len) * slice_room), room(groups_of(len) * sizeof(size_t)), room(len)};
-    size_t text_len = (size_t)bw_encoded_len(len), used = 0;
+    size_t text_len = (size_t)bw_slice_len(len, 0, UINT64_MAX), used = 0;
     uint8_t *text = room(text_len);
     MUST(bw_encode(&plain, bytes, len, text, text_len, &used, it.root) == BW_OK);
     for (size_t k = 0; k < groups_of(len); k++)
@@ -238,7 +238,7 @@ static bw_status update(const uint8_t *bytes, size_t len, size_t piece) {
 /* Every call over the first bytes of the file, which are at most as many as a store has room for. */
 static void first_bytes(const uint8_t *bytes, size_t len) {
     uint8_t root[BW_HASH_LEN], again[BW_HASH_LEN];
-    size_t text_len = (size_t)bw_encoded_len(len), bare_len = (size_t)bw_outboard_len(len), used = 0;
+    size_t text_len = (size_t)bw_slice_len(len, 0, UINT64_MAX), bare_len = (size_t)bw_outboard_len(len), used = 0;
     uint8_t *text = room(text_len), *bare = room(bare_len), *out = room(text_len);
     uint64_t at = 0, total = 0;
     bw_input ours, theirs;
@@ -266,7 +266,7 @@ static void first_bytes(const uint8_t *bytes, size_t len) {
 /* A store of these bytes, by one thread, made anew each time, and filled in one way; then what is asked of a full one. */
 static void stores(const uint8_t *bytes, size_t len) {
     uint8_t root[BW_HASH_LEN];
-    size_t text_len = (size_t)bw_encoded_len(len), bare_len = (size_t)bw_outboard_len(len), used = 0;
+    size_t text_len = (size_t)bw_slice_len(len, 0, UINT64_MAX), bare_len = (size_t)bw_outboard_len(len), used = 0;
     uint8_t *text = room(text_len), *bare = room(bare_len), *slice = room(slice_room), *out = room(len);
     uint64_t at = 0, committed = 0, parents = 0;
     bw_seat seat = BW_EMPTY;
@@ -385,7 +385,7 @@ static void threads(const uint8_t *bytes, size_t len) {
 /* Slices, cut out of the encoding of all bytes and of one a sixteenth as long. */
 static void slices(const uint8_t *bytes, size_t len) {
     uint8_t root[BW_HASH_LEN];
-    size_t text_len = (size_t)bw_encoded_len(len), short_len = (size_t)bw_encoded_len(len / 16), used = 0, out_len = 10 * MIB;
+    size_t text_len = (size_t)bw_slice_len(len, 0, UINT64_MAX), short_len = (size_t)bw_slice_len(len / 16, 0, UINT64_MAX), used = 0, out_len = 10 * MIB;
     uint8_t *text = room(text_len), *less = room(short_len), *out = room(out_len);
     MUST(bw_encode(&plain, bytes, len, text, text_len, &used, root) == BW_OK && bw_encode(&plain, bytes, len / 16, less, short_len, &used, root) == BW_OK);
     TIME("bw_cut_slice of 1 MiB out of all", bw_cut_slice(text, text_len, 0, MIB, out, out_len, &used));
@@ -398,7 +398,7 @@ static void slices(const uint8_t *bytes, size_t len) {
 static void groups(const uint8_t *bytes, size_t len) {
     enum { TAKES = 1000 };
     uint8_t root[BW_HASH_LEN], out[GROUP_LEN];
-    size_t text_len = (size_t)bw_encoded_len(len), used = 0, slice_len = 0, rest_len = 0;
+    size_t text_len = (size_t)bw_slice_len(len, 0, UINT64_MAX), used = 0, slice_len = 0, rest_len = 0;
     uint8_t *text = room(text_len), *slice = room(slice_room), *rest = room(text_len);
     uint64_t mask = 0, at = 0;
     double into[2] = {1e9, 1e9}, out_of[2] = {1e9, 1e9}, taken[2] = {1e9, 1e9};
@@ -447,7 +447,7 @@ static void *gather(void *arg) {
 /* A blob gathered from its encoding: by four threads, and by one that then reads all of it out and hashes it; beside it a plain copy and a short read. */
 static void gatherings(const uint8_t *bytes, size_t len) {
     uint8_t root[BW_HASH_LEN];
-    size_t text_len = (size_t)bw_encoded_len(len), used = 0;
+    size_t text_len = (size_t)bw_slice_len(len, 0, UINT64_MAX), used = 0;
     uint8_t *text = room(text_len), *out = room(len);
     uint64_t at = 0;
     double by_four = 1e9, whole = 1e9, copied = 1e9, read = 1e9;
@@ -486,7 +486,7 @@ static void gatherings(const uint8_t *bytes, size_t len) {
 
 static void texts(const uint8_t *bytes, size_t len) {
     uint8_t root[BW_HASH_LEN], again[BW_HASH_LEN];
-    size_t text_len = (size_t)bw_encoded_len(len), used = 0;
+    size_t text_len = (size_t)bw_slice_len(len, 0, UINT64_MAX), used = 0;
     uint8_t *text = room(text_len);
     uint64_t at = 0;
     double hashed = 1e9, checked = 1e9, refused = 1e9;

@@ -122,13 +122,14 @@ int main(void) {
     WANT(bw_cut_slice(text, used, UINT64_MAX, 1, tail, sizeof tail, &tail_len) == BW_OK);
     WANT(bw_outboard(&plain, blob, sizeof blob, outboard, sizeof outboard, &outboard_len, root) == BW_OK);
     for (int refused = 1, n = 0; refused != 0; n++) {
-        bw_hasher hasher = BW_EMPTY;
+        bw_hasher hasher = BW_EMPTY, twin = BW_EMPTY;
         bw_seat seat = BW_EMPTY, other = BW_EMPTY, part = BW_EMPTY;
         bw_feed whole = BW_EMPTY;
         bw_outline outline = BW_EMPTY, again = BW_EMPTY;
         refused = 0;
         left = n;
-        bw_status made = bw_hasher_new(&plain, &hasher), opened = bw_seat_new(&plain, root, 0, 100, &seat), split = bw_seat_split(&seat, &other);
+        bw_status made = bw_hasher_new(&plain, &hasher), fed = bw_hasher_update(&hasher, blob, 20000), copied = bw_hasher_copy(&hasher, &twin);
+        bw_status opened = bw_seat_new(&plain, root, 0, 100, &seat), split = bw_seat_split(&seat, &other);
         bw_status encoded = bw_encode(&plain, blob, sizeof blob, text, sizeof text, &used, root);
         bw_status sliced = bw_cut_slice(text, used, 0, 65536, slice, sizeof slice, &cut);
         bw_status all = bw_feed_new(of(&plain, root, 0, UINT64_MAX), &whole);
@@ -147,9 +148,12 @@ int main(void) {
         WANT(parted == BW_OK || ((parted == BW_MEMORY || parted == BW_STORE_MEMORY) && part.at == NULL && ++refused));
         WANT(parted != BW_OK || (bw_seat_commit_chunks(&part, 0, UINT64_MAX, text, used, &mask, &at) == BW_OK && mask == 60));
         WANT(parted != BW_OK || (bw_seat_read(&part, 0, spare, 60 * 1024, &at) == BW_OK && memcmp(spare, blob + 3 * 1024, 60 * 1024) == 0));
-        WANT(bw_hasher_update(&hasher, blob, sizeof blob) == (made == BW_OK ? BW_OK : BW_NO_HANDLE));
+        WANT(fed == (made == BW_OK ? BW_OK : BW_NO_HANDLE));
+        WANT(copied == BW_OK || (twin.at == NULL && copied == (made == BW_OK ? BW_MEMORY : BW_NO_HANDLE) && ++refused));
+        WANT(bw_hasher_update(&hasher, blob, sizeof blob - 20000) == (made == BW_OK ? BW_OK : BW_NO_HANDLE));
         WANT(bw_hasher_finish(&hasher, 0, out, BW_HASH_LEN) == (made == BW_OK ? BW_OK : BW_NO_HANDLE));
         WANT(made != BW_OK || memcmp(out, root, sizeof out) == 0);
+        WANT(copied != BW_OK || (bw_hasher_update(&twin, blob, sizeof blob - 20000) == BW_OK && bw_hasher_finish(&twin, 0, out, BW_HASH_LEN) == BW_OK && memcmp(out, root, sizeof out) == 0));
         WANT(all == BW_OK || (all == BW_MEMORY && whole.at == NULL && ++refused));
         WANT(bw_encode(&plain, blob, sizeof blob, spare, 10, &spare_len, root) == BW_ROOM && spare_len == used);
         WANT(bw_outboard(&plain, blob, sizeof blob, spare, 10, &spare_len, root) == BW_ROOM && spare_len == bw_outboard_len(sizeof blob));
@@ -182,7 +186,7 @@ int main(void) {
             WANT(bw_seat_commit(&seat, 0, UINT64_MAX, text, used, &mask, &parents, &at) == BW_OK && mask == 5 - had && parents == 68 - before);
         }
         left = -1;
-        bw_free(&hasher), bw_free(&seat), bw_free(&other), bw_free(&whole), bw_free(&outline), bw_free(&again), bw_free(&part);
+        bw_free(&hasher), bw_free(&twin), bw_free(&seat), bw_free(&other), bw_free(&whole), bw_free(&outline), bw_free(&again), bw_free(&part);
         WANT(n < 1000);
     }
     plans();

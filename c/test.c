@@ -81,7 +81,7 @@ static void ask_group(worker *it, uint32_t group, uint8_t *slice, size_t slice_l
 
 static void *work(void *arg) {
     worker *it = arg;
-    size_t slice_len = (size_t)bw_encoded_len(GROUP_LEN) + 64 * 64;
+    size_t slice_len = (size_t)bw_slice_len(GROUP_LEN, 0, UINT64_MAX) + 64 * 64;
     uint8_t *slice = room(slice_len);
     for (uint32_t step = 0; step < it->groups; step++) ask_group(it, (it->number * it->groups / THREADS + step) % it->groups, slice, slice_len);
     free(slice);
@@ -392,6 +392,13 @@ static void parts(const uint8_t *blob, const uint8_t *root, const holder *good) 
     free(found), free(outboard);
 }
 
+static bw_mode mode_of(const row *it) {
+    bw_mode mode = {it->kind, {0}};
+    memcpy(mode.key, ROW_KEY, sizeof mode.key);
+    if (it->kind == 2) WANT(bw_mode_derive((const uint8_t *)ROW_CONTEXT, sizeof ROW_CONTEXT - 1, &mode) == BW_OK && mode.kind == BW_MODE_DERIVE_KEY);
+    return mode;
+}
+
 /* Each row in one piece and in two, as hash and as output. */
 static void rows(void) {
     static uint8_t bytes[ROWS_MAX_LEN];
@@ -399,9 +406,7 @@ static void rows(void) {
     for (size_t k = 0; k < sizeof rows_of_b3sum / sizeof *rows_of_b3sum; k++) {
         const row *it = &rows_of_b3sum[k];
         uint8_t out[ROW_OUT_LEN], part[7];
-        bw_mode mode = {it->kind, {0}};
-        memcpy(mode.key, ROW_KEY, sizeof mode.key);
-        if (it->kind == 2) WANT(bw_mode_derive((const uint8_t *)ROW_CONTEXT, sizeof ROW_CONTEXT - 1, &mode) == BW_OK && mode.kind == BW_MODE_DERIVE_KEY);
+        bw_mode mode = mode_of(it);
         WANT(bw_hash(&mode, bytes, it->len, 0, out, sizeof out) == BW_OK);
         WANT(memcmp(out, it->out, sizeof out) == 0);
         WANT(bw_hash(&mode, bytes, it->len, 61, part, sizeof part) == BW_OK && memcmp(part, it->out + 61, sizeof part) == 0);
@@ -413,6 +418,35 @@ static void rows(void) {
         WANT(bw_hasher_finish(&hasher, 0, out, BW_HASH_LEN) == BW_OK && memcmp(out, it->out, BW_HASH_LEN) == 0);
         bw_free(&hasher);
     }
+}
+
+/* A hasher and its copy go on apart: to one row's length, and to that of the next row of the same mode. */
+static void copies(const uint8_t *root) {
+    static uint8_t bytes[ROWS_MAX_LEN];
+    bw_hasher hasher = BW_EMPTY, copy = BW_EMPTY;
+    for (size_t i = 0; i < sizeof bytes; i++) bytes[i] = (uint8_t)(i % 251);
+    WANT(bw_hasher_copy(&hasher, &copy) == BW_NO_HANDLE && copy.at == NULL);
+    for (size_t k = 0; k + 3 < sizeof rows_of_b3sum / sizeof *rows_of_b3sum; k++) {
+        const row *near = &rows_of_b3sum[k], *far = near + 3;
+        size_t both = near->len - near->len / 9;
+        uint8_t out[ROW_OUT_LEN];
+        bw_mode mode = mode_of(near);
+        WANT(far->kind == near->kind && far->len > near->len);
+        WANT(bw_hasher_new(&mode, &hasher) == BW_OK && bw_hasher_update(&hasher, bytes, both) == BW_OK);
+        WANT(bw_hasher_copy(&hasher, &copy) == BW_OK && copy.at != NULL && copy.at != hasher.at);
+        WANT(bw_hasher_update(&copy, bytes + both, far->len - both) == BW_OK);
+        WANT(bw_hasher_update(&hasher, bytes + both, near->len - both) == BW_OK);
+        WANT(bw_hasher_finish(&hasher, 0, out, sizeof out) == BW_OK && memcmp(out, near->out, sizeof out) == 0);
+        bw_free(&hasher);
+        WANT(bw_hasher_finish(&copy, 0, out, sizeof out) == BW_OK && memcmp(out, far->out, sizeof out) == 0);
+    }
+    /* What isn't a hasher has no copy and stays, and what the copy's handle owned is freed. */
+    bw_seat seat = BW_EMPTY;
+    uint64_t mask = 7;
+    WANT(bw_seat_new(&plain, root, 0, 1, &seat) == BW_OK && bw_hasher_copy(AS(bw_hasher, seat), &copy) == BW_NO_HANDLE && copy.at == NULL);
+    WANT(bw_seat_held(&seat, 0, &mask) == BW_OK && mask == 0);
+    WANT(bw_hasher_new(&plain, &hasher) == BW_OK && bw_hasher_copy(&hasher, AS(bw_hasher, seat)) == BW_OK && bw_seat_held(&seat, 0, &mask) == BW_NO_HANDLE);
+    bw_free(&hasher), bw_free(&seat);
 }
 
 static void hashes(const uint8_t *blob, size_t len, const uint8_t *root) {
@@ -560,7 +594,7 @@ static void texts(const uint8_t *blob, const uint8_t *root, holder *good) {
     free(longer);
 
     bw_input ours, theirs;
-    size_t cut_len = (size_t)bw_encoded_len(4096) + 64 * 64;
+    size_t cut_len = (size_t)bw_slice_len(4096, 0, UINT64_MAX) + 64 * 64;
     uint8_t *cut = room(cut_len);
     WANT(bw_cut_slice(good->text, good->len, 5000, 3000, cut, cut_len, &used) == BW_OK);
     WANT(bw_check(of(&plain, root, 5000, 3000), cut, used, &at) == BW_OK);
@@ -944,7 +978,7 @@ static void slice_nodes(void) {
             for (uint64_t len = 0; len < total + 2 * BW_CHUNK_LEN; len = 3 * len + 1) nodes_are(total, start, len), nodes_are(total, start, UINT64_MAX);
     uint64_t longest = 0;
     for (uint64_t step = UINT64_C(1) << 63; step > 0; step /= 2)
-        if (bw_encoded_len(longest + step) != 0) longest += step;
+        if (bw_slice_len(longest + step, 0, UINT64_MAX) != 0) longest += step;
     for (int bits = 15; bits <= 64; bits++)
         for (uint64_t less = 0; less < 5000; less = 8 * less + 1) {
             uint64_t total = bits == 64 ? longest - less : (UINT64_C(1) << bits) + 2500 - less;
@@ -1181,7 +1215,7 @@ static void sizes(const uint8_t *blob, const uint8_t *root, const holder *good) 
     uint64_t committed = 0, parents = 0, at = 0;
     bw_node lacking;
     bw_seat seat = BW_EMPTY;
-    WANT(bw_encode(&plain, blob, BLOB_LEN, out, 0, &used, hash) == BW_ROOM && used == bw_encoded_len(BLOB_LEN));
+    WANT(bw_encode(&plain, blob, BLOB_LEN, out, 0, &used, hash) == BW_ROOM && used == bw_slice_len(BLOB_LEN, 0, UINT64_MAX));
     WANT(bw_outboard(&plain, blob, BLOB_LEN, out, 100, &used, hash) == BW_ROOM && used == bw_outboard_len(BLOB_LEN));
     WANT(bw_cut_slice(good->text, good->len, 5000, 3000, out, 100, &used) == BW_ROOM && used == bw_slice_len(BLOB_LEN, 5000, 3000));
     WANT(bw_seat_new(&plain, root, 0, 1024, &seat) == BW_OK);
@@ -1207,12 +1241,13 @@ int main(void) {
     for (size_t i = 0; i < BLOB_LEN; i++) blob[i] = (uint8_t)((seed = seed * 1664525 + 1013904223) >> 24);
     holder holders[HOLDERS];
     for (int k = 0; k < HOLDERS; k++) {
-        holders[k].len = (size_t)bw_encoded_len(BLOB_LEN);
+        holders[k].len = (size_t)bw_slice_len(BLOB_LEN, 0, UINT64_MAX);
         holders[k].text = room(holders[k].len);
         size_t used = 0;
         WANT(bw_encode(&plain, blob, BLOB_LEN, holders[k].text, holders[k].len, &used, root) == BW_OK && used == holders[k].len);
     }
     rows();
+    copies(root);
     hashes(blob, BLOB_LEN, root);
     nothings();
     modes(blob);

@@ -77,7 +77,7 @@ func HashOf(blob []byte) (hash Hash) {
 // Encode gives a blob's hash and its combined encoding.
 func Encode(blob []byte) (root Hash, text []byte, err error) {
 	var used C.size_t
-	text = make([]byte, C.bw_encoded_len(C.uint64_t(len(blob))))
+	text = make([]byte, C.bw_slice_len(C.uint64_t(len(blob)), 0, C.UINT64_MAX))
 	err = told(C.bw_encode(&plain, at(blob), size(blob), at(text), size(text), &used, root.ptr()))
 	return root, text[:used], err
 }

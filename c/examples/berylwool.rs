@@ -37,7 +37,7 @@ struct Handle {
 unsafe extern "C" {
     fn bw_free(handle: &mut Handle);
     fn bw_hash(mode: &Mode, bytes: *const u8, len: usize, at: u64, out: *mut u8, out_len: usize) -> u32;
-    fn bw_encoded_len(len: u64) -> u64;
+    fn bw_slice_len(len: u64, start: u64, slice_len: u64) -> u64;
     fn bw_encode(mode: &Mode, bytes: *const u8, len: usize, out: *mut u8, out_len: usize, used: &mut usize, root: &mut [u8; 32]) -> u32;
     fn bw_cut_slice(text: *const u8, text_len: usize, start: u64, len: u64, out: *mut u8, out_len: usize, used: &mut usize) -> u32;
     fn bw_check(slice: &Slice, text: *const u8, text_len: usize, at: &mut u64) -> u32;
@@ -78,7 +78,7 @@ pub fn hash(mode: &Mode, bytes: &[u8]) -> [u8; 32] {
 /// The hash and the combined encoding.
 pub fn encode(mode: &Mode, bytes: &[u8]) -> Result<([u8; 32], Vec<u8>), Fault> {
     let (mut root, mut used) = ([0; 32], 0);
-    let mut out = vec![0; unsafe { bw_encoded_len(bytes.len() as u64) } as usize];
+    let mut out = vec![0; unsafe { bw_slice_len(bytes.len() as u64, 0, u64::MAX) } as usize];
     told(unsafe { bw_encode(mode, bytes.as_ptr(), bytes.len(), out.as_mut_ptr(), out.len(), &mut used, &mut root) }, 0)?;
     out.truncate(used);
     Ok((root, out))

@@ -43,7 +43,7 @@ int main(int count, char **words) {
         mode.kind = BW_MODE_KEYED_HASH, mode.key[i] = (uint8_t)byte;
     }
     const uint8_t *blob = map(words[1], "", &len), none[1] = {0};
-    size_t bao_len = (size_t)bw_encoded_len(len), obao_len = (size_t)bw_outboard_len(len);
+    size_t bao_len = (size_t)bw_slice_len(len, 0, UINT64_MAX), obao_len = (size_t)bw_outboard_len(len);
     uint8_t *bao = map(words[1], ".bao", &bao_len), *obao = map(words[1], ".obao", &obao_len);
     if (bw_encode(&mode, len ? blob : none, len, bao, bao_len, &used, root)) stop("bw_encode");
     if (bw_outboard(&mode, len ? blob : none, len, obao, obao_len, &used, root)) stop("bw_outboard");

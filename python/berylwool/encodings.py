@@ -37,21 +37,22 @@ class Committed(NamedTuple):
     parents: int
 
 
-def _encoded(name: str, length_of: str, data: Buffer, key: Key, context: Context) -> Encoded:
+def _encoded(name: str, has_bytes: bool, data: Buffer, key: Key, context: Context) -> Encoded:
     with c.viewed(data) as text:
-        out, root = c.unfilled(getattr(c.library, length_of)(text[1])), c.unfilled(c.HASH_LEN)
+        length = c.library.bw_outboard_len(text[1]) + (text[1] if has_bytes else 0)
+        out, root = c.unfilled(length), c.unfilled(c.HASH_LEN)
         c.must(getattr(c.library, name)(c.mode(key, context), *text, out, len(out), c.size(), root))
     return Encoded(root, out)
 
 
 def encode(data: Buffer, *, key: Key = None, context: Context = None) -> Encoded:
     """The combined encoding of a blob, which is the blob with its hash tree."""
-    return _encoded("bw_encode", "bw_encoded_len", data, key, context)
+    return _encoded("bw_encode", True, data, key, context)
 
 
 def outboard(data: Buffer, *, key: Key = None, context: Context = None) -> Encoded:
     """The outboard encoding of a blob, which is its hash tree alone."""
-    return _encoded("bw_outboard", "bw_outboard_len", data, key, context)
+    return _encoded("bw_outboard", False, data, key, context)
 
 
 def cut_slice(encoding: Buffer, start: int, length: int) -> bytes:

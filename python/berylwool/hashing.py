@@ -15,8 +15,7 @@ PIECE_LEN = 1 << 20
 
 
 class Blake3(c.Handle):
-    """A hash of bytes that come in parts, with the methods of hashlib's objects, except `copy`: the C library
-    has no call that copies a hasher.
+    """A hash of bytes that come in parts, with the methods of hashlib's objects.
 
     With `key`, of 32 bytes, it is a keyed hash. With `context` it derives a key: the context names the purpose, and
     the bytes are the key's material.
@@ -35,6 +34,13 @@ class Blake3(c.Handle):
         """Appends the bytes of any contiguous buffer, without a copy."""
         with self._open() as handle, c.viewed(data) as text:
             c.must(c.library.bw_hasher_update(handle, *text))
+
+    def copy(self) -> Blake3:
+        """Another object with the same mode and bytes so far: what one of them is given then, the other isn't."""
+        other = Blake3._empty()
+        with self._open() as handle:
+            c.must(c.library.bw_hasher_copy(handle, other._handle))
+        return other
 
     def digest(self, length: int = c.HASH_LEN, seek: int = 0) -> bytes:
         """The hash of the bytes so far: `length` bytes of extended output from its byte `seek` on. More may follow."""

@@ -38,10 +38,11 @@ def gathered(name):
             return refusals
 
 
-store, outline = filled(), Outline(ROOT, BESIDE)
+hasher, store, outline = Blake3(DATA), filled(), Outline(ROOT, BESIDE)
 # What takes memory, and what it has to return.
 TAKING = {
     "Blake3": (lambda: Blake3(DATA).digest(), ROOT),
+    "Blake3.copy": (lambda: hasher.copy().digest(), ROOT),
     "encode": (lambda: berylwool.encode(DATA), (ROOT, COMBINED)),
     "outboard": (lambda: berylwool.outboard(DATA), (ROOT, BESIDE)),
     "slice": (lambda: berylwool.slice(DATA, 0, ALL), (ROOT, COMBINED)),

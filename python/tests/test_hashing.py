@@ -48,6 +48,19 @@ class Hashing(unittest.TestCase):
             self.assertEqual(hasher.digest(), blake3(blob(k)))
             hasher.update(blob(5000)[k : k + 999])
 
+    def test_copies_go_on_apart(self):
+        for kind, (words, by_definition) in MODES.items():
+            for length in (0, 700, 8192, 8193, 20_000):
+                with self.subTest(kind=kind, length=length):
+                    hasher, wanted = Blake3(blob(length), **words), by_definition.hash(blob(length) + b"its own")
+                    with hasher.copy() as other:
+                        other.update(b"another's")
+                        hasher.update(b"its own")
+                        self.assertEqual(other.digest(), by_definition.hash(blob(length) + b"another's"))
+                        again = hasher.copy()
+                        hasher.close()
+                        self.assertEqual(again.digest(), wanted)
+
     def test_buffers(self):
         data = blob(4096)
         with tempfile.TemporaryFile() as file, mmap.mmap(-1, 4096) as written:
@@ -105,7 +118,7 @@ class Hashing(unittest.TestCase):
         hasher = Blake3()
         hasher.close()
         hasher.close()
-        for call in (hasher.digest, hasher.hexdigest, lambda: hasher.update(b""), hasher.__enter__):
+        for call in (hasher.digest, hasher.hexdigest, hasher.copy, lambda: hasher.update(b""), hasher.__enter__):
             self.assertRaises(ValueError, call)
 
     def test_version(self):

@@ -32,6 +32,27 @@ pub extern "C" fn bw_hasher_new(alloc: Global, mode: &BwMode, hasher: &mut BwHan
     }
 }
 
+/// Makes `other` another hasher with the same mode and input so far. What one of them takes in then, the other doesn't.
+#[unsafe(no_mangle)]
+pub extern "C" fn bw_hasher_copy(alloc: Global, hasher: &mut BwHandle, other: &mut BwHandle) -> u32
+    ensures copied { (mode : Mode) (s : List ℕ) → HoldsIn hasher.old.held mode s → result ≡ 0 → HoldsIn other.new.held mode s }
+    ensures no_hasher { result ≡ 1202 ↔ (¬ HasHasher hasher.old.held) }
+    ensures status { result ≢ 0 → result ≢ 1202 → result ≡ 1203 }
+    ensures same { hasher.new.held ≡ hasher.old.held }
+    ensures empty { result ≢ 0 → other.new.held ≡ None }
+{
+    let _old = take(other, alloc);
+    with_held!(hasher, alloc, Hasher, |it| {
+        match Box::new(alloc, Held::Hasher(it.copy())) {
+            Ok(held) => {
+                put(other, held);
+                0
+            }
+            Err(_) => NO_MEMORY,
+        }
+    })
+}
+
 /// Appends `bytes` to a hasher's input.
 #[unsafe(no_mangle)]
 pub extern "C" fn bw_hasher_update(alloc: Global, hasher: &mut BwHandle, bytes: &[u8]) -> u32

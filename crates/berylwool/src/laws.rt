@@ -20,7 +20,7 @@ use crate::outlines::{
 };
 use crate::sizes::bw_slice_len;
 use crate::slice::BwSlice;
-use crate::writing::{bw_cut_slice, bw_encode, bw_encoded_len, bw_outboard, bw_outboard_len};
+use crate::writing::{bw_cut_slice, bw_encode, bw_outboard, bw_outboard_len};
 use std::alloc::Global;
 
 pub fn version_determined() -> (u32, u32)
@@ -55,12 +55,6 @@ pub fn mode_derive_determined(context: &[u8], ours: &mut BwMode, theirs: &mut Bw
         bw_mode_derive(context, ours),
         bw_mode_derive(context, theirs),
     )
-}
-
-pub fn encoded_len_determined(len: u64) -> (u64, u64)
-    ensures { result.0 ≡ result.1 }
-{
-    (bw_encoded_len(len), bw_encoded_len(len))
 }
 
 pub fn outboard_len_determined(len: u64) -> (u64, u64)

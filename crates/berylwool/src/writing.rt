@@ -12,18 +12,6 @@ use b3tree::Hash;
 use bao_text::{combined, cut_slice, encoded_len, outboard, outboard_len, slice};
 use std::alloc::Global;
 
-/// Returns the length in bytes of the combined encoding of a blob of `len` bytes, or 0 if it is above 2^64 - 1.
-#[unsafe(no_mangle)]
-pub extern "C" fn bw_encoded_len(len: u64) -> u64
-    ensures value { 8 + 64 * (chunk_count len - 1) + len < 2 ^ 64 → result ≡ 8 + 64 * (chunk_count len - 1) + len }
-    ensures above { 2 ^ 64 ≤ 8 + 64 * (chunk_count len - 1) + len → result ≡ 0 }
-{
-    match u64::try_from(encoded_len(len)) {
-        Ok(size) => size,
-        Err(_) => 0,
-    }
-}
-
 /// Returns the length in bytes of the outboard encoding of a blob of `len` bytes.
 #[unsafe(no_mangle)]
 pub extern "C" fn bw_outboard_len(len: u64) -> u64
