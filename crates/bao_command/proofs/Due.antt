@@ -1,17 +1,16 @@
 -- Why a fault is due.
-use Rattle.std.proofs.Common.{◌≡◌, ◌⊎◌, ◌≤◌, ◌<◌, ◌+◌, ◌-◌, ◌^◌, ◌∙◌, ℕ, List, Bor, Option, None, false, IfErr, IsErrAnd, Result, Ok, Err, inl, inr, refl, sym, subst}
+use Rattle.std.proofs.Common.{◌≡◌, ◌⊎◌, ℕ, List, Bor, Option, None, false, IfErr, IsErrAnd, Result, Ok, Err, inl, inr, refl, sym, subst}
 use Rattle.bao_decode.specs.declared.decode_fault.DecodeFault.{DecodeFault}
 use Rattle.bao_files.specs.Disks.{FileState}
-use Rattle.bao_files.specs.Printed.{IsDigits}
 use Rattle.bao_files.specs.declared.fault.FileFault.{FileFault}
 use Rattle.bao_tasks.specs.declared.gathered_fault.GatheredFault.{GatheredFault}
 use Rattle.bao_tasks.specs.declared.rerun_fault.RerunFault.{RerunFault}
 use Rattle.bao_request.specs.declared.tasks.Request.{Request}
 use Rattle.bao_request.specs.declared.tasks.Task.{Task}
 use Rattle.bao_command.specs.declared.fault.Fault.{Fault}
-use Rattle.bao_command.specs.Effects.{IsRelisted, list_of}
+use Rattle.bao_command.specs.Effects.{IsRelisted}
 use Rattle.bao_command.specs.declared.fault.Fault.TheVariants.{Root, OutputRange, TooManyFiles, Decode, Gather, Replay}
-use Rattle.bao_command.specs.Status.{gathered_status_of, rerun_status_of}
+use Rattle.bao_command.specs.Status.{rerun_status_of}
 use Rattle.bao_command.specs.Tasks.{Decodes, Gathers, HasBadScript, HasManyFiles, HasNoCapacity, HasRoot, IsDue, IsOfFile, IsPastOutput, Replays}
 
 -- one of a file is due whatever is asked for

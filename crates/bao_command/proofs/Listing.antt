@@ -1,9 +1,8 @@
 -- What a fault leaves of the list.
-use Rattle.std.proofs.Common.{◌≡◌, ◌≢◌, ◌⊎◌, ℕ, List, Bor, Option, Result, Ok, Err, IfErr, inl, inr, refl, ◌∙◌}
+use Rattle.std.proofs.Common.{◌≡◌, ◌≢◌, ◌⊎◌, ℕ, List, Result, Ok, Err, IfErr, inl, inr, refl, ◌∙◌}
 use Rattle.b3tree.specs.declared.mode.Mode.{Mode}
 use Rattle.bao_files.specs.Disks.{FileState, KeepsFiles}
 use Rattle.bao_windows.specs.declared.fault.GatherFault.TheVariants.{Unfinished}
-use Rattle.holders.specs.declared.grain.Grain.{Grain}
 use Rattle.bao_tasks.specs.GatheredFaults.{LooksUnfinished}
 use Rattle.bao_tasks.specs.declared.gathered_fault.GatheredFault.{GatheredFault}
 use Rattle.bao_tasks.specs.declared.gathered_fault.GatheredFault.TheVariants.{Gather}
@@ -11,17 +10,16 @@ use Rattle.bao_tasks.specs.declared.missing.Lack.{Lack}
 use Rattle.bao_tasks.specs.declared.missing.Lack.TheVariants.{Unasked}
 use Rattle.bao_request.specs.declared.tasks.Request.{Request}
 use Rattle.bao_command.specs.declared.fault.Fault.{Fault}
-use Rattle.bao_command.specs.Gaps.{LeavesList, LeavesListFor, LeavesListOf}
+use Rattle.bao_command.specs.Gaps.{LeavesListFor, LeavesListOf}
 use Rattle.bao_command.specs.ModeWords.{HasMode}
 use Rattle.bao_command.specs.Tasks.{IsOfFile}
 use Rattle.bao_command.specs.Works.{Leaves}
 
 -- a fault of a file leaves it in any case
-pub list_of_file : (sure : Type 0) (at after : List ℕ → FileState) (mode : Mode) (digits : List ℕ) (grain : Grain) (capacity most : ℕ) (outboard : Option (Bor (List ℕ)))
-    (files : List (Bor (List ℕ))) (list : Option (Bor (List ℕ))) (result : Result Unit Fault) → IfErr result IsOfFile
-    → IfErr result (LeavesList sure at after mode digits grain capacity most outboard files list)
-list_of_file sure at after mode digits grain capacity most outboard files list (Ok done) of = tt
-list_of_file sure at after mode digits grain capacity most outboard files list (Err fault) of = inr (inl of)
+pub list_of_file : (at after : List ℕ → FileState) (Has : Fault → Type 0) (result : Result Unit Fault) → IfErr result IsOfFile
+    → IfErr result (λ fault. KeepsFiles at after ⊎ IsOfFile fault ⊎ Has fault)
+list_of_file at after Has (Ok done) of = tt
+list_of_file at after Has (Err fault) of = inr (inl of)
 
 -- so does a task that has none
 pub no_list : (at after : List ℕ → FileState) (Did : List ℕ → Type 0) (result : Result Unit Fault) → IfErr result (Leaves at after Did)

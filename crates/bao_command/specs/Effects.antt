@@ -19,7 +19,7 @@ use Rattle.bao_command.specs.Status.{gathered_status_of}
 
 -- the path of the task's list, where it has one
 abbrev pub list_of : Task → Option (Bor (List ℕ))
-list_of (Gather root workers capacity long outboard salvage encode missing files out) = missing
+list_of (Gather task) = task.missing
 list_of task = None
 
 -- a list of these lines is at its path, where one is named, and nothing else has changed that was known
@@ -55,6 +55,6 @@ Writes old new mode (Encode encoding file out) list bytes = Puts old new out.now
 Writes old new mode (CutSlice root start len outboard file out) list bytes = Puts old new out.now (Some bytes)
 Writes old new mode (Decode root part file out) list bytes = Puts old new out.now (Some (part_bytes part bytes))
 Writes old new mode (DecodeCopy root outboard copy out) list bytes = Puts old new out.now (Some bytes)
-Writes old new mode (Gather root workers capacity long outboard salvage encode missing files out) list bytes =
-    PutsBoth old new out.now (gathered_text encode mode bytes) list
+Writes old new mode (Gather task) list bytes =
+    PutsBoth old new task.out.now (gathered_text task.encode mode bytes) list
 Writes old new mode (Replay root capacity script files) list bytes = KeepsFiles old new

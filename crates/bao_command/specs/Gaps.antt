@@ -15,6 +15,7 @@ use Rattle.bao_tasks.specs.declared.gathered_fault.GatheredFault.{GatheredFault}
 use Rattle.bao_tasks.specs.declared.gathered_fault.GatheredFault.TheVariants.{Gather as OfGather}
 use Rattle.bao_tasks.specs.declared.missing.Lack.{Lack}
 use Rattle.bao_tasks.specs.declared.missing.Lack.TheVariants.{Unasked}
+use Rattle.bao_request.specs.declared.tasks.GatherTask.{GatherTask}
 use Rattle.bao_request.specs.declared.tasks.Request.{Request}
 use Rattle.bao_request.specs.declared.tasks.Task.{Task}
 use Rattle.bao_request.specs.declared.tasks.Task.TheVariants.{Gather}
@@ -31,24 +32,18 @@ IsLack root mode grain capacity most at None files lack = IsLackIn (wanted_for r
 IsLack root mode grain capacity most at (Some outboard) files lack = IsLackBeside root mode grain capacity most at outboard.now files lack
 
 -- The list has the ranges that were found missing. On a disk without faults these are right if the blob stayed unfinished. After another fault there are none.
-pub record HasGaps (sure : Type 0) (at after : List ℕ → FileState) (mode : Mode) (grain : Grain) (capacity most : ℕ) (outboard : Option (Bor (List ℕ))) (files : List (Bor (List ℕ))) (list : Option (Bor (List ℕ))) (fault : Fault) (root : Root32) : Type 0 where
+pub record HasGaps (sure : Type 0) (at after : List ℕ → FileState) (mode : Mode) (task : GatherTask) (fault : Fault) (root : Root32) : Type 0 where
   pub cause : GatheredFault
   pub unlisted : Option FileFault
   pub is : fault ≡ Ungathered cause unlisted
   pub lack : Lack
-  pub lists : Lists at after list (lines_of_parts (parts_in lack))
+  pub lists : Lists at after task.missing (lines_of_parts (parts_in lack))
   pub unasked : cause ≢ OfGather Unfinished → lack ≡ Unasked
-  pub right : cause ≡ OfGather Unfinished → sure → IsLack root mode grain capacity most at outboard files lack
+  pub right : cause ≡ OfGather Unfinished → sure → IsLack root mode (if task.salvage then ByChunk else ByGroup) task.capacity (2 ^ 64 - 1) at task.outboard task.files.items lack
 
--- after a fault that isn't one of a file, no file has changed, or the list has these ranges
-abbrev pub LeavesList : Type 0 → (List ℕ → FileState) → (List ℕ → FileState) → Mode → List ℕ → Grain → ℕ → ℕ → Option (Bor (List ℕ)) → List (Bor (List ℕ)) → Option (Bor (List ℕ)) → Fault → Type 0
-LeavesList sure at after mode digits grain capacity most outboard files list fault =
-    KeepsFiles at after ⊎ IsOfFile fault ⊎ OfRoot digits (HasGaps sure at after mode grain capacity most outboard files list fault)
-
--- so it is of a task that gathers and has a list; others change no file
+-- after a fault that isn't one of a file, no file has changed, or the task's list has these ranges; only `gather` has a list
 abbrev pub LeavesListOf : Type 0 → (List ℕ → FileState) → (List ℕ → FileState) → Mode → Task → Fault → Type 0
-LeavesListOf sure at after mode (Gather root workers capacity long outboard salvage encode (Some list) files out) fault =
-    LeavesList sure at after mode root.now (if salvage then ByChunk else ByGroup) capacity (2 ^ 64 - 1) outboard files.items (Some list) fault
+LeavesListOf sure at after mode (Gather task) fault = KeepsFiles at after ⊎ IsOfFile fault ⊎ OfRoot task.root.now (HasGaps sure at after mode task fault)
 LeavesListOf sure at after mode task fault = KeepsFiles at after ⊎ IsOfFile fault
 
 -- and of that of the request, in its mode

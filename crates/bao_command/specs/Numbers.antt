@@ -5,25 +5,11 @@ use Rattle.bao_decode.specs.DecodeFaults.{decode_number_of}
 use Rattle.bao_tasks.specs.GatheredFaults.{gathered_number_of}
 use Rattle.bao_tasks.specs.RerunFaults.{rerun_number_of}
 use Rattle.bao_command.specs.declared.fault.Fault.{Fault}
-use Rattle.bao_command.specs.declared.fault.Fault.TheVariants.{Word, Root, Key, KeyAndContext, KeyFile, KeyFileAndOthers, OutputRange, TooManyFiles, OutIsOutput, OutLeadsToOutput, OutIsRead, LongAndCapacity, ListIsOut, ListIsRead, ListLeadsToOther, File, Decode, Gather, Replay}
+use Rattle.bao_command.specs.declared.fault.Fault.TheVariants.{File, Decode, Gather, Replay}
 
 abbrev pub number_of : Fault → Option ℕ
-number_of Word = None
-number_of Root = None
-number_of Key = None
-number_of KeyAndContext = None
-number_of KeyFile = None
-number_of KeyFileAndOthers = None
-number_of OutputRange = None
-number_of TooManyFiles = None
-number_of OutIsOutput = None
-number_of OutLeadsToOutput = None
-number_of OutIsRead = None
-number_of LongAndCapacity = None
-number_of ListIsOut = None
-number_of ListIsRead = None
-number_of ListLeadsToOther = None
 number_of (File fault) = file_number_of fault
 number_of (Decode fault) = decode_number_of fault
 number_of (Gather fault unlisted) = gathered_number_of fault
 number_of (Replay fault) = rerun_number_of fault
+number_of fault = None

@@ -5,30 +5,13 @@ use Rattle.bao_files.specs.Printed as file
 use Rattle.bao_files.specs.declared.fault.FileFault.{FileFault}
 use Rattle.bao_files.specs.declared.fault.FileFault.TheVariants as files
 use Rattle.bao_command.specs.declared.fault.Fault.{Fault}
-use Rattle.bao_command.specs.declared.fault.Fault.TheVariants.{Word, Root, Key, KeyAndContext, KeyFile, KeyFileAndOthers, OutputRange, TooManyFiles, OutIsOutput, OutLeadsToOutput, OutIsRead, LongAndCapacity, ListIsOut, ListIsRead, ListLeadsToOther, File, Decode, Gather, Replay}
+use Rattle.bao_command.specs.declared.fault.Fault.TheVariants.{File}
 
 -- what a fault leaves of the line that was to be printed: a beginning where it is that of standard
 -- output, and nothing else
 abbrev pub CommandLeaves : List ℕ → Option (List ℕ) → Option (List ℕ) → Fault → Type 0
-CommandLeaves line old new Word = Keeps old new
-CommandLeaves line old new Root = Keeps old new
-CommandLeaves line old new Key = Keeps old new
-CommandLeaves line old new KeyAndContext = Keeps old new
-CommandLeaves line old new KeyFile = Keeps old new
-CommandLeaves line old new KeyFileAndOthers = Keeps old new
-CommandLeaves line old new OutputRange = Keeps old new
-CommandLeaves line old new TooManyFiles = Keeps old new
-CommandLeaves line old new OutIsOutput = Keeps old new
-CommandLeaves line old new OutLeadsToOutput = Keeps old new
-CommandLeaves line old new OutIsRead = Keeps old new
-CommandLeaves line old new LongAndCapacity = Keeps old new
-CommandLeaves line old new ListIsOut = Keeps old new
-CommandLeaves line old new ListIsRead = Keeps old new
-CommandLeaves line old new ListLeadsToOther = Keeps old new
 CommandLeaves line old new (File fault) = file.Leaves line old new fault
-CommandLeaves line old new (Decode fault) = Keeps old new
-CommandLeaves line old new (Gather fault unlisted) = Keeps old new
-CommandLeaves line old new (Replay fault) = Keeps old new
+CommandLeaves line old new fault = Keeps old new
 
 -- the line was printed, or the fault leaves what it leaves
 abbrev pub CommandPrints : List ℕ → Option (List ℕ) → Option (List ℕ) → Result Unit Fault → Type 0

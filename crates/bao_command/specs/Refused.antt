@@ -29,7 +29,7 @@ use Rattle.bao_command.specs.Effects.{PutsBoth}
 use Rattle.bao_tasks.specs.Replayed.{IsRefusedRun, IsStoppedRun, OfFiles}
 use Rattle.bao_request.specs.declared.tasks.Request.{Request}
 use Rattle.bao_request.specs.declared.tasks.Task.{Task}
-use Rattle.bao_request.specs.declared.tasks.Task.TheVariants.{Hash, Encode, CutSlice, Decode, DecodeCopy, Gather, Replay}
+use Rattle.bao_request.specs.declared.tasks.Task.TheVariants.{CutSlice, Decode, DecodeCopy, Gather, Replay}
 use Rattle.hex.specs.Hex.{decode_of}
 use Rattle.bao_command.specs.ModeWords.{HasMode}
 use Rattle.bao_command.specs.Status.{check_status_of}
@@ -102,14 +102,13 @@ IsRefusedReplay at mode digits capacity script files =
 
 -- The task has something to refuse, on a disk that may be without faults. Hashing and encoding have nothing.
 abbrev pub IsRefused : Type 0 → (List ℕ → FileState) → Mode → Task → Type 0
-IsRefused sure at mode (Hash from length file) = ⊥
-IsRefused sure at mode (Encode encoding file out) = ⊥
 IsRefused sure at mode (CutSlice root start len outboard file out) = OfDigits root.now (IsRefusedCut at mode start len outboard file.now out.now)
 IsRefused sure at mode (Decode root part file out) = OfDigits root.now (IsRefusedText at mode part file.now out.now)
 IsRefused sure at mode (DecodeCopy root outboard copy out) = OfDigits root.now (IsRefusedCopy at mode outboard.now copy.now out.now)
-IsRefused sure at mode (Gather root workers capacity long outboard salvage encode missing files out) =
-    OfRoot root.now (IsRefusedGathering sure at mode (if salvage then ByChunk else ByGroup) long capacity outboard files.items out.now)
+IsRefused sure at mode (Gather task) =
+    OfRoot task.root.now (IsRefusedGathering sure at mode (if task.salvage then ByChunk else ByGroup) task.long task.capacity task.outboard task.files.items task.out.now)
 IsRefused sure at mode (Replay root capacity script files) = IsRefusedReplay at mode root.now capacity script.now files.items
+IsRefused sure at mode task = ⊥
 
 -- so has that of the request, in its mode
 abbrev pub IsRefusedFor : Type 0 → (List ℕ → FileState) → Request → Type 0
@@ -130,14 +129,9 @@ IsEachBlob sure at after mode encode capacity outboard files out list old new ro
 
 -- so it is of a task that gathers
 abbrev pub IsBlobOf : Type 0 → (List ℕ → FileState) → (List ℕ → FileState) → Mode → Task → Option (List ℕ) → Option (List ℕ) → Type 0
-IsBlobOf sure at after mode (Hash from length file) old new = Unit {0}
-IsBlobOf sure at after mode (Encode encoding file out) old new = Unit {0}
-IsBlobOf sure at after mode (CutSlice root start len outboard file out) old new = Unit {0}
-IsBlobOf sure at after mode (Decode root part file out) old new = Unit {0}
-IsBlobOf sure at after mode (DecodeCopy root outboard copy out) old new = Unit {0}
-IsBlobOf sure at after mode (Gather root workers capacity long outboard salvage encode missing files out) old new =
-    OfRoot root.now (IsEachBlob sure at after mode encode capacity outboard files.items out.now missing old new)
-IsBlobOf sure at after mode (Replay root capacity script files) old new = Unit {0}
+IsBlobOf sure at after mode (Gather task) old new =
+    OfRoot task.root.now (IsEachBlob sure at after mode task.encode task.capacity task.outboard task.files.items task.out.now task.missing old new)
+IsBlobOf sure at after mode task old new = Unit {0}
 
 -- and of that of the request, in its mode
 abbrev pub IsBlobFor : Type 0 → (List ℕ → FileState) → (List ℕ → FileState) → Request → Option (List ℕ) → Option (List ℕ) → Type 0

@@ -1,7 +1,7 @@
 -- the exit status of each fault: 1 for a text or a blob that is refused, 2 for usage, 3 for a file, 4 out of memory
 use Rattle.std.specs.Prelude.{ℕ}
 use Rattle.bao_command.specs.declared.fault.Fault.{Fault}
-use Rattle.bao_command.specs.declared.fault.Fault.TheVariants.{Word, Root, Key, KeyAndContext, KeyFile, KeyFileAndOthers, OutputRange, TooManyFiles, OutIsOutput, OutLeadsToOutput, OutIsRead, LongAndCapacity, ListIsOut, ListIsRead, ListLeadsToOther, File, Decode, Gather, Replay}
+use Rattle.bao_command.specs.declared.fault.Fault.TheVariants.{File, Decode, Gather, Replay}
 use Rattle.bao_check.specs.declared.fault.CheckFault.{CheckFault}
 use Rattle.bao_check.specs.declared.fault.CheckFault.TheVariants as check
 use Rattle.bao_decode.specs.declared.decode_fault.DecodeFault.{DecodeFault}
@@ -61,22 +61,8 @@ rerun_status_of (rerun.Script line) = 2
 rerun_status_of (rerun.Replay fault) = replay_status_of fault
 
 abbrev pub status_of : Fault → ℕ
-status_of Word = 2
-status_of Root = 2
-status_of Key = 2
-status_of KeyAndContext = 2
-status_of KeyFile = 2
-status_of KeyFileAndOthers = 2
-status_of OutputRange = 2
-status_of TooManyFiles = 2
-status_of OutIsOutput = 2
-status_of OutLeadsToOutput = 2
-status_of OutIsRead = 2
-status_of LongAndCapacity = 2
-status_of ListIsOut = 2
-status_of ListIsRead = 2
-status_of ListLeadsToOther = 2
 status_of (File fault) = file_status_of fault
 status_of (Decode fault) = decode_status_of fault
 status_of (Gather fault unlisted) = gathered_status_of fault
 status_of (Replay fault) = rerun_status_of fault
+status_of fault = 2

@@ -1,5 +1,5 @@
 -- what a task prints, and what it does to the files
-use Rattle.std.specs.Prelude.{◌≡◌, ◌≢◌, ◌⊎◌, ◌<◌, ◌≤◌, ℕ, ◌+◌, ◌-◌, ◌^◌, true, List, length, Option, Some, None, Result, Ok, Err, IsSome, IsSomeAnd, codes, HoldsAt}
+use Rattle.std.specs.Prelude.{◌≡◌, ◌≢◌, ◌⊎◌, ◌<◌, ◌≤◌, ℕ, ◌+◌, ◌-◌, ◌^◌, true, List, length, Option, Some, None, Result, Ok, Err, IsSomeAnd, codes, HoldsAt}
 use Rattle.std.specs.Borrow.{Bor}
 use Rattle.std.specs.Io.KnownBytes.{Appends, Keeps}
 use Rattle.b3tree.specs.declared.mode.Mode.{Mode}
@@ -27,7 +27,7 @@ use Rattle.bao_request.specs.declared.tasks.Task.TheVariants.{Hash, Encode, CutS
 use Rattle.hex.specs.Hex.{decode_of}
 use Rattle.bao_command.specs.Effects.{KeepsButList, Writes, list_of}
 use Rattle.bao_command.specs.ModeWords.{GivesNoKey, HasBadKey, HasKeyAndContext, HasMode, MixesKeys}
-use Rattle.bao_command.specs.Status.{gathered_status_of, rerun_status_of, status_of}
+use Rattle.bao_command.specs.Status.{rerun_status_of, status_of}
 
 -- that of a part of a text
 abbrev pub part_line : Part → List ℕ → List ℕ
@@ -41,7 +41,7 @@ line_of mode (Encode encoding file out) bytes = digits_line (hash mode bytes)
 line_of mode (CutSlice root start len outboard file out) bytes = part_line (Slice start len) bytes
 line_of mode (Decode root part file out) bytes = part_line part bytes
 line_of mode (DecodeCopy root outboard copy out) bytes = ok_line (length bytes)
-line_of mode (Gather root workers capacity long outboard salvage encode missing files out) bytes = ok_line (length bytes)
+line_of mode (Gather task) bytes = ok_line (length bytes)
 line_of mode (Replay root capacity script files) bytes = bytes
 
 -- the task's root, where it has one, is 64 hexadecimal digits
@@ -49,7 +49,7 @@ abbrev pub HasRoot : Task → Type 0
 HasRoot (CutSlice root start len outboard file out) = IsDigits root.now
 HasRoot (Decode root part file out) = IsDigits root.now
 HasRoot (DecodeCopy root outboard copy out) = IsDigits root.now
-HasRoot (Gather root workers capacity long outboard salvage encode missing files out) = IsDigits root.now
+HasRoot (Gather task) = IsDigits task.root.now
 HasRoot (Replay root capacity script files) = IsDigits root.now
 HasRoot task = Unit {0}
 
@@ -63,7 +63,7 @@ IsListAt out None = ⊥
 IsListAt out (Some list) = (list.now ≡ out) ⊎ (¬ IsNoOutput list.now)
 
 abbrev pub ListClashes : Task → Type 0
-ListClashes (Gather root workers capacity long outboard salvage encode missing files out) = IsListAt out.now missing
+ListClashes (Gather task) = IsListAt task.out.now task.missing
 ListClashes task = ⊥
 
 -- a file is named, by this path
@@ -81,7 +81,7 @@ IsListRead key_file outboard files None = ⊥
 IsListRead key_file outboard files (Some list) = IsPathAmong list.now files ⊎ IsNamed list.now outboard ⊎ IsNamed list.now key_file
 
 abbrev pub ReadsListOf : Option (Bor (List ℕ)) → Task → Type 0
-ReadsListOf key_file (Gather root workers capacity long outboard salvage encode missing files out) = IsListRead key_file outboard files.items missing
+ReadsListOf key_file (Gather task) = IsListRead key_file task.outboard task.files.items task.missing
 ReadsListOf key_file task = ⊥
 
 abbrev pub ReadsList : Request → Type 0
@@ -98,7 +98,7 @@ ReadsOutAs related key_file (Encode encoding file out) = ReadsOne (related out.n
 ReadsOutAs related key_file (CutSlice root start len outboard file out) = ReadsOne (related out.now) key_file outboard (Some file)
 ReadsOutAs related key_file (Decode root part file out) = ReadsOne (related out.now) key_file None (Some file)
 ReadsOutAs related key_file (DecodeCopy root outboard copy out) = ReadsOne (related out.now) key_file (Some outboard) (Some copy)
-ReadsOutAs related key_file (Gather root workers capacity long outboard salvage encode missing files out) = ReadsOne (related out.now) key_file outboard None
+ReadsOutAs related key_file (Gather task) = ReadsOne (related task.out.now) key_file task.outboard None
 ReadsOutAs related key_file task = ⊥
 
 -- OUT has the name of such a file
@@ -111,7 +111,7 @@ WritesApart (Encode encoding file out) = IsNoOutput out.now
 WritesApart (CutSlice root start len outboard file out) = IsNoOutput out.now
 WritesApart (Decode root part file out) = IsNoOutput out.now
 WritesApart (DecodeCopy root outboard copy out) = IsNoOutput out.now
-WritesApart (Gather root workers capacity long outboard salvage encode missing files out) = IsNoOutput out.now
+WritesApart (Gather task) = IsNoOutput task.out.now
 WritesApart task = Unit {0}
 
 -- nor to the file that the list goes to, which isn't where the line is printed either, and isn't read; nor to one that is read
@@ -125,12 +125,12 @@ IsPastOutput task = ⊥
 
 -- A blob of any length is asked for, and a capacity that isn't the one that counts where none is given, or an encoding in its place.
 abbrev pub IsMixed : Task → Type 0
-IsMixed (Gather root workers capacity long outboard salvage encode missing files out) = (long ≡ true) × (capacity ≢ 65536)
+IsMixed (Gather task) = (task.long ≡ true) × (task.capacity ≢ 65536)
 IsMixed task = ⊥
 
 -- the task has more than 64 files
 abbrev pub HasManyFiles : Task → Type 0
-HasManyFiles (Gather root workers capacity long outboard salvage encode missing files out) = 64 < length files.items
+HasManyFiles (Gather task) = 64 < length task.files.items
 HasManyFiles (Replay root capacity script files) = 64 < length files.items
 HasManyFiles task = ⊥
 
@@ -140,7 +140,7 @@ out_of (Encode encoding file out) = Some out
 out_of (CutSlice root start len outboard file out) = Some out
 out_of (Decode root part file out) = Some out
 out_of (DecodeCopy root outboard copy out) = Some out
-out_of (Gather root workers capacity long outboard salvage encode missing files out) = Some out
+out_of (Gather task) = Some task.out
 out_of task = None
 
 -- two names lead to one file: where it is known what is at both, they are the same
@@ -155,8 +155,8 @@ LeadsToOther at out outboard key_file files (Some list) =
     ⊎ IsSomeAnd key_file (λ named. IsLedTo at list.now named.now) ⊎ ((k : ℕ) × (k < length files) × HoldsAt (λ file. IsLedTo at list.now file.now) files k)
 
 abbrev pub LeadsListTo : (List ℕ → FileState) → Option (Bor (List ℕ)) → Task → Type 0
-LeadsListTo at key_file (Gather root workers capacity long outboard salvage encode missing files out) =
-    LeadsToOther at out.now outboard key_file files.items missing
+LeadsListTo at key_file (Gather task) =
+    LeadsToOther at task.out.now task.outboard key_file task.files.items task.missing
 LeadsListTo at key_file task = ⊥
 
 -- no store has this capacity
@@ -186,7 +186,7 @@ Decodes task = ⊥
 
 -- it gathers
 abbrev pub Gathers : Task → Type 0
-Gathers (Gather root workers capacity long outboard salvage encode missing files out) = Unit {0}
+Gathers (Gather task) = Unit {0}
 Gathers task = ⊥
 
 -- it runs a schedule
@@ -256,8 +256,8 @@ IsRight at mode (CutSlice root start len outboard file out) bytes =
     IsRightPart mode root.now (Slice start len) bytes × IsCutFrom at start len outboard file.now bytes
 IsRight at mode (Decode root part file out) bytes = IsRightPart mode root.now part bytes × AreOf (at file.now) bytes
 IsRight at mode (DecodeCopy root outboard copy out) bytes = IsRightCopy at mode root.now outboard.now copy.now bytes
-IsRight at mode (Gather root workers capacity long outboard salvage encode missing files out) bytes =
-    (length files.items ≤ 64) × ((HasHash mode root.now bytes × Fits long capacity (length bytes)) × IsBeside at mode root.now outboard)
+IsRight at mode (Gather task) bytes =
+    (length task.files.items ≤ 64) × ((HasHash mode task.root.now bytes × Fits task.long task.capacity (length bytes)) × IsBeside at mode task.root.now task.outboard)
 IsRight at mode (Replay root capacity script files) bytes = (length files.items ≤ 64) × IsReplay at mode root.now capacity script.now files.items bytes
 
 -- the line of the request on some bytes, in the request's mode, was printed, and nothing of its files OUT and LIST beside it; and these were written
@@ -274,32 +274,12 @@ PrintsBeginning request at after old new =
 
 -- what standard output holds after a fault of the request
 abbrev pub LeavesOfFile : Request → (List ℕ → FileState) → (List ℕ → FileState) → Option (List ℕ) → Option (List ℕ) → FileFault → Type 0
-LeavesOfFile request at after old new (file.Read path) = Keeps old new
-LeavesOfFile request at after old new (file.Write path) = Keeps old new
 LeavesOfFile request at after old new file.Output = PrintsBeginning request at after old new
-LeavesOfFile request at after old new file.Encoding = Keeps old new
-LeavesOfFile request at after old new file.Memory = Keeps old new
+LeavesOfFile request at after old new fault = Keeps old new
 
 abbrev pub LeavesOf : Request → (List ℕ → FileState) → (List ℕ → FileState) → Option (List ℕ) → Option (List ℕ) → Fault → Type 0
-LeavesOf request at after old new Word = Keeps old new
-LeavesOf request at after old new Root = Keeps old new
-LeavesOf request at after old new Key = Keeps old new
-LeavesOf request at after old new KeyAndContext = Keeps old new
-LeavesOf request at after old new KeyFile = Keeps old new
-LeavesOf request at after old new KeyFileAndOthers = Keeps old new
-LeavesOf request at after old new OutputRange = Keeps old new
-LeavesOf request at after old new TooManyFiles = Keeps old new
-LeavesOf request at after old new OutIsOutput = Keeps old new
-LeavesOf request at after old new OutLeadsToOutput = Keeps old new
-LeavesOf request at after old new OutIsRead = Keeps old new
-LeavesOf request at after old new LongAndCapacity = Keeps old new
-LeavesOf request at after old new ListIsOut = Keeps old new
-LeavesOf request at after old new ListIsRead = Keeps old new
-LeavesOf request at after old new ListLeadsToOther = Keeps old new
 LeavesOf request at after old new (File fault) = LeavesOfFile request at after old new fault
-LeavesOf request at after old new (Undecoded fault) = Keeps old new
-LeavesOf request at after old new (Ungathered fault unlisted) = Keeps old new
-LeavesOf request at after old new (Unreplayed fault) = Keeps old new
+LeavesOf request at after old new fault = Keeps old new
 
 -- the answer to the request
 abbrev pub Answers : Request → (List ℕ → FileState) → (List ℕ → FileState) → Option (List ℕ) → Option (List ℕ) → Result Unit Fault → Type 0

@@ -1,5 +1,5 @@
 -- what each task does, of right bytes, and what a fault leaves
-use Rattle.std.specs.Prelude.{◌⊎◌, ◌≤◌, ℕ, List, length, Option, None, Some}
+use Rattle.std.specs.Prelude.{◌⊎◌, ℕ, List, Option, Some}
 use Rattle.std.specs.Borrow.{Bor}
 use Rattle.b3tree.specs.declared.mode.Mode.{Mode}
 use Rattle.bao_files.specs.Disks.{AreOf, FileState, KeepsFiles, Puts}
@@ -8,11 +8,8 @@ use Rattle.bao_text.specs.declared.kinds.Encoding.{Encoding}
 use Rattle.bao_text.specs.declared.kinds.Part.{Part}
 use Rattle.bao_text.specs.declared.kinds.Part.TheVariants.{Slice}
 use Rattle.bao_decode.specs.Ranges.{part_bytes}
-use Rattle.bao_tasks.specs.Gathered.{Fits, gathered_text}
-use Rattle.bao_tasks.specs.declared.gathering.Gathering.{Gathering}
 use Rattle.bao_command.specs.declared.fault.Fault.{Fault}
-use Rattle.bao_command.specs.Effects.{KeepsButList, PutsBoth}
-use Rattle.bao_command.specs.Tasks.{HasHash, IsBeside, IsCutFrom, IsOfFile, IsRightCopy, IsRightPart}
+use Rattle.bao_command.specs.Tasks.{IsCutFrom, IsOfFile, IsRightCopy, IsRightPart}
 
 -- a fault came before anything was done to the files, or it is one of printing, and this was done before, of some bytes
 abbrev pub Leaves : (List ℕ → FileState) → (List ℕ → FileState) → (List ℕ → Type 0) → Fault → Type 0
@@ -34,18 +31,3 @@ DecodesRight at after mode digits part file out text = (IsRightPart mode digits 
 -- this is the copy in the file, it is accepted beside the outboard encoding, and it was put at OUT
 abbrev pub CopiesRight : (List ℕ → FileState) → (List ℕ → FileState) → Mode → List ℕ → List ℕ → List ℕ → List ℕ → List ℕ → Type 0
 CopiesRight at after mode digits outboard copy out bytes = IsRightCopy at mode digits outboard copy bytes × Puts at after out (Some bytes)
-
--- the blob has the root and fits, and an outboard encoding that is named is accepted
-abbrev pub IsRightBlob : (List ℕ → FileState) → Mode → List ℕ → Gathering → Option (Bor (List ℕ)) → List ℕ → Type 0
-IsRightBlob at mode digits how outboard blob = (HasHash mode digits blob × Fits how.long how.capacity (length blob)) × IsBeside at mode digits outboard
-
--- so it is with this blob, and it was put at OUT, and an empty list at its path
-abbrev pub GathersRight : (List ℕ → FileState) → (List ℕ → FileState) → Mode → List ℕ → Gathering → Option (Bor (List ℕ)) → List ℕ → Option (Bor (List ℕ)) → List ℕ → Type 0
-GathersRight at after mode digits how outboard out list blob = IsRightBlob at mode digits how outboard blob × PutsBoth at after out (gathered_text how.encode mode blob) list
-
--- What a fault of gathering leaves: all files but the list as they were; or it came of the list or of printing, once such a blob of so few files was at OUT
-abbrev pub LeavesGathered : (List ℕ → FileState) → (List ℕ → FileState) → Mode → List ℕ → Gathering → Option (Bor (List ℕ)) → List ℕ → Option (Bor (List ℕ)) → ℕ → Fault → Type 0
-LeavesGathered at after mode digits how outboard out list count fault =
-    KeepsButList at after list
-    ⊎ (IsOfFile fault × ((blob : List ℕ) × ((count ≤ 64) × IsRightBlob at mode digits how outboard blob)
-    × (PutsBoth at after out (gathered_text how.encode mode blob) list ⊎ PutsBoth at after out (gathered_text how.encode mode blob) None)))

@@ -26,7 +26,7 @@ ghost use Rattle.bao_command.specs.Status.{decode_status_of, rerun_status_of, st
 ghost use Rattle.bao_command.specs.Tasks.{Answers, HasBadLine, HasManyFiles, HasRoot, IfPassed, IsCutFrom, IsDue, IsNoCapacity, IsMixed, IsNoOutput, IsOfFile, IsPassed, IsPastOutput, IsReplay, IsRight, IsRightCopy, IsRightPart, LeavesFiles, LeavesFilesOf, ListClashes, ReadsList, ReadsOut, WritesApart, line_of, part_line};
 
 use crate::fault::Fault;
-use crate::gathering::{MOST_FILES, Paths, gather, grain_of, parts_asked};
+use crate::gathering::{MOST_FILES, gather};
 use crate::help::{show, shown_status};
 use crate::lists::check_list;
 use crate::mode::asked_mode;
@@ -40,7 +40,7 @@ use bao_files::{
     print_file, print_text,
 };
 use bao_request::{Request, Task, parse};
-use bao_tasks::{Gathering, replay_on};
+use bao_tasks::replay_on;
 use bao_text::{Encoding, Part};
 use clap::error::ErrorKind;
 use std::alloc::Global;
@@ -437,35 +437,7 @@ fn serve_task<'a, R: AllocGlobal + Threads + Sync, D: Disk, O: Write, E: Write, 
         } => decode_beside(
             alloc, disk, mode, root, outboard, verbose, copy, path, out, err, progress,
         ),
-        Task::Gather {
-            root,
-            workers,
-            capacity,
-            long,
-            outboard,
-            salvage,
-            encode,
-            missing,
-            files,
-            out: path,
-        } => {
-            let how = Gathering {
-                workers: *workers,
-                capacity: *capacity,
-                long: *long,
-                encode: *encode,
-                count: verbose,
-                parts: parts_asked(verbose, *missing),
-                grain: grain_of(*salvage),
-            };
-            let paths = Paths {
-                out: path,
-                outboard: *outboard,
-                list: *missing,
-            };
-            let files = files.as_slice();
-            gather(rt, disk, mode, root, how, paths, files, out, err, progress)
-        }
+        Task::Gather(task) => gather(rt, disk, mode, task, verbose, out, err, progress),
         Task::Replay {
             root,
             capacity,
@@ -486,7 +458,8 @@ fn check_root<'a>(task: &Task<'a>) -> Result<(), Fault<'a>>
     let root = match task {
         Task::CutSlice { root, .. } => root,
         Task::Decode { root, .. } | Task::DecodeCopy { root, .. } => root,
-        Task::Gather { root, .. } | Task::Replay { root, .. } => root,
+        Task::Gather(task) => task.root,
+        Task::Replay { root, .. } => root,
         Task::Hash { .. } | Task::Encode { .. } => return Ok(()),
     };
     match bytes_of_digits(root) {
@@ -501,11 +474,9 @@ fn check_long<'a>(task: &Task<'a>) -> Result<(), Fault<'a>>
     ensures err { IfErr result (λ fault. (fault ≡ Fault.LongAndCapacity) × IsMixed task.now) }
 {
     match task {
-        Task::Gather {
-            long: true,
-            capacity,
-            ..
-        } if *capacity != MOST_CHUNKS => Err(Fault::LongAndCapacity),
+        Task::Gather(task) if task.long && task.capacity != MOST_CHUNKS => {
+            Err(Fault::LongAndCapacity)
+        }
         _ => Ok(()),
     }
 }
@@ -525,7 +496,8 @@ fn writes_apart(task: &Task<'_>) -> bool
 {
     let path = match task {
         Task::Encode { out, .. } | Task::CutSlice { out, .. } | Task::Decode { out, .. } => out,
-        Task::DecodeCopy { out, .. } | Task::Gather { out, .. } => out,
+        Task::DecodeCopy { out, .. } => out,
+        Task::Gather(task) => task.out,
         Task::Hash { .. } | Task::Replay { .. } => return true,
     };
     !is_output(path)

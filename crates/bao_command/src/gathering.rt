@@ -7,16 +7,16 @@ ghost use Rattle.std.specs.Io.KnownBytes.{Appends};
 ghost use Rattle.bao_files.specs.Disks.{KeepsFiles};
 ghost use Rattle.bao_files.specs.Printed.{IsDigits, IsQuiet, ok_line};
 ghost use Rattle.bao_files.specs.declared.fault.FileFault.{FileFault};
-ghost use Rattle.bao_command.specs.Effects.{IsRelisted, Lists, parts_in};
-ghost use Rattle.bao_command.specs.Gaps.{LeavesList};
+ghost use Rattle.bao_command.specs.Effects.{IsRelisted, Lists, Writes, parts_in};
+ghost use Rattle.bao_command.specs.Gaps.{LeavesListOf};
 ghost use Rattle.bao_tasks.specs.Listed.{lines_of_parts};
 ghost use Rattle.bao_command.specs.Printed.{CommandPrints, OnPrinted};
-ghost use Rattle.bao_command.specs.Refused.{IsEachBlob, IsRefusedGathering, OfRoot};
+ghost use Rattle.bao_command.specs.Refused.{IsBlobOf, IsRefused};
 ghost use Rattle.bao_command.specs.Status.{gathered_status_of, status_of};
-ghost use Rattle.bao_command.specs.Tasks.{IsBeside, IsOfFile};
+ghost use Rattle.bao_command.specs.Tasks.{IsOfFile, IsRight, LeavesFiles};
+ghost use Rattle.bao_request.specs.declared.tasks.Task.TheVariants.{Gather};
 ghost use Rattle.bao_tasks.specs.declared.gathered_fault.GatheredFault.{GatheredFault};
 ghost use Rattle.bao_command.specs.ReportLines.{claimed_line, part_line as missing_line, parts_line, unlooked_line, worth_line};
-ghost use Rattle.bao_command.specs.Works.{GathersRight, LeavesGathered};
 
 use crate::commands::{root_of, told};
 use crate::fault::{Fault, gathered_status};
@@ -24,6 +24,7 @@ use crate::refused::{is_no_encoding, tell_no_encoding, tell_outboard};
 use crate::unread::{tell_file, tell_left_out};
 use b3tree::Mode;
 use bao_files::{Disk, FileFault, Once, Progress, print_count};
+use bao_request::GatherTask;
 use bao_tasks::{
     Fate, Form, GatheredFault, Gathering, Grain, Lack, MissingParts, Notes, Span, Worth,
     gather_beside_on, gather_on, list_parts,
@@ -184,71 +185,52 @@ fn tell_lack<E: Write>(grain: Grain, notes: &Notes, err: &mut E) -> io::Result<(
 }
 
 // Prints what is wrong with each file, and what none of them has. Stops at the first write that fails, which has no other effect.
-fn tell_files<D: Disk, E: Write>(
-    disk: &D,
-    how: Gathering,
-    is_beside: bool,
-    files: &[&str],
-    notes: &Notes,
-    err: &mut E,
-) {
-    for (file, fate) in files.iter().zip(notes.fates.as_slice()) {
+fn tell_files<D: Disk, E: Write>(disk: &D, task: &GatherTask<'_>, notes: &Notes, err: &mut E) {
+    let is_beside = task.outboard.is_some();
+    for (file, fate) in task.files.iter().zip(notes.fates.as_slice()) {
         if tell_fate(disk, is_beside, file, *fate, err).is_err() {
             return;
         }
     }
-    let _ = tell_lack(how.grain, notes, err);
+    let _ = tell_lack(grain_of(task.salvage), notes, err);
 }
 
-// With `--verbose`, prints what is wrong with the files: with the outboard encoding if it was refused, since no other file was opened then, or with each.
+// Prints what is wrong with the files: with the outboard encoding if it was refused, since no other file was opened then, or with each.
 fn tell<D: Disk, E: Write>(
     disk: &D,
-    how: Gathering,
-    outboard: Option<&str>,
-    files: &[&str],
+    task: &GatherTask<'_>,
     notes: &Notes,
     gathered: &Result<u64, GatheredFault<'_>>,
     err: &mut E,
 ) {
-    if !how.count {
-        return;
-    }
-    match (gathered, outboard) {
+    match (gathered, task.outboard) {
         (Err(GatheredFault::Outboard(fault)), Some(outboard)) => {
             tell_outboard(disk, outboard, *fault, err);
         }
         (Err(GatheredFault::File(fault @ FileFault::Write(_))), _) => {
-            tell_files(disk, how, outboard.is_some(), files, notes, err);
+            tell_files(disk, task, notes, err);
             tell_file(disk, *fault, err);
         }
-        (Err(GatheredFault::Gather(GatherFault::TooLarge)), _) if !how.long => {
-            tell_files(disk, how, outboard.is_some(), files, notes, err);
+        (Err(GatheredFault::Gather(GatherFault::TooLarge)), _) if !task.long => {
+            tell_files(disk, task, notes, err);
             let _ = writeln!(
                 Once(err),
                 "bao_gather: the blob is longer than --capacity allows: --long lifts that limit"
             );
         }
-        _ => tell_files(disk, how, outboard.is_some(), files, notes, err),
+        _ => tell_files(disk, task, notes, err),
     }
 }
 
-// The paths of a gathering, but for the files that it gathers from.
-#[derive(Clone, Copy)]
-pub(crate) struct Paths<'a> {
-    pub(crate) out: &'a str,
-    pub(crate) outboard: Option<&'a str>,
-    pub(crate) list: Option<&'a str>,
-}
-
 // The smallest unit that the files are asked for.
-pub(crate) fn grain_of(salvage: bool) -> Grain
+fn grain_of(salvage: bool) -> Grain
     ensures { result ≡ (if salvage then Grain.Chunk else Grain.Group) }
 {
     if salvage { Grain::Chunk } else { Grain::Group }
 }
 
 // How many of the missing ranges are wanted: all for the list, the first ones for `--verbose`, or none.
-pub(crate) fn parts_asked(verbose: bool, list: Option<&str>) -> usize
+fn parts_asked(verbose: bool, list: Option<&str>) -> usize
     ensures { IsSome list.entry → result ≡ 2 ^ 64 - 1 }
 {
     match (verbose, list) {
@@ -259,15 +241,15 @@ pub(crate) fn parts_asked(verbose: bool, list: Option<&str>) -> usize
 }
 
 // Empties the list, if there is one: nothing is missing. A link that led nowhere may lead to OUT now; the list then can't be written.
-fn list_nothing<'a, D: Disk>(disk: &mut D, paths: Paths<'a>) -> Result<(), Fault<'a>>
-    ensures lists { OnOk result (Lists (D.at disk.old) (D.at disk.new) paths.entry.list []) }
+fn list_nothing<'a, D: Disk>(disk: &mut D, task: &GatherTask<'a>) -> Result<(), Fault<'a>>
+    ensures lists { OnOk result (Lists (D.at disk.old) (D.at disk.new) task.now.missing []) }
     ensures kept { OnErr result (KeepsFiles (D.at disk.old) (D.at disk.new)) }
     ensures quiet { IfErr result (λ fault. (file : FileFault) × (fault ≡ Fault.File file) × IsQuiet file) }
 {
-    let Some(path) = paths.list else {
+    let Some(path) = task.missing else {
         return Ok(());
     };
-    if disk.is_one(path, paths.out) {
+    if disk.is_one(path, task.out) {
         return Err(Fault::File(FileFault::Write(path)));
     }
     match list_parts(disk, &[], path) {
@@ -331,8 +313,8 @@ fn relist<'a, D: Disk, E: Write>(
     list_lack(disk, list, lack, verbose, err)
 }
 
-// Gathers the blob from the files, which are plain copies if an outboard encoding is named, and prints the blob's length. With `--verbose`, prints what is
-// wrong with each of them. Makes the list of what none of them has anew, unless the arguments are wrong.
+// Does a task of `gather`, and prints the blob's length. With `verbose`, prints what is wrong with each of its files. Makes the list of what none of them
+// has anew, unless the arguments are wrong.
 pub(crate) fn gather<
     'a,
     R: AllocGlobal + Threads + Sync,
@@ -344,61 +326,65 @@ pub(crate) fn gather<
     rt: &R,
     disk: &mut D,
     mode: &Mode,
-    digits: &str,
-    how: Gathering,
-    paths: Paths<'a>,
-    files: &[&'a str],
+    task: &GatherTask<'a>,
+    verbose: bool,
     out: &mut O,
     err: &mut E,
     progress: &P,
 ) -> Result<(), Fault<'a>>
-    ensures answer { (blob : List ℕ) × OnPrinted result (GathersRight (D.at disk.old) (D.at disk.new) mode.now digits.now how paths.entry.outboard paths.entry.out.now paths.entry.list blob)
+    ensures prints { (blob : List ℕ) × OnPrinted result (IsRight (D.at disk.old) mode.now (Gather task.now) blob × Writes (D.at disk.old) (D.at disk.new) mode.now (Gather task.now) task.now.missing blob)
         × CommandPrints (ok_line (length blob)) (O.contents out.old) (O.contents out.new) result }
-    ensures files { IfErr result (LeavesGathered (D.at disk.old) (D.at disk.new) mode.now digits.now how paths.entry.outboard paths.entry.out.now paths.entry.list (length files.now)) }
-    ensures refused { IfErr result (λ fault. status_of fault ≡ 1
-        → OfRoot digits.now (IsRefusedGathering (D.faultless disk.old) (D.at disk.old) mode.now how.grain how.long how.capacity paths.entry.outboard files.now paths.entry.out.now)) }
-    ensures blob { OnOk result (OfRoot digits.now (IsEachBlob (D.faultless disk.old) (D.at disk.old) (D.at disk.new) mode.now how.encode how.capacity paths.entry.outboard files.now paths.entry.out.now
-        paths.entry.list (O.contents out.old) (O.contents out.new))) }
+    ensures files { IfErr result (LeavesFiles (D.at disk.old) (D.at disk.new) mode.now (Gather task.now)) }
     ensures usage { IfErr result (λ fault. status_of fault ≡ 2 → KeepsFiles (D.at disk.old) (D.at disk.new)) }
-    ensures listed { IfErr result (IsRelisted (D.at disk.old) (D.at disk.new) paths.entry.list) }
-    ensures gaps { IfErr result (LeavesList (D.faultless disk.old) (D.at disk.old) (D.at disk.new) mode.now digits.now how.grain how.capacity how.parts paths.entry.outboard files.now paths.entry.list) }
-    ensures few { OnPrinted result (length files.now ≤ 64) }
-    ensures many { 64 < length files.now → IsErrAnd result (λ fault. fault ≡ Fault.TooManyFiles) }
-    ensures due { IfErr result (λ fault. IsOfFile fault ⊎ ((fault ≡ Fault.Root) × ¬ IsDigits digits.now) ⊎ ((fault ≡ Fault.TooManyFiles) × (64 < length files.now))
+    ensures refused { IfErr result (λ fault. status_of fault ≡ 1 → IsRefused (D.faultless disk.old) (D.at disk.old) mode.now (Gather task.now)) }
+    ensures blob { OnOk result (IsBlobOf (D.faultless disk.old) (D.at disk.old) (D.at disk.new) mode.now (Gather task.now) (O.contents out.old) (O.contents out.new)) }
+    ensures listed { IfErr result (IsRelisted (D.at disk.old) (D.at disk.new) task.now.missing) }
+    ensures gaps { IfErr result (LeavesListOf (D.faultless disk.old) (D.at disk.old) (D.at disk.new) mode.now (Gather task.now)) }
+    ensures many { 64 < length task.now.files.items → IsErrAnd result (λ fault. fault ≡ Fault.TooManyFiles) }
+    ensures due { IfErr result (λ fault. IsOfFile fault ⊎ ((fault ≡ Fault.Root) × ¬ IsDigits task.now.root.now) ⊎ ((fault ≡ Fault.TooManyFiles) × (64 < length task.now.files.items))
         ⊎ ((cause : GatheredFault) × (unlisted : Option FileFault) × (fault ≡ Fault.Gather cause unlisted))) }
 {
+    let files = task.files.as_slice();
     if files.len() > MOST_FILES {
         return Err(Fault::TooManyFiles);
     }
-    let root = root_of(digits)?;
+    let root = root_of(task.root)?;
     let Ok(mut notes) = Notes::new(rt.alloc(), files.len()) else {
         let fault = GatheredFault::File(FileFault::Memory);
-        let left = relist(disk, paths.list, &Lack::Unasked, fault, how.count, err);
-        return Err(Fault::Gather {
-            fault,
-            unlisted: left,
-        });
+        let unlisted = relist(disk, task.missing, &Lack::Unasked, fault, verbose, err);
+        return Err(Fault::Gather { fault, unlisted });
+    };
+    let how = Gathering {
+        workers: task.workers,
+        capacity: task.capacity,
+        long: task.long,
+        encode: task.encode,
+        count: verbose,
+        parts: parts_asked(verbose, task.missing),
+        grain: grain_of(task.salvage),
     };
     let kept = &mut notes;
-    let gathered = match paths.outboard {
+    let gathered = match task.outboard {
         Some(outboard) => gather_beside_on(
-            rt, disk, mode, &root, how, outboard, files, paths.out, kept, progress,
+            rt, disk, mode, &root, how, outboard, files, task.out, kept, progress,
         ),
         None => {
             let form = Form::Slices;
             gather_on(
-                rt, disk, mode, &root, &form, how, files, paths.out, kept, progress,
+                rt, disk, mode, &root, &form, how, files, task.out, kept, progress,
             )
         }
     };
-    tell(disk, how, paths.outboard, files, &notes, &gathered, err);
+    if verbose {
+        tell(disk, task, &notes, &gathered, err);
+    }
     match gathered {
         Ok(count) => {
-            list_nothing(disk, paths)?;
+            list_nothing(disk, task)?;
             told(print_count(rt.alloc(), count, out))
         }
         Err(fault) => {
-            let unlisted = relist(disk, paths.list, &notes.lack, fault, how.count, err);
+            let unlisted = relist(disk, task.missing, &notes.lack, fault, verbose, err);
             Err(Fault::Gather { fault, unlisted })
         }
     }

@@ -62,12 +62,12 @@ fn reads_list(key_file: Option<&str>, task: &Task<'_>) -> bool
     ensures no { result ≡ false → ¬ ReadsListOf key_file.entry task.now }
 {
     match task {
-        Task::Gather {
-            outboard,
-            missing,
-            files,
-            ..
-        } => is_list_read(key_file, *outboard, files.as_slice(), *missing),
+        Task::Gather(task) => is_list_read(
+            key_file,
+            task.outboard,
+            task.files.as_slice(),
+            task.missing,
+        ),
         _ => false,
     }
 }
@@ -78,7 +78,7 @@ fn clashes(task: &Task<'_>) -> bool
     ensures no { result ≡ false → ¬ ListClashes task.now }
 {
     match task {
-        Task::Gather { missing, out, .. } => is_list_at(out, *missing),
+        Task::Gather(task) => is_list_at(task.out, task.missing),
         _ => false,
     }
 }

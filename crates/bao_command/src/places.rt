@@ -41,7 +41,8 @@ fn out_of<'a>(task: &Task<'a>) -> Option<&'a str>
     match task {
         Task::Encode { out, .. } | Task::CutSlice { out, .. } => Some(out),
         Task::Decode { out, .. } => Some(out),
-        Task::DecodeCopy { out, .. } | Task::Gather { out, .. } => Some(out),
+        Task::DecodeCopy { out, .. } => Some(out),
+        Task::Gather(task) => Some(task.out),
         Task::Hash { .. } | Task::Replay { .. } => None,
     }
 }
@@ -80,16 +81,14 @@ fn is_list_other<D: Disk>(disk: &D, request: &Request<'_>) -> bool
     ensures { result ≡ true → LeadsListTo (D.at disk.now) request.now.key_file request.now.task }
 {
     match &request.task {
-        Task::Gather {
-            missing,
-            outboard,
-            files,
-            out,
-            ..
-        } => {
-            let files = files.as_slice();
-            leads_to_other(disk, *missing, out, *outboard, request.key_file, files)
-        }
+        Task::Gather(task) => leads_to_other(
+            disk,
+            task.missing,
+            task.out,
+            task.outboard,
+            request.key_file,
+            task.files.as_slice(),
+        ),
         _ => false,
     }
 }
@@ -134,7 +133,7 @@ fn is_out_read<D: Disk>(disk: &D, key_file: Option<&str>, task: &Task<'_>) -> bo
             out,
             ..
         } => reads_one(disk, out, key_file, Some(outboard), Some(copy)),
-        Task::Gather { outboard, out, .. } => reads_one(disk, out, key_file, *outboard, None),
+        Task::Gather(task) => reads_one(disk, task.out, key_file, task.outboard, None),
         Task::Hash { .. } | Task::Replay { .. } => false,
     }
 }

@@ -55,8 +55,8 @@ fn file_fault<'a>(fault: Fault<'a>) -> Option<FileFault<'a>> {
 // Whether it has been reported before why this file can't be read or written: a FILE of `gather` where it was left out, and OUT before LIST was tried.
 fn is_told(task: &Task<'_>, fault: FileFault<'_>) -> bool {
     match (task, fault) {
-        (Task::Gather { files, .. }, FileFault::Read(path)) => is_among(path, files.as_slice()),
-        (Task::Gather { out, .. }, FileFault::Write(path)) => path == *out,
+        (Task::Gather(task), FileFault::Read(path)) => is_among(path, task.files.as_slice()),
+        (Task::Gather(task), FileFault::Write(path)) => path == task.out,
         _ => false,
     }
 }

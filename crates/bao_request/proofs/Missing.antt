@@ -52,7 +52,7 @@ pub no_gather : (rows : List Row)
     → ((root out : Bor Text) (workers capacity : ℕ) (files : List (Bor Text)) → GivesText rows (codes "ROOT") root.now → GivesNumber 32 rows (codes "workers") workers → GivesNumber 32 rows (codes "capacity") capacity
     → GivesTexts rows (codes "FILE") files → ¬ GivesText rows (codes "OUT") out.now)
     → (task : Task) → ¬ GivesTask (codes "gather") rows task
-no_gather rows without (Gather root workers capacity long outboard salvage encode missing files out) a = without root out workers capacity files.items a.8 a.1 a.2 a.9 a.10
+no_gather rows without (Gather task) a = without task.root task.out task.workers task.capacity task.files.items a.8 a.1 a.2 a.9 a.10
 no_gather rows without task a = let e = class_is (codes "gather") rows task a in absurd (omega (arith, e))
 
 pub no_replay : (rows : List Row)

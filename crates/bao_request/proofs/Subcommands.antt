@@ -45,7 +45,7 @@ task_class (Encode encoding file out) = 1
 task_class (CutSlice root start len outboard file out) = 5
 task_class (Decode root part file out) = 2
 task_class (DecodeCopy root outboard copy out) = 2
-task_class (Gather root workers capacity long outboard salvage encode missing files out) = 3
+task_class (Gather task) = 3
 task_class (Replay root capacity script files) = 4
 
 encoding_class : (e : Encoding) → class (encoding_name e) ≡ 1
@@ -66,5 +66,5 @@ class_is name rows (Encode encoding file out) a = writes name rows encoding a.0
 class_is name rows (CutSlice root start len outboard file out) a = ap class a.0
 class_is name rows (Decode root part file out) a = ap class (part_named name rows part file.now a.0) ∙ part_class part
 class_is name rows (DecodeCopy root outboard copy out) a = ap class a.0
-class_is name rows (Gather root workers capacity long outboard salvage encode missing files out) a = ap class a.0
+class_is name rows (Gather task) a = ap class a.0
 class_is name rows (Replay root capacity script files) a = ap class a.0

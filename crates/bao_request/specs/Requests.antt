@@ -64,8 +64,8 @@ GivesTask name rows (Decode root part file out) =
     GivesPart name rows part file.now × GivesText rows (codes "ROOT") root.now × GivesText rows (codes "OUT") out.now
 GivesTask name rows (DecodeCopy root outboard copy out) =
     (name ≡ codes "decode") × GivesText rows (codes "outboard") outboard.now × GivesText rows (codes "ENC") copy.now × GivesText rows (codes "ROOT") root.now × GivesText rows (codes "OUT") out.now
-GivesTask name rows (Gather root workers capacity long outboard salvage encode missing files out) =
-    (name ≡ codes "gather") × GivesNumber 32 rows (codes "workers") workers × GivesNumber 32 rows (codes "capacity") capacity × GivesFlag rows (codes "long") long × (option_copied outboard ≡ first_of (codes "outboard") rows) × GivesFlag rows (codes "salvage") salvage × GivesFlag rows (codes "encode") encode × (option_copied missing ≡ first_of (codes "missing") rows) × GivesText rows (codes "ROOT") root.now × GivesTexts rows (codes "FILE") files.items × GivesText rows (codes "OUT") out.now
+GivesTask name rows (Gather task) =
+    (name ≡ codes "gather") × GivesNumber 32 rows (codes "workers") task.workers × GivesNumber 32 rows (codes "capacity") task.capacity × GivesFlag rows (codes "long") task.long × (option_copied task.outboard ≡ first_of (codes "outboard") rows) × GivesFlag rows (codes "salvage") task.salvage × GivesFlag rows (codes "encode") task.encode × (option_copied task.missing ≡ first_of (codes "missing") rows) × GivesText rows (codes "ROOT") task.root.now × GivesTexts rows (codes "FILE") task.files.items × GivesText rows (codes "OUT") task.out.now
 GivesTask name rows (Replay root capacity script files) =
     (name ≡ codes "replay") × GivesNumber 32 rows (codes "capacity") capacity × GivesText rows (codes "ROOT") root.now × GivesText rows (codes "SCRIPT") script.now × GivesTexts rows (codes "FILE") files.items
 

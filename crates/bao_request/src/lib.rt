@@ -6,4 +6,4 @@ mod rules;
 mod tasks;
 
 pub use reading::parse;
-pub use tasks::{Request, Task};
+pub use tasks::{GatherTask, Request, Task};

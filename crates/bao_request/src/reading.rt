@@ -6,7 +6,7 @@ ghost use Rattle.bao_request.specs.CommandLine.{AreGood, AsksFor, AsksForHelp, I
 ghost use Rattle.bao_request.specs.Requests.{Finds, GivesEncoding, GivesFlag, GivesNumber, GivesRange, GivesRequest, GivesTask, GivesText, GivesTexts};
 
 use crate::rules::program;
-use crate::tasks::{Request, Task};
+use crate::tasks::{GatherTask, Request, Task};
 use bao_text::{Encoding, Part};
 use clap::error::ErrorKind;
 use clap::{ArgMatches, Error};
@@ -149,7 +149,7 @@ fn gather_of<'a>(alloc: Global, words: &ArgMatches<'a>) -> Result<Option<Task<'a
     ) else {
         return Ok(None);
     };
-    Ok(Some(Task::Gather {
+    Ok(Some(Task::Gather(GatherTask {
         root,
         workers,
         capacity,
@@ -160,7 +160,7 @@ fn gather_of<'a>(alloc: Global, words: &ArgMatches<'a>) -> Result<Option<Task<'a
         missing: text(words, "missing"),
         files: files.to_vec(alloc)?,
         out,
-    }))
+    })))
 }
 
 // The task of `replay`, if no argument is missing.

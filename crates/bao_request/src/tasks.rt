@@ -15,6 +15,29 @@ pub struct Request<'a> {
     pub task: Task<'a>,
 }
 
+/// The arguments of `gather`: gathers the blob with this root, and writes it to the file `out`.
+#[derive(Debug, Drop)]
+pub struct GatherTask<'a> {
+    pub root: &'a str,
+    /// How many workers gather, 1 to 64.
+    pub workers: u32,
+    /// The most chunks that the blob may have, 1 to 65,536, unless it is `long`.
+    pub capacity: u32,
+    /// Whether the blob may have any length.
+    pub long: bool,
+    /// The path of the outboard encoding, if the files are plain copies and not combined encodings.
+    pub outboard: Option<&'a str>,
+    /// Whether missing chunks are asked for one at a time as a last resort.
+    pub salvage: bool,
+    /// Whether the blob's combined encoding is written in place of the blob.
+    pub encode: bool,
+    /// The path that the ranges which no file has are written to, if any.
+    pub missing: Option<&'a str>,
+    /// One or more files.
+    pub files: Vec<&'a str>,
+    pub out: &'a str,
+}
+
 /// A command with its arguments.
 #[derive(Debug, Drop)]
 pub enum Task<'a> {
@@ -57,25 +80,8 @@ pub enum Task<'a> {
         copy: &'a str,
         out: &'a str,
     },
-    /// `gather`: gathers the blob with this root, of at most `capacity` chunks, 1 to 65,536, or with `long` of any
-    /// length, from one or more files by 1 to 64 workers. Writes its bytes, or with `encode` its combined
-    /// encoding, to the file `out`.
-    ///
-    /// The files are combined encodings, or with `outboard`, the path of the outboard encoding, plain copies. With
-    /// `salvage`, missing chunks are asked for one at a time as a last resort. The ranges that no file has are written
-    /// to the file `missing`, if it is given.
-    Gather {
-        root: &'a str,
-        workers: u32,
-        capacity: u32,
-        long: bool,
-        outboard: Option<&'a str>,
-        salvage: bool,
-        encode: bool,
-        missing: Option<&'a str>,
-        files: Vec<&'a str>,
-        out: &'a str,
-    },
+    /// `gather`: gathers a blob from files.
+    Gather(GatherTask<'a>),
     /// `replay`: runs the schedule in the file `script` on a store of `capacity` chunks, 1 to 65,536, with this
     /// root. Its slices are cut out of one or more files.
     Replay {

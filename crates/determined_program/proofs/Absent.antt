@@ -33,7 +33,7 @@ module _ (at : List ℕ → FileState) (m : Mode) where
   not_right (Decode root part file out) bytes lacks right = none_of (at file.now) bytes lacks right.1
   not_right (DecodeCopy root outboard copy out) bytes (inl lacks) right = none_of (at outboard.now) right.1.1.0 lacks right.1.1.1
   not_right (DecodeCopy root outboard copy out) bytes (inr lacks) right = none_of (at copy.now) bytes lacks.0 right.1.1.2
-  not_right (Gather root workers capacity long outboard salvage encode missing files out) bytes lacks right = absurd lacks
+  not_right (Gather task) bytes lacks right = absurd lacks
   not_right (Replay root capacity script files) bytes lacks right = none_of (at script.now) right.1.1.1.0 lacks right.1.1.1.2
 
   -- an encoding that is accepted has no fault
@@ -50,7 +50,7 @@ module _ (at : List ℕ → FileState) (m : Mode) where
   not_refused sure (DecodeCopy root outboard copy out) (inl lacks) refused = refused.1.1.0 lacks
   not_refused sure (DecodeCopy root outboard copy out) (inr lacks) refused =
       no_fault refused.0 lacks.1.0 (lacks.1.2 refused.0 refused.1.0) (refused.1.1.2 lacks.0 lacks.1.0 lacks.1.1)
-  not_refused sure (Gather root workers capacity long outboard salvage encode missing files out) lacks refused = absurd lacks
+  not_refused sure (Gather task) lacks refused = absurd lacks
   not_refused sure (Replay root capacity script files) lacks refused = elim refused.1.1.1 [
     | inl stopped ↦ none_of (at script.now) stopped.0 lacks stopped.2
     | inr fault ↦ none_of (at script.now) fault.2.0 lacks fault.2.2
@@ -67,7 +67,7 @@ module _ (at : List ℕ → FileState) (m : Mode) where
   no_list (CutSlice root start len outboard file out) lacks = refl
   no_list (Decode root part file out) lacks = refl
   no_list (DecodeCopy root outboard copy out) lacks = refl
-  no_list (Gather root workers capacity long outboard salvage encode missing files out) lacks = absurd lacks
+  no_list (Gather task) lacks = absurd lacks
   no_list (Replay root capacity script files) lacks = refl
 
   left_in : (after : List ℕ → FileState) (task : Task) (fault : Fault) → LacksFile at m task → LeavesFiles at after m task fault → KeepsFiles at after

@@ -14,5 +14,5 @@ right_bytes mode (Encode encoding file out) bytes right other = right
 right_bytes mode (CutSlice root start len outboard file out) bytes right other = right.0.1.1.1
 right_bytes mode (Decode root part file out) bytes right other = right.1
 right_bytes mode (DecodeCopy root outboard copy out) bytes right other = right.1.1.2
-right_bytes mode (Gather root workers capacity long outboard salvage encode missing files out) bytes right other = right.1.0.0.1.2
+right_bytes mode (Gather task) bytes right other = right.1.0.0.1.2
 right_bytes mode (Replay root capacity script files) bytes right other = absurd (other tt)

@@ -46,7 +46,7 @@ module _ (at : List ℕ → FileState) (known : (path : List ℕ) → IsKnown (a
   is_outcome (Encode encoding file out) bytes one right = absurd one
   is_outcome (CutSlice root start len outboard file out) bytes one right = absurd one
   is_outcome (DecodeCopy root outboard copy out) bytes one right = absurd one
-  is_outcome (Gather root workers capacity long outboard salvage encode missing files out) bytes one right = absurd one
+  is_outcome (Gather task) bytes one right = absurd one
   is_outcome (Replay root capacity script files) bytes one right = absurd one
 
   shows : (after : List ℕ → FileState) (old new : Option (List ℕ)) (task : Task) (bytes : List ℕ) → IsOfOne task → Writes at after mode task (list_of task) bytes → Appends old new (line_of mode task bytes)
@@ -57,7 +57,7 @@ module _ (at : List ℕ → FileState) (known : (path : List ℕ) → IsKnown (a
   shows after old new (Encode encoding file out) bytes one writes appends = absurd one
   shows after old new (CutSlice root start len outboard file out) bytes one writes appends = absurd one
   shows after old new (DecodeCopy root outboard copy out) bytes one writes appends = absurd one
-  shows after old new (Gather root workers capacity long outboard salvage encode missing files out) bytes one writes appends = absurd one
+  shows after old new (Gather task) bytes one writes appends = absurd one
   shows after old new (Replay root capacity script files) bytes one writes appends = absurd one
 
   -- a text that is refused isn't accepted
@@ -75,7 +75,7 @@ module _ (at : List ℕ → FileState) (known : (path : List ℕ) → IsKnown (a
   is_refused short sure (Encode encoding file out) one refused = absurd one
   is_refused short sure (CutSlice root start len outboard file out) one refused = absurd one
   is_refused short sure (DecodeCopy root outboard copy out) one refused = absurd one
-  is_refused short sure (Gather root workers capacity long outboard salvage encode missing files out) one refused = absurd one
+  is_refused short sure (Gather task) one refused = absurd one
   is_refused short sure (Replay root capacity script files) one refused = absurd one
 
 module _ (words : List Text) (at after : List ℕ → FileState) (old new : Option (List ℕ)) (known : (path : List ℕ) → IsKnown (at path))
@@ -132,5 +132,5 @@ one_outcome at mode (Decode root part file out) a b ours theirs =
 one_outcome at mode (Encode encoding file out) a b ours theirs = absurd ours
 one_outcome at mode (CutSlice root start len outboard file out) a b ours theirs = absurd ours
 one_outcome at mode (DecodeCopy root outboard copy out) a b ours theirs = absurd ours
-one_outcome at mode (Gather root workers capacity long outboard salvage encode missing files out) a b ours theirs = absurd ours
+one_outcome at mode (Gather task) a b ours theirs = absurd ours
 one_outcome at mode (Replay root capacity script files) a b ours theirs = absurd ours

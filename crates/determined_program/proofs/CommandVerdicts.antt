@@ -61,8 +61,8 @@ out_read k k' (Decode root part file out) (Decode root' part' file' out') keys s
     one_same out.now out'.now k k' None None (Some file) (Some file') same.3 keys refl (ap (λ (n : List ℕ). Some n) same.2) read
 out_read k k' (DecodeCopy root outboard copy out) (DecodeCopy root' outboard' copy' out') keys same read =
     one_same out.now out'.now k k' (Some outboard) (Some outboard') (Some copy) (Some copy') same.3 keys (ap (λ (n : List ℕ). Some n) same.1) (ap (λ (n : List ℕ). Some n) same.2) read
-out_read k k' (Gather root workers capacity long outboard salvage encode missing files out) (Gather root' workers' capacity' long' outboard' salvage' encode' missing' files' out') keys same read =
-    one_same out.now out'.now k k' outboard outboard' None None same.9 keys same.4 refl read
+out_read k k' (Gather task) (Gather task') keys same read =
+    one_same task.out.now task'.out.now k k' task.outboard task'.outboard None None same.9 keys same.4 refl read
 out_read k k' (Replay root capacity script files) (Replay root' capacity' script' files') keys same read = absurd read
 out_read k k' r s keys same read = absurd same
 
@@ -90,15 +90,15 @@ module _ (at : List ℕ → FileState) (known : (path : List ℕ) → IsKnown (a
       (subst IsDigits same.0 p.0, subst IsNoOutput same.5 p.1, λ past. past, λ many. many)
   also (Decode root part file out) (Decode root' part' file' out') same of p = (subst IsDigits same.0 p.0, subst IsNoOutput same.3 p.1, p.2, p.3)
   also (DecodeCopy root outboard copy out) (DecodeCopy root' outboard' copy' out') same of p = (subst IsDigits same.0 p.0, subst IsNoOutput same.3 p.1, p.2, p.3)
-  also (Gather root workers capacity long outboard salvage encode missing files out) s same of p = absurd of
+  also (Gather task) s same of p = absurd of
   also (Replay root capacity script files) (Replay root' capacity' script' files') same of p =
       (subst IsDigits same.0 p.0, tt, λ past. past, λ many. p.3 (omega (arith, many, as_many files.items files'.items same.3)))
   also r s same of p = absurd same
 
   -- such a task has none
   no_list : (key_file : Option (Bor (List ℕ))) (r s : Task) → SameTask r s → IsOfKnown at r → (¬ ListClashes s) × (¬ ReadsListOf key_file s) × ¬ IsMixed s
-  no_list key_file (Gather root workers capacity long outboard salvage encode missing files out) s same of = absurd of
-  no_list key_file r (Gather root workers capacity long outboard salvage encode missing files out) same of = absurd same
+  no_list key_file (Gather task) s same of = absurd of
+  no_list key_file r (Gather task) same of = absurd same
   no_list key_file r s same of = (λ no. no, λ no. no, λ no. no)
 
   -- a request that has passed has no reason to be refused with 2

@@ -17,7 +17,7 @@ use Rattle.bao_command.specs.declared.fault.Fault.{Fault}
 use Rattle.bao_command.specs.declared.fault.Fault.TheVariants as fault
 use Rattle.bao_command.specs.Outcome.{IsUsage}
 use Rattle.bao_command.specs.Status.{decode_status_of, gathered_status_of, status_of}
-use Rattle.bao_command.specs.Tasks.{IsDue, IsLedTo, IsNamed, LeadsListTo, ListClashes, ReadsListOf, ReadsOne, ReadsOutAs, WritesApart, out_of}
+use Rattle.bao_command.specs.Tasks.{IsDue, IsLedTo, IsListAt, IsListRead, IsNamed, LeadsListTo, LeadsToOther, ListClashes, ReadsListOf, ReadsOne, ReadsOutAs, WritesApart, out_of}
 use Rattle.bao_command.proofs.Refusals.{check_is_no_usage}
 use Rattle.bao_command.proofs.Telling.{file_is_no_usage}
 use Rattle.determined_program.specs.Commands.{IsGood}
@@ -46,7 +46,7 @@ module _ (at : List ℕ → FileState) (known : (path : List ℕ) → IsKnown (a
   out_apart (CutSlice root start len outboard file out) apart leads = apart.1 (one_name out.now (codes "/dev/stdout") leads)
   out_apart (Decode root part file out) apart leads = apart.1 (one_name out.now (codes "/dev/stdout") leads)
   out_apart (DecodeCopy root outboard copy out) apart leads = apart.1 (one_name out.now (codes "/dev/stdout") leads)
-  out_apart (Gather root workers capacity long outboard salvage encode missing files out) apart leads = apart.1 (one_name out.now (codes "/dev/stdout") leads)
+  out_apart (Gather task) apart leads = apart.1 (one_name task.out.now (codes "/dev/stdout") leads)
   out_apart (Replay root capacity script files) apart leads = absurd leads
 
   -- so it is of a file that is read
@@ -65,22 +65,26 @@ module _ (at : List ℕ → FileState) (known : (path : List ℕ) → IsKnown (a
   out_read key_file (CutSlice root start len outboard file out) leads = one_same out.now key_file outboard (Some file) leads
   out_read key_file (Decode root part file out) leads = one_same out.now key_file None (Some file) leads
   out_read key_file (DecodeCopy root outboard copy out) leads = one_same out.now key_file (Some outboard) (Some copy) leads
-  out_read key_file (Gather root workers capacity long outboard salvage encode missing files out) leads = one_same out.now key_file outboard None leads
+  out_read key_file (Gather task) leads = one_same task.out.now key_file task.outboard None leads
   out_read key_file (Replay root capacity script files) leads = absurd leads
 
   named : (list : List ℕ) (other : Option (Bor (List ℕ))) → IsSomeAnd other (λ path. IsLedTo at list path.now) → IsNamed list other
   named list None leads = absurd leads
   named list (Some path) leads = sym (one_name list path.now leads)
 
-  list_apart : (key_file : Option (Bor (List ℕ))) (task : Task) → ¬ ListClashes task → ¬ ReadsListOf key_file task → LeadsListTo at key_file task → ⊥
-  list_apart key_file (Gather root workers capacity long outboard salvage encode (Some list) files out) clash reads leads = elim leads [
+  leads_apart : (out : List ℕ) (outboard key_file : Option (Bor (List ℕ))) (files : List (Bor (List ℕ))) (missing : Option (Bor (List ℕ))) → ¬ IsListAt out missing
+      → ¬ IsListRead key_file outboard files missing → LeadsToOther at out outboard key_file files missing → ⊥
+  leads_apart out outboard key_file files None clash reads leads = absurd leads
+  leads_apart out outboard key_file files (Some list) clash reads leads = elim leads [
     | inl output ↦ clash (inr (λ apart. apart.1 (one_name list.now (codes "/dev/stdout") output)))
-    | inr (inl to_out) ↦ clash (inl (one_name list.now out.now to_out))
+    | inr (inl to_out) ↦ clash (inl (one_name list.now out to_out))
     | inr (inr (inl to_outboard)) ↦ reads (inr (inl (named list.now outboard to_outboard)))
     | inr (inr (inr (inl to_key))) ↦ reads (inr (inr (named list.now key_file to_key)))
     | inr (inr (inr (inr file))) ↦ reads (inl (file.0, file.1, λ d. sym (one_name list.now _ (file.2 d))))
   ]
-  list_apart key_file (Gather root workers capacity long outboard salvage encode None files out) clash reads leads = absurd leads
+
+  list_apart : (key_file : Option (Bor (List ℕ))) (task : Task) → ¬ ListClashes task → ¬ ReadsListOf key_file task → LeadsListTo at key_file task → ⊥
+  list_apart key_file (Gather task) clash reads leads = leads_apart task.out.now task.outboard key_file task.files.items task.missing clash reads leads
   list_apart key_file (Hash from count file) clash reads leads = absurd leads
   list_apart key_file (Encode encoding file out) clash reads leads = absurd leads
   list_apart key_file (CutSlice root start len outboard file out) clash reads leads = absurd leads

@@ -80,17 +80,17 @@ module _ (at a b : List ℕ → FileState) (old one other : Option (List ℕ)) w
   -- one blob of one task that gathers
   blob_same : (m : Mode) (r s : Task) (xs : List ℕ) → SameTask r s → Gathers r → Writes at a m r (list_of r) xs → Writes at b m s (list_of s) xs
       → Appends old one (line_of m r xs) → Appends old other (line_of m s xs) → Same
-  blob_same m (Gather root workers capacity long outboard salvage encode missing files out) (Gather root' workers' capacity' long' outboard' salvage' encode' missing' files' out') xs same gathers ours theirs printed also =
-      let text : gathered_text encode' m xs ≡ gathered_text encode m xs = ap (λ (k : Bool). gathered_text k m xs) (sym same.6) in (
+  blob_same m (Gather task) (Gather task') xs same gathers ours theirs printed also =
+      let text : gathered_text task'.encode m xs ≡ gathered_text task.encode m xs = ap (λ (k : Bool). gathered_text k m xs) (sym same.6) in (
         printed_same old one other (ok_line (length xs)) (ok_line (length xs)) refl printed also,
-        both_same at a b out.now out'.now (gathered_text encode m xs) missing missing' same.9 same.7 ours (subst (λ (t : List ℕ). PutsBoth at b out'.now t missing') text theirs),
+        both_same at a b task.out.now task'.out.now (gathered_text task.encode m xs) task.missing task'.missing same.9 same.7 ours (subst (λ (t : List ℕ). PutsBoth at b task'.out.now t task'.missing) text theirs),
       )
-  blob_same m (Gather root workers capacity long outboard salvage encode missing files out) (Hash from' count' file') xs same gathers ours theirs printed also = absurd same
-  blob_same m (Gather root workers capacity long outboard salvage encode missing files out) (Encode encoding' file' out') xs same gathers ours theirs printed also = absurd same
-  blob_same m (Gather root workers capacity long outboard salvage encode missing files out) (CutSlice root' start' len' outboard' file' out') xs same gathers ours theirs printed also = absurd same
-  blob_same m (Gather root workers capacity long outboard salvage encode missing files out) (Decode root' part' file' out') xs same gathers ours theirs printed also = absurd same
-  blob_same m (Gather root workers capacity long outboard salvage encode missing files out) (DecodeCopy root' outboard' copy' out') xs same gathers ours theirs printed also = absurd same
-  blob_same m (Gather root workers capacity long outboard salvage encode missing files out) (Replay root' capacity' script' files') xs same gathers ours theirs printed also = absurd same
+  blob_same m (Gather task) (Hash from' count' file') xs same gathers ours theirs printed also = absurd same
+  blob_same m (Gather task) (Encode encoding' file' out') xs same gathers ours theirs printed also = absurd same
+  blob_same m (Gather task) (CutSlice root' start' len' outboard' file' out') xs same gathers ours theirs printed also = absurd same
+  blob_same m (Gather task) (Decode root' part' file' out') xs same gathers ours theirs printed also = absurd same
+  blob_same m (Gather task) (DecodeCopy root' outboard' copy' out') xs same gathers ours theirs printed also = absurd same
+  blob_same m (Gather task) (Replay root' capacity' script' files') xs same gathers ours theirs printed also = absurd same
   blob_same m (Hash from count file) s xs same gathers ours theirs printed also = absurd gathers
   blob_same m (Encode encoding file out) s xs same gathers ours theirs printed also = absurd gathers
   blob_same m (CutSlice root start len outboard file out) s xs same gathers ours theirs printed also = absurd gathers
@@ -100,18 +100,18 @@ module _ (at a b : List ℕ → FileState) (old one other : Option (List ℕ)) w
 
   -- both are made of bytes, and have one hash
   both_are : (m : Mode) (r s : Task) (xs ys : List ℕ) → SameTask r s → Gathers r → IsRight at m r xs → IsRight at m s ys → AreBytes xs × AreBytes ys × (hash m xs ≡ hash m ys)
-  both_are m (Gather root workers capacity long outboard salvage encode missing files out) (Gather root' workers' capacity' long' outboard' salvage' encode' missing' files' out') xs ys same gathers ours theirs =
+  both_are m (Gather task) (Gather task') xs ys same gathers ours theirs =
       let our_key = ours.1.0.0.0 in
       let their_key = theirs.1.0.0.0 in
-      let there : decode_of root.now ≡ Ok their_key = ap decode_of same.0 ∙ theirs.1.0.0.1.0 in
+      let there : decode_of task.root.now ≡ Ok their_key = ap decode_of same.0 ∙ theirs.1.0.0.1.0 in
       let keys : our_key ≡ their_key = let first = ours.1.0.0.1.0 in cc in
       (ours.1.0.0.1.2, theirs.1.0.0.1.2, ours.1.0.0.1.1 ∙ keys ∙ sym theirs.1.0.0.1.1)
-  both_are m (Gather root workers capacity long outboard salvage encode missing files out) (Hash from' count' file') xs ys same gathers ours theirs = absurd same
-  both_are m (Gather root workers capacity long outboard salvage encode missing files out) (Encode encoding' file' out') xs ys same gathers ours theirs = absurd same
-  both_are m (Gather root workers capacity long outboard salvage encode missing files out) (CutSlice root' start' len' outboard' file' out') xs ys same gathers ours theirs = absurd same
-  both_are m (Gather root workers capacity long outboard salvage encode missing files out) (Decode root' part' file' out') xs ys same gathers ours theirs = absurd same
-  both_are m (Gather root workers capacity long outboard salvage encode missing files out) (DecodeCopy root' outboard' copy' out') xs ys same gathers ours theirs = absurd same
-  both_are m (Gather root workers capacity long outboard salvage encode missing files out) (Replay root' capacity' script' files') xs ys same gathers ours theirs = absurd same
+  both_are m (Gather task) (Hash from' count' file') xs ys same gathers ours theirs = absurd same
+  both_are m (Gather task) (Encode encoding' file' out') xs ys same gathers ours theirs = absurd same
+  both_are m (Gather task) (CutSlice root' start' len' outboard' file' out') xs ys same gathers ours theirs = absurd same
+  both_are m (Gather task) (Decode root' part' file' out') xs ys same gathers ours theirs = absurd same
+  both_are m (Gather task) (DecodeCopy root' outboard' copy' out') xs ys same gathers ours theirs = absurd same
+  both_are m (Gather task) (Replay root' capacity' script' files') xs ys same gathers ours theirs = absurd same
   both_are m (Hash from count file) s xs ys same gathers ours theirs = absurd gathers
   both_are m (Encode encoding file out) s xs ys same gathers ours theirs = absurd gathers
   both_are m (CutSlice root start len outboard file out) s xs ys same gathers ours theirs = absurd gathers
@@ -163,16 +163,16 @@ module _ (at a b : List ℕ → FileState) (old one other : Option (List ℕ)) w
 
 -- a blob that is gathered for the one task is for the other
 gathered_as : (at : List ℕ → FileState) (m : Mode) (r s : Task) (blob : List ℕ) → SameTask r s → IsGatheredUnder at m r blob → IsGatheredUnder at m s blob
-gathered_as at m (Gather root workers capacity long outboard salvage encode missing files out) (Gather root' workers' capacity' long' outboard' salvage' encode' missing' files' out') blob same is = (
+gathered_as at m (Gather task) (Gather task') blob same is = (
   subst (λ (p : List ℕ). IsKnown (at p)) same.9 is.0,
   (is.1.0, (ap decode_of (sym same.0) ∙ is.1.1.0, subst (λ (n : ℕ). IsBlob (fixed_as is.1.0 m n) blob) same.2 is.1.1.1)),
 )
-gathered_as at m (Gather root workers capacity long outboard salvage encode missing files out) (Hash from' count' file') blob same is = absurd same
-gathered_as at m (Gather root workers capacity long outboard salvage encode missing files out) (Encode encoding' file' out') blob same is = absurd same
-gathered_as at m (Gather root workers capacity long outboard salvage encode missing files out) (CutSlice root' start' len' outboard' file' out') blob same is = absurd same
-gathered_as at m (Gather root workers capacity long outboard salvage encode missing files out) (Decode root' part' file' out') blob same is = absurd same
-gathered_as at m (Gather root workers capacity long outboard salvage encode missing files out) (DecodeCopy root' outboard' copy' out') blob same is = absurd same
-gathered_as at m (Gather root workers capacity long outboard salvage encode missing files out) (Replay root' capacity' script' files') blob same is = absurd same
+gathered_as at m (Gather task) (Hash from' count' file') blob same is = absurd same
+gathered_as at m (Gather task) (Encode encoding' file' out') blob same is = absurd same
+gathered_as at m (Gather task) (CutSlice root' start' len' outboard' file' out') blob same is = absurd same
+gathered_as at m (Gather task) (Decode root' part' file' out') blob same is = absurd same
+gathered_as at m (Gather task) (DecodeCopy root' outboard' copy' out') blob same is = absurd same
+gathered_as at m (Gather task) (Replay root' capacity' script' files') blob same is = absurd same
 gathered_as at m (Hash from count file) s blob same is = absurd is
 gathered_as at m (Encode encoding file out) s blob same is = absurd is
 gathered_as at m (CutSlice root start len outboard file out) s blob same is = absurd is
@@ -183,10 +183,10 @@ gathered_as at m (Replay root capacity script files) s blob same is = absurd is
 -- what one run says of such a blob: it was put and its length printed, or a collision is exhibited
 blob_is : (sure : Type 0) (at after : List ℕ → FileState) (m : Mode) (task : Task) (old new : Option (List ℕ)) (blob : List ℕ) → sure → IsGatheredUnder at m task blob
     → IsBlobOf sure at after m task old new → (Writes at after m task (list_of task) blob × Appends old new (line_of m task blob)) ⊎ CollidesIn at m task blob
-blob_is sure at after m (Gather root workers capacity long outboard salvage encode missing files out) old new blob surely is of =
-    let key : of.0 ≡ is.1.0 = one_root root.now root.now of.0 is.1.0 refl of.1.0 is.1.1.0 in
-    let each : IsEachBlob sure at after m encode capacity outboard files.items out.now missing old new is.1.0 =
-    subst (λ (r : Root32). IsEachBlob sure at after m encode capacity outboard files.items out.now missing old new r) key of.1.1 in
+blob_is sure at after m (Gather task) old new blob surely is of =
+    let key : of.0 ≡ is.1.0 = one_root task.root.now task.root.now of.0 is.1.0 refl of.1.0 is.1.1.0 in
+    let each : IsEachBlob sure at after m task.encode task.capacity task.outboard task.files.items task.out.now task.missing old new is.1.0 =
+    subst (λ (r : Root32). IsEachBlob sure at after m task.encode task.capacity task.outboard task.files.items task.out.now task.missing old new r) key of.1.1 in
     elim (each surely is.0 blob is.1.1.1) [
       | inl put ↦ inl put
       | inr pair ↦ inr (is.1.0, (is.1.1.0, pair))

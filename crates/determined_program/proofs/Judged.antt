@@ -106,20 +106,20 @@ module _ (at : List ℕ → FileState) (m : Mode) (sure : Type 0) (xs : List ℕ
             refused_accepted m root_ capacity lines pieces number fault.0
             (subst (λ (T : Type 0). T) (λ i. IsRefusedRun m (key i) lines pieces number fault.0) bad) (run_accepted m root_ capacity lines pieces xs run)
       ]
-  judged (Gather root workers capacity long outboard salvage encode missing files out) s same known judge right refused = absurd known
+  judged (Gather task) s same known judge right refused = absurd known
   judged (Hash from count file) (Hash from' count' file') same known judge right refused = absurd refused
   judged (Hash from count file) (Encode encoding' file' out') same known judge right refused = absurd refused
   judged (Hash from count file) (CutSlice root' start' len' outboard' file' out') same known judge right refused = absurd same
   judged (Hash from count file) (Decode root' part' file' out') same known judge right refused = absurd same
   judged (Hash from count file) (DecodeCopy root' outboard' copy' out') same known judge right refused = absurd same
-  judged (Hash from count file) (Gather root' workers' capacity' long' outboard' salvage' encode' missing' files' out') same known judge right refused = absurd same
+  judged (Hash from count file) (Gather task') same known judge right refused = absurd same
   judged (Hash from count file) (Replay root' capacity' script' files') same known judge right refused = absurd same
   judged (Encode encoding file out) (Hash from' count' file') same known judge right refused = absurd refused
   judged (Encode encoding file out) (Encode encoding' file' out') same known judge right refused = absurd refused
   judged (Encode encoding file out) (CutSlice root' start' len' outboard' file' out') same known judge right refused = absurd same
   judged (Encode encoding file out) (Decode root' part' file' out') same known judge right refused = absurd same
   judged (Encode encoding file out) (DecodeCopy root' outboard' copy' out') same known judge right refused = absurd same
-  judged (Encode encoding file out) (Gather root' workers' capacity' long' outboard' salvage' encode' missing' files' out') same known judge right refused = absurd same
+  judged (Encode encoding file out) (Gather task') same known judge right refused = absurd same
   judged (Encode encoding file out) (Replay root' capacity' script' files') same known judge right refused = absurd same
   judged (CutSlice root start len None file out) (Hash from' count' file') same known judge right refused = absurd same
   judged (CutSlice root start len (Some outboard) file out) (Hash from' count' file') same known judge right refused = absurd same
@@ -129,28 +129,28 @@ module _ (at : List ℕ → FileState) (m : Mode) (sure : Type 0) (xs : List ℕ
   judged (CutSlice root start len (Some outboard) file out) (Decode root' part' file' out') same known judge right refused = absurd same
   judged (CutSlice root start len None file out) (DecodeCopy root' outboard' copy' out') same known judge right refused = absurd same
   judged (CutSlice root start len (Some outboard) file out) (DecodeCopy root' outboard' copy' out') same known judge right refused = absurd same
-  judged (CutSlice root start len None file out) (Gather root' workers' capacity' long' outboard' salvage' encode' missing' files' out') same known judge right refused = absurd same
-  judged (CutSlice root start len (Some outboard) file out) (Gather root' workers' capacity' long' outboard' salvage' encode' missing' files' out') same known judge right refused = absurd same
+  judged (CutSlice root start len None file out) (Gather task') same known judge right refused = absurd same
+  judged (CutSlice root start len (Some outboard) file out) (Gather task') same known judge right refused = absurd same
   judged (CutSlice root start len None file out) (Replay root' capacity' script' files') same known judge right refused = absurd same
   judged (CutSlice root start len (Some outboard) file out) (Replay root' capacity' script' files') same known judge right refused = absurd same
   judged (Decode root part file out) (Hash from' count' file') same known judge right refused = absurd same
   judged (Decode root part file out) (Encode encoding' file' out') same known judge right refused = absurd same
   judged (Decode root part file out) (CutSlice root' start' len' outboard' file' out') same known judge right refused = absurd same
   judged (Decode root part file out) (DecodeCopy root' outboard' copy' out') same known judge right refused = absurd same
-  judged (Decode root part file out) (Gather root' workers' capacity' long' outboard' salvage' encode' missing' files' out') same known judge right refused = absurd same
+  judged (Decode root part file out) (Gather task') same known judge right refused = absurd same
   judged (Decode root part file out) (Replay root' capacity' script' files') same known judge right refused = absurd same
   judged (DecodeCopy root outboard copy out) (Hash from' count' file') same known judge right refused = absurd same
   judged (DecodeCopy root outboard copy out) (Encode encoding' file' out') same known judge right refused = absurd same
   judged (DecodeCopy root outboard copy out) (CutSlice root' start' len' outboard' file' out') same known judge right refused = absurd same
   judged (DecodeCopy root outboard copy out) (Decode root' part' file' out') same known judge right refused = absurd same
-  judged (DecodeCopy root outboard copy out) (Gather root' workers' capacity' long' outboard' salvage' encode' missing' files' out') same known judge right refused = absurd same
+  judged (DecodeCopy root outboard copy out) (Gather task') same known judge right refused = absurd same
   judged (DecodeCopy root outboard copy out) (Replay root' capacity' script' files') same known judge right refused = absurd same
   judged (Replay root capacity script files) (Hash from' count' file') same known judge right refused = absurd same
   judged (Replay root capacity script files) (Encode encoding' file' out') same known judge right refused = absurd same
   judged (Replay root capacity script files) (CutSlice root' start' len' outboard' file' out') same known judge right refused = absurd same
   judged (Replay root capacity script files) (Decode root' part' file' out') same known judge right refused = absurd same
   judged (Replay root capacity script files) (DecodeCopy root' outboard' copy' out') same known judge right refused = absurd same
-  judged (Replay root capacity script files) (Gather root' workers' capacity' long' outboard' salvage' encode' missing' files' out') same known judge right refused = absurd same
+  judged (Replay root capacity script files) (Gather task') same known judge right refused = absurd same
 
 module _ (words : List Text) (at after : List ℕ → FileState) (old new : Option (List ℕ)) (sure : Type 0) where
   judged_of : (r s : Request) → SameRequest r s → IsOfKnown at r.task → IsKeyKnown at r → IsJudged at r.task → PrintsLine r at after old new

@@ -157,7 +157,7 @@ module _ (at : List ℕ → FileState) where
     task_same (DecodeCopy root outboard copy out) (DecodeCopy root' outboard' copy' out') same known ours theirs did also =
         let bytes : xs ≡ ys = bytes_same copy.now copy'.now same.2 known ours.1.1.2 theirs.1.1.2 in
         (λ i. ok_line (length (bytes i)), put_same out.now out'.now xs ys same.3 bytes did also)
-    task_same (Gather root workers capacity long outboard salvage encode missing files out) s same known ours theirs did also = absurd known
+    task_same (Gather task) s same known ours theirs did also = absurd known
     task_same (Replay root capacity script files) (Replay root' capacity' script' files') same known ours theirs did also =
         let one = known_run root.now capacity script.now files.items m xs known.0 known.1 known.2 known.3 ours.1 in
         let other = known_run root'.now capacity' script'.now files'.items m ys known.0 known.1 (subst (λ (p : List ℕ). at p ≡ Stored known.0) same.2 known.2)
@@ -169,13 +169,13 @@ module _ (at : List ℕ → FileState) where
     task_same (Hash from count file) (CutSlice root' start' len' outboard' file' out') same known ours theirs did also = absurd same
     task_same (Hash from count file) (Decode root' part' file' out') same known ours theirs did also = absurd same
     task_same (Hash from count file) (DecodeCopy root' outboard' copy' out') same known ours theirs did also = absurd same
-    task_same (Hash from count file) (Gather root' workers' capacity' long' outboard' salvage' encode' missing' files' out') same known ours theirs did also = absurd same
+    task_same (Hash from count file) (Gather task') same known ours theirs did also = absurd same
     task_same (Hash from count file) (Replay root' capacity' script' files') same known ours theirs did also = absurd same
     task_same (Encode encoding file out) (Hash from' count' file') same known ours theirs did also = absurd same
     task_same (Encode encoding file out) (CutSlice root' start' len' outboard' file' out') same known ours theirs did also = absurd same
     task_same (Encode encoding file out) (Decode root' part' file' out') same known ours theirs did also = absurd same
     task_same (Encode encoding file out) (DecodeCopy root' outboard' copy' out') same known ours theirs did also = absurd same
-    task_same (Encode encoding file out) (Gather root' workers' capacity' long' outboard' salvage' encode' missing' files' out') same known ours theirs did also = absurd same
+    task_same (Encode encoding file out) (Gather task') same known ours theirs did also = absurd same
     task_same (Encode encoding file out) (Replay root' capacity' script' files') same known ours theirs did also = absurd same
     task_same (CutSlice root start len None file out) (Hash from' count' file') same known ours theirs did also = absurd same
     task_same (CutSlice root start len (Some outboard) file out) (Hash from' count' file') same known ours theirs did also = absurd same
@@ -185,28 +185,28 @@ module _ (at : List ℕ → FileState) where
     task_same (CutSlice root start len (Some outboard) file out) (Decode root' part' file' out') same known ours theirs did also = absurd same
     task_same (CutSlice root start len None file out) (DecodeCopy root' outboard' copy' out') same known ours theirs did also = absurd same
     task_same (CutSlice root start len (Some outboard) file out) (DecodeCopy root' outboard' copy' out') same known ours theirs did also = absurd same
-    task_same (CutSlice root start len None file out) (Gather root' workers' capacity' long' outboard' salvage' encode' missing' files' out') same known ours theirs did also = absurd same
-    task_same (CutSlice root start len (Some outboard) file out) (Gather root' workers' capacity' long' outboard' salvage' encode' missing' files' out') same known ours theirs did also = absurd same
+    task_same (CutSlice root start len None file out) (Gather task') same known ours theirs did also = absurd same
+    task_same (CutSlice root start len (Some outboard) file out) (Gather task') same known ours theirs did also = absurd same
     task_same (CutSlice root start len None file out) (Replay root' capacity' script' files') same known ours theirs did also = absurd same
     task_same (CutSlice root start len (Some outboard) file out) (Replay root' capacity' script' files') same known ours theirs did also = absurd same
     task_same (Decode root part file out) (Hash from' count' file') same known ours theirs did also = absurd same
     task_same (Decode root part file out) (Encode encoding' file' out') same known ours theirs did also = absurd same
     task_same (Decode root part file out) (CutSlice root' start' len' outboard' file' out') same known ours theirs did also = absurd same
     task_same (Decode root part file out) (DecodeCopy root' outboard' copy' out') same known ours theirs did also = absurd same
-    task_same (Decode root part file out) (Gather root' workers' capacity' long' outboard' salvage' encode' missing' files' out') same known ours theirs did also = absurd same
+    task_same (Decode root part file out) (Gather task') same known ours theirs did also = absurd same
     task_same (Decode root part file out) (Replay root' capacity' script' files') same known ours theirs did also = absurd same
     task_same (DecodeCopy root outboard copy out) (Hash from' count' file') same known ours theirs did also = absurd same
     task_same (DecodeCopy root outboard copy out) (Encode encoding' file' out') same known ours theirs did also = absurd same
     task_same (DecodeCopy root outboard copy out) (CutSlice root' start' len' outboard' file' out') same known ours theirs did also = absurd same
     task_same (DecodeCopy root outboard copy out) (Decode root' part' file' out') same known ours theirs did also = absurd same
-    task_same (DecodeCopy root outboard copy out) (Gather root' workers' capacity' long' outboard' salvage' encode' missing' files' out') same known ours theirs did also = absurd same
+    task_same (DecodeCopy root outboard copy out) (Gather task') same known ours theirs did also = absurd same
     task_same (DecodeCopy root outboard copy out) (Replay root' capacity' script' files') same known ours theirs did also = absurd same
     task_same (Replay root capacity script files) (Hash from' count' file') same known ours theirs did also = absurd same
     task_same (Replay root capacity script files) (Encode encoding' file' out') same known ours theirs did also = absurd same
     task_same (Replay root capacity script files) (CutSlice root' start' len' outboard' file' out') same known ours theirs did also = absurd same
     task_same (Replay root capacity script files) (Decode root' part' file' out') same known ours theirs did also = absurd same
     task_same (Replay root capacity script files) (DecodeCopy root' outboard' copy' out') same known ours theirs did also = absurd same
-    task_same (Replay root capacity script files) (Gather root' workers' capacity' long' outboard' salvage' encode' missing' files' out') same known ours theirs did also = absurd same
+    task_same (Replay root capacity script files) (Gather task') same known ours theirs did also = absurd same
 
 -- bytes that were appended to known ones
 appended_is : (all : List ℕ) (new : Option (List ℕ)) (line : List ℕ) → Appends (Some all) new line → new ≡ Some (all ++ line)

@@ -84,17 +84,17 @@ one_task name rows (DecodeCopy root outboard copy out) (DecodeCopy root' outboar
   one_text rows (codes "ENC") copy.now copy'.now a.2 b.2,
   one_text rows (codes "OUT") out.now out'.now a.4 b.4,
 )
-one_task name rows (Gather root workers capacity long outboard salvage encode missing files out) (Gather root' workers' capacity' long' outboard' salvage' encode' missing' files' out') a b = (
-  one_text rows (codes "ROOT") root.now root'.now a.8 b.8,
-  one_number 32 rows (codes "workers") workers workers' a.1 b.1,
-  one_number 32 rows (codes "capacity") capacity capacity' a.2 b.2,
-  one_flag long long' (first_of (codes "long") rows ≡ Some (codes "true")) a.3 b.3,
+one_task name rows (Gather task) (Gather task') a b = (
+  one_text rows (codes "ROOT") task.root.now task'.root.now a.8 b.8,
+  one_number 32 rows (codes "workers") task.workers task'.workers a.1 b.1,
+  one_number 32 rows (codes "capacity") task.capacity task'.capacity a.2 b.2,
+  one_flag task.long task'.long (first_of (codes "long") rows ≡ Some (codes "true")) a.3 b.3,
   a.4 ∙ sym b.4,
-  one_flag salvage salvage' (first_of (codes "salvage") rows ≡ Some (codes "true")) a.5 b.5,
-  one_flag encode encode' (first_of (codes "encode") rows ≡ Some (codes "true")) a.6 b.6,
+  one_flag task.salvage task'.salvage (first_of (codes "salvage") rows ≡ Some (codes "true")) a.5 b.5,
+  one_flag task.encode task'.encode (first_of (codes "encode") rows ≡ Some (codes "true")) a.6 b.6,
   a.7 ∙ sym b.7,
-  same_some (all_of (codes "FILE") rows) (map (λ text. text.now) files.items) (map (λ text. text.now) files'.items) a.9 b.9,
-  one_text rows (codes "OUT") out.now out'.now a.10 b.10,
+  same_some (all_of (codes "FILE") rows) (map (λ text. text.now) task.files.items) (map (λ text. text.now) task'.files.items) a.9 b.9,
+  one_text rows (codes "OUT") task.out.now task'.out.now a.10 b.10,
 )
 one_task name rows (Replay root capacity script files) (Replay root' capacity' script' files') a b = (
   one_text rows (codes "ROOT") root.now root'.now a.2 b.2,

@@ -41,7 +41,7 @@ IsOfKnown at (CutSlice root start len (Some outboard) file out) =
     (outline : List ℕ) × (bytes : List ℕ) × (at outboard.now ≡ Stored outline) × (at file.now ≡ Stored bytes) × (length (cut_beside outline bytes start len) < 2 ^ 63)
 IsOfKnown at (Decode root part file out) = IsKnown (at file.now)
 IsOfKnown at (DecodeCopy root outboard copy out) = IsKnown (at copy.now)
-IsOfKnown at (Gather root workers capacity long outboard salvage encode missing files out) = ⊥
+IsOfKnown at (Gather task) = ⊥
 IsOfKnown at (Replay root capacity script files) = (lines : List ℕ) × (pieces : List (List ℕ)) × (at script.now ≡ Stored lines) × AreStored at files.items pieces
 
 -- so it is of the file with the key, where one is named
@@ -64,7 +64,7 @@ IsJudged at (Encode encoding file out) = Unit {0}
 IsJudged at (CutSlice root start len outboard file out) = IsKnown (at out.now) × IsShort (at file.now)
 IsJudged at (Decode root part file out) = IsKnown (at out.now) × IsShort (at file.now)
 IsJudged at (DecodeCopy root outboard copy out) = IsKnown (at out.now) × IsKnown (at outboard.now)
-IsJudged at (Gather root workers capacity long outboard salvage encode missing files out) = Unit {0}
+IsJudged at (Gather task) = Unit {0}
 IsJudged at (Replay root capacity script files) = Unit {0}
 
 -- where the one is done the other refuses nothing, and so it is the other way round
@@ -85,25 +85,15 @@ IsFair at task = (¬ HasNoCapacity task) × ¬ HasBadScript at task
 
 -- the task gathers, and the blob has its root in the mode; and what is at OUT is known
 abbrev pub IsGatheredUnder : (List ℕ → FileState) → Mode → Task → List ℕ → Type 0
-IsGatheredUnder at mode (Hash from count file) blob = ⊥
-IsGatheredUnder at mode (Encode encoding file out) blob = ⊥
-IsGatheredUnder at mode (CutSlice root start len outboard file out) blob = ⊥
-IsGatheredUnder at mode (Decode root part file out) blob = ⊥
-IsGatheredUnder at mode (DecodeCopy root outboard copy out) blob = ⊥
-IsGatheredUnder at mode (Gather root workers capacity long outboard salvage encode missing files out) blob =
-    IsKnown (at out.now) × OfRoot root.now (λ r. IsBlob (fixed_as r mode capacity) blob)
-IsGatheredUnder at mode (Replay root capacity script files) blob = ⊥
+IsGatheredUnder at mode (Gather task) blob =
+    IsKnown (at task.out.now) × OfRoot task.root.now (λ r. IsBlob (fixed_as r mode task.capacity) blob)
+IsGatheredUnder at mode task blob = ⊥
 
 -- a collision of the blob with a piece of the task's files is exhibited
 abbrev pub CollidesIn : (List ℕ → FileState) → Mode → Task → List ℕ → Type 0
-CollidesIn at mode (Hash from count file) blob = ⊥
-CollidesIn at mode (Encode encoding file out) blob = ⊥
-CollidesIn at mode (CutSlice root start len outboard file out) blob = ⊥
-CollidesIn at mode (Decode root part file out) blob = ⊥
-CollidesIn at mode (DecodeCopy root outboard copy out) blob = ⊥
-CollidesIn at mode (Gather root workers capacity long outboard salvage encode missing files out) blob =
-    OfRoot root.now (λ r. Collides (fixed_as r mode capacity) capacity at outboard files.items blob)
-CollidesIn at mode (Replay root capacity script files) blob = ⊥
+CollidesIn at mode (Gather task) blob =
+    OfRoot task.root.now (λ r. Collides (fixed_as r mode task.capacity) task.capacity at task.outboard task.files.items blob)
+CollidesIn at mode task blob = ⊥
 
 -- so it is of what the words ask for
 abbrev pub CollidesAsked : List Text → (List ℕ → FileState) → Mode → List ℕ → Type 0
@@ -141,7 +131,7 @@ LacksFile at mode (CutSlice root start len None file out) = at file.now ≡ Abse
 LacksFile at mode (CutSlice root start len (Some outboard) file out) = (at outboard.now ≡ Absent) ⊎ (at file.now ≡ Absent)
 LacksFile at mode (Decode root part file out) = at file.now ≡ Absent
 LacksFile at mode (DecodeCopy root outboard copy out) = (at outboard.now ≡ Absent) ⊎ ((at copy.now ≡ Absent) × HasOutline (at outboard.now) mode root.now)
-LacksFile at mode (Gather root workers capacity long outboard salvage encode missing files out) = ⊥
+LacksFile at mode (Gather task) = ⊥
 LacksFile at mode (Replay root capacity script files) = at script.now ≡ Absent
 
 -- what is written would take the place of a file that is read, by its name

@@ -19,10 +19,10 @@ SameTask (Decode root part file out) (Decode root' part' file' out') =
     (root.now ≡ root'.now) × (part ≡ part') × (file.now ≡ file'.now) × (out.now ≡ out'.now)
 SameTask (DecodeCopy root outboard copy out) (DecodeCopy root' outboard' copy' out') =
     (root.now ≡ root'.now) × (outboard.now ≡ outboard'.now) × (copy.now ≡ copy'.now) × (out.now ≡ out'.now)
-SameTask (Gather root workers capacity long outboard salvage encode missing files out) (Gather root' workers' capacity' long' outboard' salvage' encode' missing' files' out') =
-    (root.now ≡ root'.now) × (workers ≡ workers') × (capacity ≡ capacity') × (long ≡ long') × (option_copied outboard ≡ option_copied outboard')
-    × (salvage ≡ salvage') × (encode ≡ encode') × (option_copied missing ≡ option_copied missing')
-    × (map (λ text. text.now) files.items ≡ map (λ text. text.now) files'.items) × (out.now ≡ out'.now)
+SameTask (Gather task) (Gather task') =
+    (task.root.now ≡ task'.root.now) × (task.workers ≡ task'.workers) × (task.capacity ≡ task'.capacity) × (task.long ≡ task'.long) × (option_copied task.outboard ≡ option_copied task'.outboard)
+    × (task.salvage ≡ task'.salvage) × (task.encode ≡ task'.encode) × (option_copied task.missing ≡ option_copied task'.missing)
+    × (map (λ text. text.now) task.files.items ≡ map (λ text. text.now) task'.files.items) × (task.out.now ≡ task'.out.now)
 SameTask (Replay root capacity script files) (Replay root' capacity' script' files') =
     (root.now ≡ root'.now) × (capacity ≡ capacity') × (script.now ≡ script'.now) × (map (λ text. text.now) files.items ≡ map (λ text. text.now) files'.items)
 SameTask one other = ⊥

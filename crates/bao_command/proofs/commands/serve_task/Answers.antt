@@ -1,20 +1,17 @@
-use Rattle.std.proofs.Common.{◌≡◌, ◌⊎◌, ◌<◌, ◌≤◌, ◌+◌, ◌-◌, ◌^◌, ℕ, Bool, List, Vec, Global, Option, None, Some, IsSome, length, if◌then◌else◌, Result, Ok, Err, IfErr, OnOk, Bor, inl, inr, refl, subst, sym}
+use Rattle.std.proofs.Common.{◌≡◌, ◌⊎◌, ◌<◌, ◌≤◌, ◌+◌, ◌-◌, ◌^◌, ℕ, List, None, length, Result, Ok, Err, IfErr, OnOk, Bor, inl, inr, refl, subst, sym}
 use Rattle.b3tree.specs.declared.mode.Mode.{Mode}
 use Rattle.bao_files.specs.Disks.{FileState, KeepsFiles}
 use Rattle.bao_files.specs.Printed.{IsDigits}
 use Rattle.bao_request.specs.declared.tasks.Task.{Task}
-use Rattle.bao_request.specs.declared.tasks.Task.TheVariants.{CutSlice, Decode, DecodeCopy, Encode, Gather}
-use Rattle.bao_tasks.specs.declared.gathering.Gathering.{Gathering}
+use Rattle.bao_request.specs.declared.tasks.Task.TheVariants.{CutSlice, Decode, DecodeCopy, Encode}
 use Rattle.bao_command.specs.declared.fault.Fault.{Fault}
 use Rattle.bao_command.specs.Effects.{IsRelisted, Writes, list_of}
-use Rattle.bao_command.specs.Gaps.{LeavesList, LeavesListOf}
+use Rattle.bao_command.specs.Gaps.{LeavesListOf}
 use Rattle.bao_command.specs.Printed.{CommandPrints, OnPrinted}
-use Rattle.holders.specs.declared.grain.Grain.{Grain}
-use Rattle.holders.specs.declared.grain.Grain.TheVariants.{Group as ByGroup, Chunk as ByChunk}
-use Rattle.bao_command.specs.Refused.{IsBlobOf, IsEachBlob, IsRefused, IsRefusedGathering, IsRefusedReplay, OfRoot}
+use Rattle.bao_command.specs.Refused.{IsBlobOf, IsRefused, IsRefusedReplay}
 use Rattle.bao_command.specs.Status.{status_of}
 use Rattle.bao_command.specs.Tasks.{Decodes, Gathers, HasBadLine, HasBadScript, HasManyFiles, HasNoCapacity, HasRoot, IfPassed, IsNoCapacity, IsPastOutput, IsReplay, IsRight, LeavesFiles, Replays, line_of}
-use Rattle.bao_command.specs.Works.{CopiesRight, CutsRight, DecodesRight, EncodesRight, Leaves, LeavesGathered}
+use Rattle.bao_command.specs.Works.{CopiesRight, CutsRight, DecodesRight, EncodesRight, Leaves}
 use Rattle.bao_command.proofs.Due.{decode_due, file_due, gather_due, hash_due, lists_none, replay_due}
 use Rattle.bao_command.proofs.Listing.{no_list, no_list_kept}
 use Rattle.bao_command.proofs.Telling.{always_passed, both_printed, few_passed, no_refusal, on_ok, on_printed, range_passed, usage_keeps}
@@ -113,15 +110,9 @@ returns-in-Gather-clause-prints g c =
     let after = g.D.Disk.at c.gather.new.disk in
     let old = g.O.Write.contents c.args.out.now in
     let new = g.O.Write.contents c.gather.new.out in
-    let prints = c.gather.ensures.answer in
     subst
     (λ (task : Task). (bytes : List ℕ) × OnPrinted result (IsRight at mode task bytes × Writes at after mode task (list_of task) bytes) × CommandPrints (line_of mode task bytes) old new result)
-    (sym c.in-Gather.is) (
-      prints.0,
-      regrouped _ _ _ result
-          (subst (λ (files : List (Bor (List ℕ))). OnPrinted result (length files ≤ 64)) c.as_slice-files.ensures.value c.gather.ensures.few) prints.1,
-      prints.2,
-    )
+    (sym c.in-Gather.is) c.gather.ensures.prints
 
 pub returns-in-Replay-clause-prints : goal.returns-in-Replay-clause-prints
 returns-in-Replay-clause-prints g c =
@@ -137,7 +128,7 @@ returns-in-Replay-clause-prints g c =
     (sym c.in-Replay.is) (
       prints.0,
       both_printed _ _ result
-          (subst (λ (files : List (Bor (List ℕ))). OnPrinted result ((length files ≤ 64) × IsReplay at mode c.in-Replay.root.now c.in-Replay.capacity c.in-Replay.script.now files prints.0)) c.as_slice-files-in-Replay.ensures.value
+          (subst (λ (files : List (Bor (List ℕ))). OnPrinted result ((length files ≤ 64) × IsReplay at mode c.in-Replay.root.now c.in-Replay.capacity c.in-Replay.script.now files prints.0)) c.as_slice-files.ensures.value
           (both_printed _ _ result c.replay.ensures.few prints.1)) (on_printed result (λ path. refl)),
       prints.2,
     )
@@ -178,13 +169,7 @@ returns-in-DecodeCopy-clause-files g c =
 
 pub returns-in-Gather-clause-files : goal.returns-in-Gather-clause-files
 returns-in-Gather-clause-files g c =
-    let result : Result Unit Fault = c.gather.result in
-    let at = g.D.Disk.at c.args.disk.now in
-    let how : Gathering = record { workers = c.in-Gather.workers; capacity = c.in-Gather.capacity; long = c.in-Gather.long; encode = c.in-Gather.encode; count = c.args.verbose; parts = c.parts_asked.result; grain = c.grain_of.result } in
-    let after = g.D.Disk.at c.gather.new.disk in
-    subst (λ (task : Task). IfErr result (LeavesFiles at after c.args.mode.now task)) (sym c.in-Gather.is)
-    (subst (λ (files : List (Bor (List ℕ))). IfErr result (LeavesGathered at after c.args.mode.now c.in-Gather.root.now how c.in-Gather.outboard c.in-Gather.path.now c.in-Gather.missing (length files)))
-    c.as_slice-files.ensures.value c.gather.ensures.files)
+    subst (λ (task : Task). IfErr c.gather.result (LeavesFiles (g.D.Disk.at c.args.disk.now) (g.D.Disk.at c.gather.new.disk) c.args.mode.now task)) (sym c.in-Gather.is) c.gather.ensures.files
 
 pub returns-in-Hash-clause-refused : goal.returns-in-Hash-clause-refused
 returns-in-Hash-clause-refused g c =
@@ -233,11 +218,10 @@ returns-in-DecodeCopy-clause-due g c =
 
 pub returns-in-Gather-clause-due : goal.returns-in-Gather-clause-due
 returns-in-Gather-clause-due g c =
-    let NoRoot : Type 0 = ¬ IsDigits c.in-Gather.root.now in
-    let Many : Type 0 = 64 < length c.as_slice-files.result.now in
-    let many : Many → 64 < length c.in-Gather.files.items = subst (λ (files : List (Bor (List ℕ))). Many → 64 < length files) c.as_slice-files.ensures.value (λ is. is) in
+    let NoRoot : Type 0 = ¬ IsDigits c.in-Gather.task.root.now in
+    let Many : Type 0 = 64 < length c.in-Gather.task.files.items in
     gather_due (g.D.Disk.at c.args.disk.now) c.args.task.now NoRoot Many c.gather.result (subst (λ (t : Task). NoRoot → ¬ HasRoot t) (sym c.in-Gather.is) (λ no. no))
-    (subst (λ (t : Task). Many → HasManyFiles t) (sym c.in-Gather.is) many) (subst Gathers (sym c.in-Gather.is) tt)
+    (subst (λ (t : Task). Many → HasManyFiles t) (sym c.in-Gather.is) (λ is. is)) (subst Gathers (sym c.in-Gather.is) tt)
     c.gather.ensures.due
 
 pub returns-in-Replay-clause-due : goal.returns-in-Replay-clause-due
@@ -245,33 +229,26 @@ returns-in-Replay-clause-due g c =
     let at = g.D.Disk.at c.args.disk.now in
     let NoRoot : Type 0 = ¬ IsDigits c.in-Replay.root.now in
     let script : List ℕ = c.in-Replay.script.now in
-    let Many : Type 0 = 64 < length c.as_slice-files-in-Replay.result.now in
-    let Bad : Type 0 = IsNoCapacity c.in-Replay.capacity ⊎ HasBadLine at script c.as_slice-files-in-Replay.result.now in
+    let Many : Type 0 = 64 < length c.as_slice-files.result.now in
+    let Bad : Type 0 = IsNoCapacity c.in-Replay.capacity ⊎ HasBadLine at script c.as_slice-files.result.now in
     let many : Many → 64 < length c.in-Replay.files.items =
-    subst (λ (files : List (Bor (List ℕ))). Many → 64 < length files) c.as_slice-files-in-Replay.ensures.value (λ is. is) in
+    subst (λ (files : List (Bor (List ℕ))). Many → 64 < length files) c.as_slice-files.ensures.value (λ is. is) in
     let bad : Bad → IsNoCapacity c.in-Replay.capacity ⊎ HasBadLine at script c.in-Replay.files.items =
-    subst (λ (files : List (Bor (List ℕ))). Bad → IsNoCapacity c.in-Replay.capacity ⊎ HasBadLine at script files) c.as_slice-files-in-Replay.ensures.value (λ is. is) in
+    subst (λ (files : List (Bor (List ℕ))). Bad → IsNoCapacity c.in-Replay.capacity ⊎ HasBadLine at script files) c.as_slice-files.ensures.value (λ is. is) in
     replay_due at c.args.task.now NoRoot Many Bad c.replay.result (subst (λ (t : Task). NoRoot → ¬ HasRoot t) (sym c.in-Replay.is) (λ no. no))
     (subst (λ (t : Task). Many → HasManyFiles t) (sym c.in-Replay.is) many) (subst Replays (sym c.in-Replay.is) tt)
     (subst (λ (t : Task). Bad → HasNoCapacity t ⊎ HasBadScript at t) (sym c.in-Replay.is) bad) c.replay.ensures.due
 
 pub returns-in-Gather-clause-refused : goal.returns-in-Gather-clause-refused
 returns-in-Gather-clause-refused g c =
-    let sure : Type 0 = g.D.Disk.faultless c.args.disk.now in
-    let at = g.D.Disk.at c.args.disk.now in
-    subst (λ (task : Task). IfErr c.gather.result (λ fault. status_of fault ≡ 1 → IsRefused sure at c.args.mode.now task)) (sym c.in-Gather.is)
-    (subst (λ (files : List (Bor (List ℕ))). IfErr c.gather.result (λ fault. status_of fault ≡ 1
-    → OfRoot c.in-Gather.root.now (IsRefusedGathering sure at c.args.mode.now (if c.in-Gather.salvage then ByChunk else ByGroup) c.in-Gather.long c.in-Gather.capacity c.in-Gather.outboard files c.in-Gather.path.now)))
-    c.as_slice-files.ensures.value
-    (subst (λ (grain : Grain). IfErr c.gather.result (λ fault. status_of fault ≡ 1
-    → OfRoot c.in-Gather.root.now (IsRefusedGathering sure at c.args.mode.now grain c.in-Gather.long c.in-Gather.capacity c.in-Gather.outboard c.as_slice-files.result.now c.in-Gather.path.now)))
-    c.grain_of.ensures c.gather.ensures.refused))
+    subst (λ (task : Task). IfErr c.gather.result (λ fault. status_of fault ≡ 1 → IsRefused (g.D.Disk.faultless c.args.disk.now) (g.D.Disk.at c.args.disk.now) c.args.mode.now task)) (sym c.in-Gather.is)
+    c.gather.ensures.refused
 
 pub returns-in-Replay-clause-refused : goal.returns-in-Replay-clause-refused
 returns-in-Replay-clause-refused g c =
     subst (λ (task : Task). IfErr c.replay.result (λ fault. status_of fault ≡ 1 → IsRefused (g.D.Disk.faultless c.args.disk.now) (g.D.Disk.at c.args.disk.now) c.args.mode.now task)) (sym c.in-Replay.is)
     (subst (λ (files : List (Bor (List ℕ))). IfErr c.replay.result (λ fault. status_of fault ≡ 1
-    → IsRefusedReplay (g.D.Disk.at c.args.disk.now) c.args.mode.now c.in-Replay.root.now c.in-Replay.capacity c.in-Replay.script.now files)) c.as_slice-files-in-Replay.ensures.value c.replay.ensures.refused)
+    → IsRefusedReplay (g.D.Disk.at c.args.disk.now) c.args.mode.now c.in-Replay.root.now c.in-Replay.capacity c.in-Replay.script.now files)) c.as_slice-files.ensures.value c.replay.ensures.refused)
 
 pub returns-in-Hash-clause-blob : goal.returns-in-Hash-clause-blob
 returns-in-Hash-clause-blob g c =
@@ -311,16 +288,8 @@ returns-in-Replay-clause-blob g c =
 
 pub returns-in-Gather-clause-blob : goal.returns-in-Gather-clause-blob
 returns-in-Gather-clause-blob g c =
-    let result : Result Unit Fault = c.gather.result in
-    let sure : Type 0 = g.D.Disk.faultless c.args.disk.now in
-    let at = g.D.Disk.at c.args.disk.now in
-    let after = g.D.Disk.at c.gather.new.disk in
-    let old = g.O.Write.contents c.args.out.now in
-    let new = g.O.Write.contents c.gather.new.out in
-    subst (λ (task : Task). OnOk result (IsBlobOf sure at after c.args.mode.now task old new)) (sym c.in-Gather.is)
-    (subst (λ (files : List (Bor (List ℕ))). OnOk result (OfRoot c.in-Gather.root.now
-    (IsEachBlob sure at after c.args.mode.now c.in-Gather.encode c.in-Gather.capacity c.in-Gather.outboard files c.in-Gather.path.now c.in-Gather.missing old new)))
-    c.as_slice-files.ensures.value c.gather.ensures.blob)
+    subst (λ (task : Task). OnOk c.gather.result (IsBlobOf (g.D.Disk.faultless c.args.disk.now) (g.D.Disk.at c.args.disk.now) (g.D.Disk.at c.gather.new.disk) c.args.mode.now task (g.O.Write.contents c.args.out.now) (g.O.Write.contents c.gather.new.out)))
+    (sym c.in-Gather.is) c.gather.ensures.blob
 
 pub returns-in-Hash-clause-usage : goal.returns-in-Hash-clause-usage
 returns-in-Hash-clause-usage g c = untouched_usage (g.D.Disk.at c.args.disk.now) c.hash.result
@@ -400,14 +369,13 @@ returns-in-Hash-clause-passed g c =
 pub returns-in-Gather-clause-passed : goal.returns-in-Gather-clause-passed
 returns-in-Gather-clause-passed g c =
     subst (λ (task : Task). IfPassed c.gather.result ((¬ IsPastOutput task) × ¬ HasManyFiles task)) (sym c.in-Gather.is)
-    (subst (λ (files : List (Bor (List ℕ))). IfPassed c.gather.result ((¬ ⊥) × ¬ (64 < length files))) c.as_slice-files.ensures.value
-    (few_passed ⊥ (64 < length c.as_slice-files.result.now) c.gather.result (λ no. no) c.gather.ensures.many))
+    (few_passed ⊥ (64 < length c.in-Gather.task.files.items) c.gather.result (λ no. no) c.gather.ensures.many)
 
 pub returns-in-Replay-clause-passed : goal.returns-in-Replay-clause-passed
 returns-in-Replay-clause-passed g c =
     subst (λ (task : Task). IfPassed c.replay.result ((¬ IsPastOutput task) × ¬ HasManyFiles task)) (sym c.in-Replay.is)
-    (subst (λ (files : List (Bor (List ℕ))). IfPassed c.replay.result ((¬ ⊥) × ¬ (64 < length files))) c.as_slice-files-in-Replay.ensures.value
-    (few_passed ⊥ (64 < length c.as_slice-files-in-Replay.result.now) c.replay.result (λ no. no) c.replay.ensures.many))
+    (subst (λ (files : List (Bor (List ℕ))). IfPassed c.replay.result ((¬ ⊥) × ¬ (64 < length files))) c.as_slice-files.ensures.value
+    (few_passed ⊥ (64 < length c.as_slice-files.result.now) c.replay.result (λ no. no) c.replay.ensures.many))
 
 pub returns-in-Hash-clause-gaps : goal.returns-in-Hash-clause-gaps
 returns-in-Hash-clause-gaps g c =
@@ -445,28 +413,7 @@ returns-in-Replay-clause-gaps g c =
     subst (λ (task : Task). IfErr c.replay.result (LeavesListOf (g.D.Disk.faultless c.args.disk.now) at at c.args.mode.now task)) (sym c.in-Replay.is)
     (no_list_kept at c.replay.result)
 
--- without a list no file has changed, or the fault is one of a file
-pub gathers_list : (sure : Type 0) (at after : List ℕ → FileState) (mode : Mode) (root out : Bor (List ℕ)) (workers capacity parts : ℕ) (long salvage encode : Bool) (outboard missing : Option (Bor (List ℕ)))
-    (files : Vec (Bor (List ℕ)) Global) (result : Result Unit Fault) → (IsSome missing → parts ≡ 2 ^ 64 - 1)
-    → IfErr result (LeavesList sure at after mode root.now (if salvage then ByChunk else ByGroup) capacity parts outboard files.items missing)
-    → IfErr result (LeavesListOf sure at after mode (Gather root workers capacity long outboard salvage encode missing files out))
-gathers_list sure at after mode root out workers capacity parts long salvage encode outboard None files (Ok done) most left = tt
-gathers_list sure at after mode root out workers capacity parts long salvage encode outboard None files (Err fault) most (inl kept) = inl kept
-gathers_list sure at after mode root out workers capacity parts long salvage encode outboard None files (Err fault) most (inr (inl of)) = inr of
-gathers_list sure at after mode root out workers capacity parts long salvage encode outboard None files (Err fault) most (inr (inr gaps)) = inl gaps.1.1.lists
-gathers_list sure at after mode root out workers capacity parts long salvage encode outboard (Some list) files result most left =
-    subst (λ (n : ℕ). IfErr result (LeavesList sure at after mode root.now (if salvage then ByChunk else ByGroup) capacity n outboard files.items (Some list))) (most refl) left
-
 pub returns-in-Gather-clause-gaps : goal.returns-in-Gather-clause-gaps
 returns-in-Gather-clause-gaps g c =
-    let sure : Type 0 = g.D.Disk.faultless c.args.disk.now in
-    let at = g.D.Disk.at c.args.disk.now in
-    let after = g.D.Disk.at c.gather.new.disk in
-    let it = c.in-Gather in
-    let result : Result Unit Fault = c.gather.result in
-    subst (λ (task : Task). IfErr result (LeavesListOf sure at after c.args.mode.now task)) (sym it.is)
-    (gathers_list sure at after c.args.mode.now it.root it.path it.workers it.capacity c.parts_asked.result it.long it.salvage it.encode it.outboard it.missing it.files result c.parts_asked.ensures
-    (subst (λ (files : List (Bor (List ℕ))). IfErr result (LeavesList sure at after c.args.mode.now it.root.now (if it.salvage then ByChunk else ByGroup) it.capacity c.parts_asked.result it.outboard files it.missing))
-    c.as_slice-files.ensures.value
-    (subst (λ (grain : Grain). IfErr result (LeavesList sure at after c.args.mode.now it.root.now grain it.capacity c.parts_asked.result it.outboard c.as_slice-files.result.now it.missing))
-    c.grain_of.ensures c.gather.ensures.gaps)))
+    subst (λ (task : Task). IfErr c.gather.result (LeavesListOf (g.D.Disk.faultless c.args.disk.now) (g.D.Disk.at c.args.disk.now) (g.D.Disk.at c.gather.new.disk) c.args.mode.now task)) (sym c.in-Gather.is)
+    c.gather.ensures.gaps

@@ -19,7 +19,7 @@ may_refuse sure at mode (Encode encoding file out) refused = absurd refused
 may_refuse sure at mode (CutSlice root start len outboard file out) refused = inl tt
 may_refuse sure at mode (Decode root part file out) refused = inl tt
 may_refuse sure at mode (DecodeCopy root outboard copy out) refused = inl tt
-may_refuse sure at mode (Gather root workers capacity long outboard salvage encode missing files out) refused = inr (inl tt)
+may_refuse sure at mode (Gather task) refused = inr (inl tt)
 may_refuse sure at mode (Replay root capacity script files) refused = inr (inr tt)
 
 pub returns-clause-outcome : goal.returns-clause-outcome
