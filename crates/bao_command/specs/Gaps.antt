@@ -1,5 +1,5 @@
 -- which ranges the list has after a fault of gathering
-use Rattle.std.specs.Prelude.{◌≡◌, ◌≢◌, ◌⊎◌, ◌-◌, ◌^◌, ℕ, List, Option, None, Some, if◌then◌else◌}
+use Rattle.std.specs.Prelude.{◌≡◌, ◌≢◌, ◌⊎◌, ◌-◌, ◌^◌, ℕ, Bool, List, Option, None, Some, if◌then◌else◌}
 use Rattle.std.specs.Borrow.{Bor}
 use Rattle.b3tree.specs.declared.mode.Mode.{Mode}
 use Rattle.b3tree.specs.declared.values.Hash.{Hash as Root32}
@@ -27,9 +27,9 @@ use Rattle.bao_command.specs.Refused.{OfRoot}
 use Rattle.bao_command.specs.Tasks.{IsOfFile}
 
 -- what was found that the files lack: combined encodings, or copies beside the outboard encoding that is named
-abbrev pub IsLack : Root32 → Mode → Grain → ℕ → ℕ → (List ℕ → FileState) → Option (Bor (List ℕ)) → List (Bor (List ℕ)) → Lack → Type 0
-IsLack root mode grain capacity most at None files lack = IsLackIn (wanted_for root mode Slices grain) capacity most at files lack
-IsLack root mode grain capacity most at (Some outboard) files lack = IsLackBeside root mode grain capacity most at outboard.now files lack
+abbrev pub IsLack : Root32 → Mode → Grain → Bool → ℕ → ℕ → (List ℕ → FileState) → Option (Bor (List ℕ)) → List (Bor (List ℕ)) → Lack → Type 0
+IsLack root mode grain long capacity most at None files lack = IsLackIn (wanted_for root mode Slices grain) long capacity most at files lack
+IsLack root mode grain long capacity most at (Some outboard) files lack = IsLackBeside root mode grain long capacity most at outboard.now files lack
 
 -- The list has the ranges that were found missing. On a disk without faults these are right if the blob stayed unfinished. After another fault there are none.
 pub record HasGaps (sure : Type 0) (at after : List ℕ → FileState) (mode : Mode) (task : GatherTask) (fault : Fault) (root : Root32) : Type 0 where
@@ -39,7 +39,7 @@ pub record HasGaps (sure : Type 0) (at after : List ℕ → FileState) (mode : M
   pub lack : Lack
   pub lists : Lists at after task.missing (lines_of_parts (parts_in lack))
   pub unasked : cause ≢ OfGather Unfinished → lack ≡ Unasked
-  pub right : cause ≡ OfGather Unfinished → sure → IsLack root mode (if task.salvage then ByChunk else ByGroup) task.capacity (2 ^ 64 - 1) at task.outboard task.files.items lack
+  pub right : cause ≡ OfGather Unfinished → sure → IsLack root mode (if task.salvage then ByChunk else ByGroup) task.long task.capacity (2 ^ 64 - 1) at task.outboard task.files.items lack
 
 -- after a fault that isn't one of a file, no file has changed, or the task's list has these ranges; only `gather` has a list
 abbrev pub LeavesListOf : Type 0 → (List ℕ → FileState) → (List ℕ → FileState) → Mode → Task → Fault → Type 0

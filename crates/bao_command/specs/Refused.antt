@@ -89,10 +89,10 @@ HaveCopy at files grain blob = IsInFile at files blob ⊎ HaveBytes (IsInFile at
 abbrev pub IsRefusedGathering : Type 0 → (List ℕ → FileState) → Mode → Grain → Bool → ℕ → Option (Bor (List ℕ)) → List (Bor (List ℕ)) → List ℕ → Root32 → Type 0
 IsRefusedGathering sure at mode grain long capacity None files out root =
     sure → IsKnown (at out) → (blob : List ℕ) → IsBlob (fixed_as root mode capacity) blob → HasPlace long capacity (length blob)
-    → HaveEncoding at files mode grain blob → HasCollision (IsFromFile Slices capacity at files) (fixed_as root mode capacity) blob
+    → HaveEncoding at files mode grain blob → HasCollision (IsFromFile Slices (fixed_as root mode capacity) long at files) (fixed_as root mode capacity) blob
 IsRefusedGathering sure at mode grain long capacity (Some outboard) files out root =
     sure → IsKnown (at out) → (blob : List ℕ) → IsBlob (fixed_as root mode capacity) blob → HasPlace long capacity (length blob) → 0 < length blob → length blob < 2 ^ 64
-    → at outboard.now ≡ Stored (outboard_text mode blob) → HaveCopy at files grain blob → CollidesBeside (fixed_as root mode capacity) capacity at files blob
+    → at outboard.now ≡ Stored (outboard_text mode blob) → HaveCopy at files grain blob → CollidesBeside (fixed_as root mode capacity) long at files blob
 
 -- the run of the script stops at a line that isn't legal, or a line's piece isn't accepted
 abbrev pub IsRefusedReplay : (List ℕ → FileState) → Mode → List ℕ → ℕ → List ℕ → List (Bor (List ℕ)) → Type 0
@@ -115,22 +115,22 @@ abbrev pub IsRefusedFor : Type 0 → (List ℕ → FileState) → Request → Ty
 IsRefusedFor sure at request = (mode : Mode) × HasMode at request mode × IsRefused sure at mode request.task
 
 -- A collision is exhibited, from one of the files; or beside the outboard encoding that is named. This, too, is about files that are all known.
-abbrev pub Collides : Fixed → ℕ → (List ℕ → FileState) → Option (Bor (List ℕ)) → List (Bor (List ℕ)) → List ℕ → Type 0
-Collides fixed capacity at None files blob = HasCollision (IsFromFile Slices capacity at files) fixed blob
-Collides fixed capacity at (Some outboard) files blob = CollidesBesideOutline fixed capacity at outboard.now files blob
+abbrev pub Collides : Fixed → Bool → (List ℕ → FileState) → Option (Bor (List ℕ)) → List (Bor (List ℕ)) → List ℕ → Type 0
+Collides fixed long at None files blob = HasCollision (IsFromFile Slices fixed long at files) fixed blob
+Collides fixed long at (Some outboard) files blob = CollidesBesideOutline fixed long at outboard.now files blob
 
 -- On a disk without faults, where it is known what is at OUT, what was put there is each blob with this root, or its encoding, and its length was printed;
 -- or a collision is exhibited.
-abbrev pub IsEachBlob : Type 0 → (List ℕ → FileState) → (List ℕ → FileState) → Mode → Bool → ℕ → Option (Bor (List ℕ)) → List (Bor (List ℕ)) → List ℕ → Option (Bor (List ℕ))
+abbrev pub IsEachBlob : Type 0 → (List ℕ → FileState) → (List ℕ → FileState) → Mode → Bool → Bool → ℕ → Option (Bor (List ℕ)) → List (Bor (List ℕ)) → List ℕ → Option (Bor (List ℕ))
     → Option (List ℕ) → Option (List ℕ) → Root32 → Type 0
-IsEachBlob sure at after mode encode capacity outboard files out list old new root =
+IsEachBlob sure at after mode encode long capacity outboard files out list old new root =
     sure → IsKnown (at out) → (blob : List ℕ) → IsBlob (fixed_as root mode capacity) blob
-    → (PutsBoth at after out (gathered_text encode mode blob) list × Appends old new (ok_line (length blob))) ⊎ Collides (fixed_as root mode capacity) capacity at outboard files blob
+    → (PutsBoth at after out (gathered_text encode mode blob) list × Appends old new (ok_line (length blob))) ⊎ Collides (fixed_as root mode capacity) long at outboard files blob
 
 -- so it is of a task that gathers
 abbrev pub IsBlobOf : Type 0 → (List ℕ → FileState) → (List ℕ → FileState) → Mode → Task → Option (List ℕ) → Option (List ℕ) → Type 0
 IsBlobOf sure at after mode (Gather task) old new =
-    OfRoot task.root.now (IsEachBlob sure at after mode task.encode task.capacity task.outboard task.files.items task.out.now task.missing old new)
+    OfRoot task.root.now (IsEachBlob sure at after mode task.encode task.long task.capacity task.outboard task.files.items task.out.now task.missing old new)
 IsBlobOf sure at after mode task old new = Unit {0}
 
 -- and of that of the request, in its mode

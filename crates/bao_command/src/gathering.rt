@@ -51,8 +51,8 @@ fn tell_worth<W: Write>(file: &str, worth: Worth, out: &mut W) -> io::Result<()>
     )
 }
 
-// Prints why a file was left out, or how many of its groups are refused, or that there was no memory to count them. With an outboard encoding the file
-// is a plain copy.
+// Prints why a file was left out, or how many of its groups are refused, or that there was no memory to count them; and before, that not all of it was
+// read. With an outboard encoding the file is a plain copy.
 fn tell_fate<D: Disk, E: Write>(
     disk: &D,
     is_beside: bool,
@@ -60,14 +60,32 @@ fn tell_fate<D: Disk, E: Write>(
     fate: Fate,
     err: &mut E,
 ) -> io::Result<()> {
+    if let Fate::Taken { cut: Some(len), .. } = fate {
+        writeln!(
+            Once(err),
+            "bao_gather: {file}: only its first {len} bytes were read"
+        )?;
+    }
     match (fate.reason(), fate) {
-        (Some(reason), Fate::Unread) => tell_left_out(disk, file, reason, err),
-        (Some(reason), _) => writeln!(Once(err), "bao_gather: left out {file}: {reason}"),
-        (None, Fate::Taken(Some(worth)))
-            if !is_beside && worth.refused == worth.groups && is_no_encoding(disk, file) => {
+        (Some(reason), Fate::Unread) => tell_left_out(file, reason, disk.why(file), err),
+        (Some(reason), Fate::Uncopied) => { tell_left_out(file, reason, disk.why_unwritten(), err) }
+        (Some(reason), _) => tell_left_out(file, reason, None, err),
+        (
+            None,
+            Fate::Taken {
+                worth: Some(worth),
+                ..
+            },
+        ) if !is_beside && worth.refused == worth.groups && is_no_encoding(disk, file) => {
             tell_no_encoding(file, err)
         }
-        (None, Fate::Taken(Some(worth))) => tell_worth(file, worth, &mut Once(err)),
+        (
+            None,
+            Fate::Taken {
+                worth: Some(worth),
+                ..
+            },
+        ) => tell_worth(file, worth, &mut Once(err)),
         (None, _) => writeln!(Once(err), "bao_gather: {file}: not counted: no memory"),
     }
 }
@@ -132,9 +150,12 @@ fn fits_none(fates: &[Fate]) -> bool {
     let mut some = false;
     for fate in fates {
         match fate {
-            Fate::Taken(Some(worth)) if worth.refused == worth.groups => some = true,
-            Fate::Taken(_) => return false,
-            Fate::Unread | Fate::Starved | Fate::Unopened => {}
+            Fate::Taken {
+                worth: Some(worth),
+                ..
+            } if worth.refused == worth.groups => some = true,
+            Fate::Taken { .. } => return false,
+            Fate::Unread | Fate::Uncopied | Fate::Starved | Fate::Unopened => {}
         }
     }
     some

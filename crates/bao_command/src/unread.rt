@@ -25,14 +25,14 @@ pub(crate) fn tell_file<D: Disk, E: Write>(disk: &D, fault: FileFault<'_>, err: 
     }
 }
 
-// Prints that the file was left out since it can't be read, and why, if the disk knows.
-pub(crate) fn tell_left_out<D: Disk, E: Write>(
-    disk: &D,
+// Prints that the file was left out, and why, with the system's reason, if it is known.
+pub(crate) fn tell_left_out<E: Write>(
     path: &str,
     reason: &str,
+    why: Option<io::Error>,
     err: &mut E,
 ) -> io::Result<()> {
-    match disk.why(path) {
+    match why {
         None => writeln!(Once(err), "bao_gather: left out {path}: {reason}"),
         Some(error) => writeln!(Once(err), "bao_gather: left out {path}: {reason}: {error}"),
     }

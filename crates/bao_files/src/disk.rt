@@ -63,7 +63,8 @@ pub trait Disk {
 
     /// Returns an empty draft of the file at `path`.
     fn draft(&self, path: &str) -> Result<Self::Draft, AllocError>
-        ensures { IfOk result (λ draft. IsKnown (at self.now path.now) → Self.Draft.contents draft ≡ Some []) };
+        ensures known { IfOk result (λ draft. IsKnown (at self.now path.now) → Self.Draft.contents draft ≡ Some []) }
+        ensures sure { IfOk result (λ draft. faultless self.now → Self.Draft.contents draft ≡ Some []) };
 
     /// Returns whether a draft appears at its path only once it is finished. Otherwise it is written there from
     /// the first write on.

@@ -1,6 +1,6 @@
 -- An outboard encoding that was read as far as it matters, and is a blob's own.
 use Rattle.std.specs.Borrow.{Bor}
-use Rattle.std.proofs.Common.{◌≡◌, ◌⊎◌, ℕ, ◌^◌, ◌<◌, List, length, Result, Ok, Err, OnOk, ap, subst, ◌∙◌, inl, inr}
+use Rattle.std.proofs.Common.{◌≡◌, ◌⊎◌, ℕ, ◌^◌, ◌<◌, List, length, Result, Ok, Err, OnOk, ap, subst, ◌∙◌, inl, inr, Bool}
 use Rattle.b3tree.specs.declared.mode.Mode.{Mode}
 use Rattle.b3tree.specs.declared.values.Hash.{Hash}
 use Rattle.b3tree.specs.Valid.{AreBytes, IsKeyed}
@@ -66,16 +66,16 @@ module _ (root : Hash) (mode : Mode) (capacity : ℕ) (blob text : List ℕ) (st
       }
 
 -- a collision that is exhibited beside it
-pub beside_of : (X : Type 0) (form : Form) (fixed : Fixed) (capacity : ℕ) (at : List ℕ → FileState) (paths : List (Bor (List ℕ))) (blob : List ℕ) → IsOwn form fixed blob
-    → X ⊎ HasCollision (IsFromFile form capacity at paths) fixed blob → X ⊎ CollidesBeside fixed capacity at paths blob
-beside_of X form fixed capacity at paths blob own (inl x) = inl x
-beside_of X form fixed capacity at paths blob own (inr pair) = inr (record { form = form; own = own; pair = pair })
+pub beside_of : (X : Type 0) (form : Form) (fixed : Fixed) (long : Bool) (at : List ℕ → FileState) (paths : List (Bor (List ℕ))) (blob : List ℕ) → IsOwn form fixed blob
+    → X ⊎ HasCollision (IsFromFile form fixed long at paths) fixed blob → X ⊎ CollidesBeside fixed long at paths blob
+beside_of X form fixed long at paths blob own (inl x) = inl x
+beside_of X form fixed long at paths blob own (inr pair) = inr (record { form = form; own = own; pair = pair })
 
 -- or beside any that was accepted
-pub outlined_of : (X : Type 0) (outline : Outline) (root : Hash) (mode : Mode) (capacity : ℕ) (at : List ℕ → FileState) (outboard : List ℕ) (paths : List (Bor (List ℕ))) (blob text : List ℕ)
+pub outlined_of : (X : Type 0) (outline : Outline) (root : Hash) (mode : Mode) (capacity : ℕ) (long : Bool) (at : List ℕ → FileState) (outboard : List ℕ) (paths : List (Bor (List ℕ))) (blob text : List ℕ)
     → AreOf (at outboard) text → IsOutline outline mode root.0 text
-    → X ⊎ HasCollision (IsFromFile (Bare (record { ref_ptr = (0, 0); now = outline })) capacity at paths) (fixed_as root mode capacity) blob
-    → X ⊎ CollidesBesideOutline (fixed_as root mode capacity) capacity at outboard paths blob
-outlined_of X outline root mode capacity at outboard paths blob text of is (inl x) = inl x
-outlined_of X outline root mode capacity at outboard paths blob text of is (inr pair) =
+    → X ⊎ HasCollision (IsFromFile (Bare (record { ref_ptr = (0, 0); now = outline })) (fixed_as root mode capacity) long at paths) (fixed_as root mode capacity) blob
+    → X ⊎ CollidesBesideOutline (fixed_as root mode capacity) long at outboard paths blob
+outlined_of X outline root mode capacity long at outboard paths blob text of is (inl x) = inl x
+outlined_of X outline root mode capacity long at outboard paths blob text of is (inr pair) =
     inr (record { text = text; of = of; form = Bare (record { ref_ptr = (0, 0); now = outline }); outline = is; pair = pair })

@@ -30,7 +30,8 @@ use Rattle.bao_tasks.specs.Gathered.{IsWrittenOut}
 use Rattle.bao_tasks.specs.GatheredFaults.{IsFirstUnread}
 use Rattle.bao_tasks.specs.Givens.{most_bytes}
 use Rattle.holders.proofs.Same.{pair_wider}
-use Rattle.bao_tasks.specs.FromFiles.{IsExcusedFile, IsExcusedGathering, IsFromFile, IsPutAt, IsTextOf, file_bytes, never_fails}
+use Rattle.bao_tasks.specs.FromFiles.{IsExcusedFile, IsExcusedGathering, IsFromFile, IsPutAt, IsTextOf, file_bytes, never_fails, wanted_as}
+use Rattle.bao_tasks.specs.MissingInFiles.{IsReachIn}
 use Rattle.bao_tasks.specs.TakenFiles.{AreOfFiles, Follows, HasSound, IsDrafted, IsOfFile, IsOfWriting, IsRightDraft, IsTried, is_open, open_fault}
 
 -- what is there in a list is there where more follows
@@ -52,9 +53,9 @@ before_or_last (y ∷ xs) last x (suc i) is = before_or_last xs last x i is
 
 module _ {S : Type 0} (contents : S → Option (List ℕ)) (faultless : S → Type 0) (sure : Type 0) where
   -- the bytes of a source are among those of more
-  pub sound_kept : (more : Option (List ℕ)) (old new : List S) → Follows contents faultless sure more old new → (bytes : List ℕ) → HasSound contents faultless old bytes
+  pub sound_kept : (Reach : ℕ → Type 0) (more : ℕ → Option (List ℕ)) (old new : List S) → Follows contents faultless sure Reach more old new → (bytes : List ℕ) → HasSound contents faultless old bytes
       → HasSound contents faultless new bytes
-  sound_kept more old new follows bytes has = record {
+  sound_kept Reach more old new follows bytes has = record {
     place = has.place;
     source = has.source;
     there = subst (λ (xs : List S). slice_get xs has.place ≡ Some has.source) (sym follows.is) (still_there old (follows.source ∷ []) has.place has.source has.there);
@@ -63,25 +64,26 @@ module _ {S : Type 0} (contents : S → Option (List ℕ)) (faultless : S → Ty
   }
 
   -- so are those of the source that follows
-  pub sound_last : (more : Option (List ℕ)) (old new : List S) → Follows contents faultless sure more old new → sure → (bytes : List ℕ) → more ≡ Some bytes
+  pub sound_last : (Reach : ℕ → Type 0) (more : ℕ → Option (List ℕ)) (old new : List S) → Follows contents faultless sure Reach more old new → sure → (bytes : List ℕ)
+      → ((n : ℕ) → more n ≡ Some bytes)
       → HasSound contents faultless new bytes
-  sound_last more old new follows surely bytes is = record {
+  sound_last Reach more old new follows surely bytes is = record {
     place = length old;
     source = follows.source;
     there = subst (λ (xs : List S). slice_get xs (length old) ≡ Some follows.source) (sym follows.is) (last_there old follows.source);
-    known = subst (λ (b : Option (List ℕ)). IfSome b (λ s. contents follows.source ≡ Some s)) is follows.of.known;
+    known = subst (λ (b : Option (List ℕ)). IfSome b (λ s. contents follows.source ≡ Some s)) (is follows.of.reach) (follows.of.known surely);
     sound = follows.of.sound surely;
   }
 
   -- it is of a file, as those before are
-  pub files_more : (bytes_of : Bor (List ℕ) → Option (List ℕ)) (paths : List (Bor (List ℕ))) (place : ℕ) (path : Bor (List ℕ)) (old new : List S)
-      → slice_get paths place ≡ Some path → Follows contents faultless sure (bytes_of path) old new → AreOfFiles contents faultless sure bytes_of paths old
-      → AreOfFiles contents faultless sure bytes_of paths new
-  files_more bytes_of paths place path old new there follows before i source at =
+  pub files_more : (Reach : ℕ → Type 0) (bytes_of : ℕ → Bor (List ℕ) → Option (List ℕ)) (paths : List (Bor (List ℕ))) (place : ℕ) (path : Bor (List ℕ)) (old new : List S)
+      → slice_get paths place ≡ Some path → Follows contents faultless sure Reach (λ n. bytes_of n path) old new → AreOfFiles contents faultless sure Reach bytes_of paths old
+      → AreOfFiles contents faultless sure Reach bytes_of paths new
+  files_more Reach bytes_of paths place path old new there follows before i source at =
       elim (before_or_last old follows.source source i (subst (λ (xs : List S). slice_get xs i ≡ Some source) follows.is at)) [
         | inl earlier ↦ before i source earlier
         | inr last ↦
-            subst (λ (s : S). IsOfFile contents faultless sure bytes_of paths s) last (record { place = place; path = path; there = there; of = follows.of })
+            subst (λ (s : S). IsOfFile contents faultless sure Reach bytes_of paths s) last (record { place = place; path = path; there = there; of = follows.of })
       ]
 
 -- what is cut out of a source's bytes is cut out of the file's
@@ -98,29 +100,37 @@ part_of contents faultless (Some s) start len text known sound cut = λ few.
     elim ((subst (λ (c : Option (List ℕ)). IsPartAt c faultless start len text) known cut) few) [ inl same ↦ inl same | inr lost ↦ absurd (lost.1 sound) ]
 
 -- a piece of the sources is one of the files
-pub from_paths : {S : Type 0} (form : Form) (contents : S → Option (List ℕ)) (faultless : S → Type 0) (sure : Type 0) (bytes_of : Bor (List ℕ) → Option (List ℕ))
-    (paths : List (Bor (List ℕ))) (sources : List S) → sure → AreOfFiles contents faultless sure bytes_of paths sources → (piece : Piece)
-    → IsFromSource form contents faultless sources piece → IsFromSource form bytes_of never_fails paths piece
-from_paths Slices contents faultless sure bytes_of paths sources surely are piece from =
+pub from_paths : {S : Type 0} (form : Form) (contents : S → Option (List ℕ)) (faultless : S → Type 0) (sure : Type 0) (Reach : ℕ → Type 0)
+    (bytes_of : ℕ → Bor (List ℕ) → Option (List ℕ)) (paths : List (Bor (List ℕ))) (sources : List S) → sure → AreOfFiles contents faultless sure Reach bytes_of paths sources
+    → (piece : Piece) → IsFromSource form contents faultless sources piece → (n : ℕ) × Reach n × IsFromSource form (bytes_of n) never_fails paths piece
+from_paths Slices contents faultless sure Reach bytes_of paths sources surely are piece from =
     let file = are from.place from.holder from.there in
-    record {
-      place = file.place;
-      holder = file.path;
-      there = file.there;
-      given = cut_of (contents from.holder) (faultless from.holder) (bytes_of file.path) piece.start piece.len piece.text file.of.known (file.of.sound surely) from.given;
-    }
-from_paths (Bare outline) contents faultless sure bytes_of paths sources surely are piece from =
+    let n : ℕ = file.of.reach in (
+      n,
+      file.of.reached surely,
+      record {
+        place = file.place;
+        holder = file.path;
+        there = file.there;
+        given = cut_of (contents from.holder) (faultless from.holder) (bytes_of n file.path) piece.start piece.len piece.text (file.of.known surely) (file.of.sound surely) from.given;
+      },
+    )
+from_paths (Bare outline) contents faultless sure Reach bytes_of paths sources surely are piece from =
     let file = are from.place from.holder from.there in
-    record {
-      place = file.place;
-      holder = file.path;
-      there = file.there;
-      given = record {
-        bytes = from.given.bytes;
-        given = part_of (contents from.holder) (faultless from.holder) (bytes_of file.path) _ _ from.given.bytes file.of.known (file.of.sound surely) from.given.given;
-        is = from.given.is;
-      };
-    }
+    let n : ℕ = file.of.reach in (
+      n,
+      file.of.reached surely,
+      record {
+        place = file.place;
+        holder = file.path;
+        there = file.there;
+        given = record {
+          bytes = from.given.bytes;
+          given = part_of (contents from.holder) (faultless from.holder) (bytes_of n file.path) _ _ from.given.bytes (file.of.known surely) (file.of.sound surely) from.given.given;
+          is = from.given.is;
+        };
+      },
+    )
 
 -- the capacity has no part in what a blob is, or a collision
 pub blob_as : (root : Hash) (mode : Mode) (m n : ℕ) (blob : List ℕ) → IsBlob (fixed_as root mode m) blob → IsBlob (fixed_as root mode n) blob
@@ -176,18 +186,19 @@ pub same_ok : {T E : Type 0} (r : Result T E) (x y : T) → r ≡ Ok x → x ≡
 same_ok {T = T} {E = E} r x y is same = subst (λ (z : T). r ≡ Ok z) same is
 
 -- no sources are of any files
-pub no_sources : {S : Type 0} (contents : S → Option (List ℕ)) (faultless : S → Type 0) (sure : Type 0) (bytes_of : Bor (List ℕ) → Option (List ℕ)) (paths : List (Bor (List ℕ)))
-    (sources : List S) → sources ≡ [] → AreOfFiles contents faultless sure bytes_of paths sources
-no_sources {S = S} contents faultless sure bytes_of paths sources none i source there =
+pub no_sources : {S : Type 0} (contents : S → Option (List ℕ)) (faultless : S → Type 0) (sure : Type 0) (Reach : ℕ → Type 0) (bytes_of : ℕ → Bor (List ℕ) → Option (List ℕ))
+    (paths : List (Bor (List ℕ))) (sources : List S) → sources ≡ [] → AreOfFiles contents faultless sure Reach bytes_of paths sources
+no_sources {S = S} contents faultless sure Reach bytes_of paths sources none i source there =
     absurd (none-some source (subst (λ (xs : List S). slice_get xs i ≡ Some source) none there))
 
 -- a collision from a piece of the sources is one from a piece of the files
-pub pair_of_files : {S : Type 0} (form : Form) (contents : S → Option (List ℕ)) (faultless : S → Type 0) (sure : Type 0) (capacity : ℕ) (at : List ℕ → FileState)
-    (paths : List (Bor (List ℕ))) (sources : List S) → sure → AreOfFiles contents faultless sure (file_bytes (most_bytes form capacity) at) paths sources → (fixed : Fixed) (blob : List ℕ)
-    → HasCollision (IsFromSource form contents faultless sources) fixed blob → HasCollision (IsFromFile form capacity at paths) fixed blob
-pair_of_files form contents faultless sure capacity at paths sources surely are fixed blob pair =
-    pair_wider (IsFromSource form contents faultless sources) (IsFromFile form capacity at paths)
-    (from_paths form contents faultless sure (file_bytes (most_bytes form capacity) at) paths sources surely are) fixed blob pair
+pub pair_of_files : {S : Type 0} (form : Form) (contents : S → Option (List ℕ)) (faultless : S → Type 0) (sure : Type 0) (limits : Fixed) (long : Bool) (at : List ℕ → FileState)
+    (paths : List (Bor (List ℕ))) (sources : List S) → sure
+    → AreOfFiles contents faultless sure (IsReachIn (wanted_as form limits) long limits.capacity at paths) (λ n. file_bytes (most_bytes form n) at) paths sources
+    → (fixed : Fixed) (blob : List ℕ) → HasCollision (IsFromSource form contents faultless sources) fixed blob → HasCollision (IsFromFile form limits long at paths) fixed blob
+pair_of_files form contents faultless sure limits long at paths sources surely are fixed blob pair =
+    pair_wider (IsFromSource form contents faultless sources) (IsFromFile form limits long at paths)
+    (from_paths form contents faultless sure (IsReachIn (wanted_as form limits) long limits.capacity at paths) (λ n. file_bytes (most_bytes form n) at) paths sources surely are) fixed blob pair
 
 -- what is met by two tries in turn, or a collision is exhibited
 pub met_or_pair : (M P Q : Type 0) → M ⊎ Q → (Q → P) → M ⊎ P

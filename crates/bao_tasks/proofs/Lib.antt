@@ -11,3 +11,4 @@ pub mod Together
 pub mod Windowed
 pub mod Rewritten
 pub mod Claims
+pub mod Opening

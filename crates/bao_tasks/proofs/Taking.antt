@@ -5,20 +5,19 @@ use Rattle.std.proofs.lemmas.Bool.{cases_lt}
 use Rattle.std.proofs.lemmas.Option.{same_Some}
 use Rattle.bao_files.specs.Disks.{FileState, Unknown, Absent, Stored, IsStored}
 use mathlib.Core.Bool.{beq}
-use Rattle.bao_tasks.specs.declared.given.Given.{Given}
 use Rattle.bao_files.specs.declared.shown.Shown.{Shown}
-use Rattle.bao_tasks.specs.Givens.{given_contents, is_given_faultless, shown_contents, shown_faultless}
+use Rattle.bao_tasks.specs.Givens.{shown_contents, shown_faultless}
 use Rattle.bao_tasks.specs.FromFiles.{file_bytes, is_regular, taken_bytes}
 use Rattle.bao_tasks.specs.GatheredFaults.{AreAbsent}
-use Rattle.bao_tasks.specs.TakenFiles.{AreKinds, AreOfFiles, Follows, HasSound}
+use Rattle.bao_tasks.specs.TakenFiles.{AreKinds, AreOfFiles, Follows, HasSound, IsSourceOf}
 use Rattle.bao_tasks.proofs.FromFiles.{files_more, last_there, sound_kept, sound_last, still_there}
 
 -- Of so many files those of one kind were taken: each source is of a file, those before are kept, and a stored file is among them, or there was no memory;
 -- where no file is there, none was.
-pub record IsTaking {S : Type 0} (contents : S → Option (List ℕ)) (faultless : S → Type 0) (sure : Type 0) (most : ℕ) (at : List ℕ → FileState) (paths : List (Bor (List ℕ)))
-    (regular : Bool) (count : ℕ) (starved_before : Bool) (before : List S) (starved : Bool) (sources : List S) : Type 0 where
+pub record IsTaking {S : Type 0} (contents : S → Option (List ℕ)) (faultless : S → Type 0) (sure : Type 0) (Reach : ℕ → Type 0) (most : ℕ → ℕ) (at : List ℕ → FileState)
+    (paths : List (Bor (List ℕ))) (regular : Bool) (count : ℕ) (starved_before : Bool) (before : List S) (starved : Bool) (sources : List S) : Type 0 where
   pub hungry : starved_before ≡ true → starved ≡ true
-  pub files : AreOfFiles contents faultless sure (file_bytes most at) paths before → AreOfFiles contents faultless sure (file_bytes most at) paths sources
+  pub files : AreOfFiles contents faultless sure Reach (λ n. file_bytes (most n) at) paths before → AreOfFiles contents faultless sure Reach (λ n. file_bytes (most n) at) paths sources
   pub absent : AreAbsent at paths → sources ≡ before
   pub kept : (bytes : List ℕ) → HasSound contents faultless before bytes → HasSound contents faultless sources bytes
   pub there : regular ≡ true → sure → (i : ℕ) (path : Bor (List ℕ)) (bytes : List ℕ) → i < count → slice_get paths i ≡ Some path → is_regular path.now ≡ true
@@ -29,6 +28,20 @@ same_taken : (regular other : Bool) (most : ℕ) (state : FileState) → (IsStor
 same_taken regular other most Unknown same = refl
 same_taken regular other most Absent same = refl
 same_taken regular other most (Stored bytes) same = ap (λ (r : Bool). taken_bytes r most (Stored bytes)) (same tt)
+
+-- a source that follows does so by other names of its bytes and of how far they go
+follows_as : {S : Type 0} (contents : S → Option (List ℕ)) (faultless : S → Type 0) (sure : Type 0) (Near Reach : ℕ → Type 0) (from to : ℕ → Option (List ℕ)) (old new : List S)
+    → ((n : ℕ) → from n ≡ to n) → (sure → (n : ℕ) → Near n → Reach n) → Follows contents faultless sure Near from old new → Follows contents faultless sure Reach to old new
+follows_as contents faultless sure Near Reach from to old new same wider follows = record {
+  source = follows.source;
+  is = follows.is;
+  of = record {
+    reach = follows.of.reach;
+    reached = λ surely. wider surely follows.of.reach (follows.of.reached surely);
+    known = λ surely. subst (λ (b : Option (List ℕ)). IfSome b (λ s. contents follows.source ≡ Some s)) (same follows.of.reach) (follows.of.known surely);
+    sound = follows.of.sound;
+  };
+}
 
 is_stored : (state : FileState) (bytes : List ℕ) → state ≡ Stored bytes → IsStored state
 is_stored state bytes is = subst IsStored (sym is) tt
@@ -41,13 +54,12 @@ same_kind true false is = cc
 same_kind true true is = refl
 
 -- a file that is shown is known as it is
-pub shown_known : {I P : Type 0} (contents : I → Option (List ℕ)) (bytes : Option (List ℕ)) (given : Given I) (w : Shown (Given I) P) → w.source ≡ given
-    → IfSome bytes (λ s. given_contents contents given ≡ Some s) → IfSome bytes (λ s. shown_contents (given_contents contents) w ≡ Some s)
-shown_known {I = I} contents bytes given w same known = subst (λ (it : Given I). IfSome bytes (λ s. given_contents contents it ≡ Some s)) (sym same) known
-
-pub shown_sure : {I P : Type 0} (faultless : I → Type 0) (sure : Type 0) (given : Given I) (w : Shown (Given I) P) → w.source ≡ given
-    → (sure → is_given_faultless faultless given) → sure → shown_faultless (is_given_faultless faultless) w
-shown_sure {I = I} faultless sure given w same known surely = subst (λ (it : Given I). is_given_faultless faultless it) (sym same) (known surely)
+pub shown_as : {S P : Type 0} (contents : S → Option (List ℕ)) (faultless : S → Type 0) (sure : Type 0) (Reach : ℕ → Type 0) (bytes_to : ℕ → Option (List ℕ)) (given : S)
+    (w : Shown S P) → w.source ≡ given → IsSourceOf contents faultless sure Reach bytes_to given
+    → IsSourceOf (shown_contents contents) (shown_faultless faultless) sure Reach bytes_to w
+shown_as contents faultless sure Reach bytes_to given w same of =
+    let shown = subst (λ (it : _). IsSourceOf contents faultless sure Reach bytes_to it) (sym same) of in
+    record { reach = shown.reach; reached = shown.reached; known = shown.known; sound = shown.sound }
 
 -- one file more was asked about
 pub kind_more : (at : List ℕ → FileState) (paths : List (Bor (List ℕ))) (kinds : List Bool) (kind : Bool) (path : Bor (List ℕ)) (n : ℕ) → length kinds ≡ n → slice_get paths n ≡ Some path
@@ -63,29 +75,31 @@ kind_more at paths kinds kind path n size at_path told before i p within there s
       subst (λ (k : ℕ). slice_get (kinds ++ kind ∷ []) k ≡ Some (is_regular p.now)) (size ∙ sym here) (last_there kinds kind ∙ ap (λ (b : Bool). Some b) same)
 ]
 
-module _ {S : Type 0} (contents : S → Option (List ℕ)) (faultless : S → Type 0) (sure : Type 0) (most : ℕ) (at : List ℕ → FileState) (paths : List (Bor (List ℕ)))
-    (regular starved_before : Bool) (before : List S) where
+module _ {S : Type 0} (contents : S → Option (List ℕ)) (faultless : S → Type 0) (sure : Type 0) (Reach Near : ℕ → Type 0) (most : ℕ → ℕ)
+    (at : List ℕ → FileState) (paths : List (Bor (List ℕ))) (regular starved_before : Bool) (before : List S) where
   -- a file of the kind was taken, or left out
   pub taking_more : (kinds : List Bool) (count : ℕ) (hungry starved : Bool) (sources new : List S) (path : Bor (List ℕ)) → AreKinds at paths kinds → slice_get kinds count ≡ Some regular
       → slice_get paths count ≡ Some path → (hungry ≡ true → starved ≡ true) → (at path.now ≡ Absent → new ≡ sources)
-      → (new ≡ sources) ⊎ Follows contents faultless sure (taken_bytes regular most (at path.now)) sources new
-      → (regular ≡ true → sure → IsStored (at path.now) → (starved ≡ true) ⊎ Follows contents faultless sure (taken_bytes regular most (at path.now)) sources new)
-      → IsTaking contents faultless sure most at paths regular count starved_before before hungry sources
-      → IsTaking contents faultless sure most at paths regular (count + 1) starved_before before starved new
-  taking_more kinds count hungry starved sources new path are is at_path still quiet taken told so =
-      let same : taken_bytes regular most (at path.now) ≡ file_bytes most at path =
-      same_taken regular (is_regular path.now) most (at path.now) (λ stored. same_Some regular (is_regular path.now) (sym is ∙ are count path at_path stored)) in
+      → (new ≡ sources) ⊎ Follows contents faultless sure Near (λ n. taken_bytes regular (most n) (at path.now)) sources new
+      → (regular ≡ true → sure → IsStored (at path.now) → (starved ≡ true) ⊎ Follows contents faultless sure Near (λ n. taken_bytes regular (most n) (at path.now)) sources new)
+      → (AreOfFiles contents faultless sure Reach (λ n. file_bytes (most n) at) paths sources → sure → (n : ℕ) → Near n → Reach n)
+      → IsTaking contents faultless sure Reach most at paths regular count starved_before before hungry sources
+      → IsTaking contents faultless sure Reach most at paths regular (count + 1) starved_before before starved new
+  taking_more kinds count hungry starved sources new path are is at_path still quiet taken told wider so =
+      let same : (n : ℕ) → taken_bytes regular (most n) (at path.now) ≡ file_bytes (most n) at path = λ n.
+      same_taken regular (is_regular path.now) (most n) (at path.now) (λ stored. same_Some regular (is_regular path.now) (sym is ∙ are count path at_path stored)) in
       let keeps : (bytes : List ℕ) → HasSound contents faultless sources bytes → HasSound contents faultless new bytes = λ bytes has. elim taken [
         | inl unchanged ↦ subst (λ (xs : List S). HasSound contents faultless xs bytes) (sym unchanged) has
-        | inr follows ↦ sound_kept contents faultless sure (taken_bytes regular most (at path.now)) sources new follows bytes has
+        | inr follows ↦ sound_kept contents faultless sure Near (λ n. taken_bytes regular (most n) (at path.now)) sources new follows bytes has
       ] in
       record {
         hungry = λ h. still (so.hungry h);
         files = λ before_are. elim taken [
-          | inl unchanged ↦ subst (λ (xs : List S). AreOfFiles contents faultless sure (file_bytes most at) paths xs) (sym unchanged) (so.files before_are)
+          | inl unchanged ↦ subst (λ (xs : List S). AreOfFiles contents faultless sure Reach (λ n. file_bytes (most n) at) paths xs) (sym unchanged) (so.files before_are)
           | inr follows ↦
-              files_more contents faultless sure (file_bytes most at) paths count path sources new at_path
-              (subst (λ (b : Option (List ℕ)). Follows contents faultless sure b sources new) same follows) (so.files before_are)
+              files_more contents faultless sure Reach (λ n. file_bytes (most n) at) paths count path sources new at_path
+              (follows_as contents faultless sure Near Reach (λ n. taken_bytes regular (most n) (at path.now)) (λ n. file_bytes (most n) at path) sources new same (wider (so.files before_are)) follows)
+              (so.files before_are)
         ];
         absent = λ none. quiet (none count path at_path) ∙ so.absent none;
         kept = λ bytes has. keeps bytes (so.kept bytes has);
@@ -101,8 +115,8 @@ module _ {S : Type 0} (contents : S → Option (List ℕ)) (faultless : S → Ty
               elim (told yes surely (is_stored (at path.now) bytes state)) [
                 | inl h ↦ inl h
                 | inr follows ↦
-                    inr (sound_last contents faultless sure (taken_bytes regular most (at path.now)) sources new follows surely bytes
-                    (ap (λ (r : Bool). taken_bytes r most (at path.now)) yes ∙ ap (λ (s : FileState). taken_bytes true most s) state))
+                    inr (sound_last contents faultless sure Near (λ n. taken_bytes regular (most n) (at path.now)) sources new follows surely bytes
+                    (λ n. ap (λ (r : Bool). taken_bytes r (most n) (at path.now)) yes ∙ ap (λ (s : FileState). taken_bytes true (most n) s) state))
               ]
         ];
       }

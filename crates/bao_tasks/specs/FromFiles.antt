@@ -1,6 +1,6 @@
 -- Gathering a blob from files whose bytes are known: one true file among any others suffices, and so do several that have it together.
 use Rattle.std.specs.Borrow.{Bor}
-use Rattle.std.specs.Prelude.{if◌then◌else◌, ◌≡◌, ◌≢◌, ◌⊎◌, ℕ, ◌-◌, ◌^◌, ◌<◌, ◌≤◌, Bool, true, not, List, [], length, take, codes, MatchResult, Option, None, Some, Result, slice_get, ⊤}
+use Rattle.std.specs.Prelude.{if◌then◌else◌, ◌≡◌, ◌≢◌, ◌⊎◌, ℕ, ◌-◌, ◌*◌, ◌^◌, ◌<◌, ◌≤◌, Bool, true, not, List, [], length, take, codes, MatchResult, Option, None, Some, Result, slice_get, ⊤}
 use Rattle.std.specs.Str.{bytes_eq}
 use Rattle.b3tree.specs.Pieces.{piece as part}
 use Rattle.b3tree.specs.declared.mode.Mode.{Mode}
@@ -11,7 +11,9 @@ use Rattle.bao_files.specs.Disks.{AreOf, FileState, Unknown, Absent, Stored, Put
 use Rattle.bao_text.specs.Choice.{chunk_count}
 use Rattle.bao_text.specs.Cut.{cut_text}
 use Rattle.bao_text.specs.Texts.{combined_text, slice_text}
+use Rattle.bao_windows.specs.Available.{CertifiesEnd}
 use Rattle.bao_windows.specs.Copies.{IsPartBy}
+use Rattle.bao_windows.specs.declared.wanted.Wanted.{Wanted}
 use Rattle.holders.specs.Available.{IsAskedBy}
 use Rattle.bao_windows.specs.declared.fault.GatherFault.TheVariants.{NotTheRoot}
 use Rattle.holders.specs.declared.form.Form.{Form}
@@ -49,10 +51,24 @@ file_bytes most at path = taken_bytes (is_regular path.now) most (at path.now)
 abbrev pub never_fails : Bor (List ℕ) → Type 0
 never_fails path = ⊤
 
+-- the blob's root and mode, and the form of the files; the grain has no part in what is certified
+abbrev pub wanted_as : Form → Fixed → Wanted
+wanted_as form fixed = record { root = fixed.root; mode = fixed.mode; form = form; grain = ByChunk }
+
+-- one of the files certifies this length of the blob by its first bytes
+abbrev pub IsCertifiedBy : Wanted → (List ℕ → FileState) → List (Bor (List ℕ)) → ℕ → Type 0
+IsCertifiedBy wanted at paths n = (most : ℕ) × (place : ℕ) × CertifiesEnd (file_bytes most at) never_fails wanted paths place n
+
+-- How long a blob may be for its longest encoding, or copy, to be read to the end from a file that isn't regular: as long as the capacity allows or, where a
+-- blob may have any length, 2^40 bytes, or a length that is certified.
+abbrev pub IsReach : Bool → ℕ → (ℕ → Type 0) → ℕ → Type 0
+IsReach long capacity IsCertified n = (n ≡ 1024 * capacity) ⊎ ((long ≡ true) × ((n ≡ 2 ^ 40) ⊎ IsCertified n))
+
 -- The slice is cut from one of these files, or made from an outline's parents and a range of one of them. From a file whose bytes are unknown, it may
 -- be any slice.
-abbrev pub IsFromFile : Form → ℕ → (List ℕ → FileState) → List (Bor (List ℕ)) → Piece → Type 0
-IsFromFile form capacity at paths = IsFromSource form (file_bytes (most_bytes form capacity) at) never_fails paths
+abbrev pub IsFromFile : Form → Fixed → Bool → (List ℕ → FileState) → List (Bor (List ℕ)) → Piece → Type 0
+IsFromFile form fixed long at paths piece =
+    (n : ℕ) × IsReach long fixed.capacity (IsCertifiedBy (wanted_as form fixed) at paths) n × IsFromSource form (file_bytes (most_bytes form n) at) never_fails paths piece
 
 -- a blob of n bytes fits: it may have any length, or it has at most as many chunks as the capacity
 abbrev pub HasRoom : Gathering → ℕ → Type 0
@@ -136,10 +152,10 @@ IsRightAt old new path how mode blob result =
     MatchResult result (λ count. (count ≡ length blob) × Puts old new path (Some (gathered_text how.encode mode blob))) (λ fault. fault ≢ Gather NotTheRoot)
 
 -- a collision is exhibited beside the blob's own outboard encoding, from a slice made from its parents and a range of one of the files
-pub record CollidesBeside (fixed : Fixed) (capacity : ℕ) (at : List ℕ → FileState) (paths : List (Bor (List ℕ))) (blob : List ℕ) : Type 0 where
+pub record CollidesBeside (fixed : Fixed) (long : Bool) (at : List ℕ → FileState) (paths : List (Bor (List ℕ))) (blob : List ℕ) : Type 0 where
   pub form : Form
   pub own : IsOwn form fixed blob
-  pub pair : HasCollision (IsFromFile form capacity at paths) fixed blob
+  pub pair : HasCollision (IsFromFile form fixed long at paths) fixed blob
 
 -- the form's outline is of this encoding, which is accepted under the root in the mode
 abbrev pub IsOutlineIn : Form → Fixed → List ℕ → Type 0
@@ -148,9 +164,9 @@ IsOutlineIn (Bare outline) fixed text = IsOutline outline.now fixed.mode fixed.r
 
 -- a collision is exhibited beside an accepted outboard encoding, that in the file at this path if its bytes are known: from a slice made from its parents
 -- and a range of one of the files
-pub record CollidesBesideOutline (fixed : Fixed) (capacity : ℕ) (at : List ℕ → FileState) (outboard : List ℕ) (paths : List (Bor (List ℕ))) (blob : List ℕ) : Type 0 where
+pub record CollidesBesideOutline (fixed : Fixed) (long : Bool) (at : List ℕ → FileState) (outboard : List ℕ) (paths : List (Bor (List ℕ))) (blob : List ℕ) : Type 0 where
   pub text : List ℕ
   pub of : AreOf (at outboard) text
   pub form : Form
   pub outline : IsOutlineIn form fixed text
-  pub pair : HasCollision (IsFromFile form capacity at paths) fixed blob
+  pub pair : HasCollision (IsFromFile form fixed long at paths) fixed blob

@@ -1,5 +1,5 @@
 -- The bytes of the files that a blob is gathered from.
-use Rattle.std.specs.Prelude.{ℕ, ◌+◌, ◌*◌, List, Option, Some}
+use Rattle.std.specs.Prelude.{ℕ, ◌+◌, ◌-◌, ◌^◌, min, List, Option, Some}
 use Rattle.bao_tasks.specs.declared.given.Given.{Given}
 use Rattle.bao_tasks.specs.declared.given.Given.TheVariants.{Placed, Held}
 use Rattle.bao_files.specs.declared.shown.Shown.{Shown}
@@ -17,11 +17,11 @@ abbrev pub is_given_faultless : {I : Type 0} → (I → Type 0) → Given I → 
 is_given_faultless faultless (Placed file) = faultless file
 is_given_faultless faultless (Held text) = Unit {0}
 
--- How many bytes of a file can help, for a blob of at most `capacity` chunks: those of the longest encoding, or plain copy, and one more, by which a longer
--- file is told.
+-- How many bytes of a file can help, for a blob of at most `n` bytes: those of the longest encoding, or plain copy, and one more, by which a longer file is
+-- told; fewer than 2^64.
 abbrev pub most_bytes : Form → ℕ → ℕ
-most_bytes Slices capacity = 8 + subtree_size (1024 * capacity) + 1
-most_bytes (Bare outline) capacity = 1024 * capacity + 1
+most_bytes Slices n = min (8 + subtree_size n + 1) (2 ^ 64 - 1)
+most_bytes (Bare outline) n = min (n + 1) (2 ^ 64 - 1)
 
 -- a file whose reads are reported has the same bytes and faults
 abbrev pub shown_contents : {S P : Type 0} → (S → Option (List ℕ)) → Shown S P → Option (List ℕ)

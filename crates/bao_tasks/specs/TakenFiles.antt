@@ -8,7 +8,9 @@ use Rattle.bao_files.specs.Disks.{FileState, IsStored}
 use Rattle.bao_windows.specs.declared.fault.GatherFault.{GatherFault}
 use Rattle.bao_windows.specs.declared.fault.GatherFault.TheVariants.{TooLarge, Unfinished, NotTheRoot, Starved}
 use Rattle.bao_windows.specs.declared.fault.GatherFault.TheVariants as gather
+use Rattle.bao_windows.specs.Available.{CertifiesEnd}
 use Rattle.bao_windows.specs.Written.{AreTooLong}
+use Rattle.bao_windows.specs.declared.wanted.Wanted.{Wanted}
 use Rattle.holders.specs.declared.form.Form.{Form}
 use Rattle.holders.specs.Forms.{AreSlices}
 use Rattle.holders.specs.Blobs.{HasCollision, fixed_as}
@@ -21,7 +23,7 @@ use Rattle.bao_tasks.specs.declared.gathered_fault.GatheredFault.TheVariants.{Fi
 use Rattle.bao_tasks.specs.GatheredFaults.{IsOfFiles, IsQuietGathered, NamesFirst}
 use Rattle.bao_tasks.specs.declared.gathering.Gathering.{Gathering}
 use Rattle.bao_tasks.specs.Gathered.{HasRootAndFits, IsWrittenOut, gathered_text}
-use Rattle.bao_tasks.specs.FromFiles.{AreEnough, IsExcusedFile, IsExcusedGathering, is_regular}
+use Rattle.bao_tasks.specs.FromFiles.{AreEnough, IsExcusedFile, IsExcusedGathering, IsReach, is_regular}
 
 -- for each of these files that is known to be stored, it is right whether it is regular
 abbrev pub AreKinds : (List ℕ → FileState) → List (Bor (List ℕ)) → List Bool → Type 0
@@ -35,28 +37,34 @@ pub record HasSound {S : Type 0} (contents : S → Option (List ℕ)) (faultless
   pub known : contents source ≡ Some bytes
   pub sound : faultless source
 
--- A source has these bytes, if they are known, and never fails if that is sure.
-pub record IsSourceOf {S : Type 0} (contents : S → Option (List ℕ)) (faultless : S → Type 0) (sure : Type 0) (bytes : Option (List ℕ)) (source : S) : Type 0 where
-  pub known : IfSome bytes (λ s. contents source ≡ Some s)
+-- A source has these bytes of a file, if they are known and that is sure, and never fails then. They go by how far the file was read.
+pub record IsSourceOf {S : Type 0} (contents : S → Option (List ℕ)) (faultless : S → Type 0) (sure : Type 0) (Reach : ℕ → Type 0) (bytes_to : ℕ → Option (List ℕ)) (source : S) : Type 0 where
+  pub reach : ℕ
+  pub reached : sure → Reach reach
+  pub known : sure → IfSome (bytes_to reach) (λ s. contents source ≡ Some s)
   pub sound : sure → faultless source
 
+-- how long a blob may be for its longest encoding, or copy, to be read to the end from a file that isn't regular, after these sources
+abbrev pub IsReachOf : {S : Type 0} → (S → Option (List ℕ)) → (S → Type 0) → Wanted → Bool → ℕ → List S → ℕ → Type 0
+IsReachOf contents faultless wanted long capacity sources n = IsReach long capacity (λ m. (place : ℕ) × CertifiesEnd contents faultless wanted sources place m) n
+
 -- one such source was added
-pub record Follows {S : Type 0} (contents : S → Option (List ℕ)) (faultless : S → Type 0) (sure : Type 0) (bytes : Option (List ℕ)) (old new : List S) : Type 0 where
+pub record Follows {S : Type 0} (contents : S → Option (List ℕ)) (faultless : S → Type 0) (sure : Type 0) (Reach : ℕ → Type 0) (bytes_to : ℕ → Option (List ℕ)) (old new : List S) : Type 0 where
   pub source : S
   pub is : new ≡ old ++ source ∷ []
-  pub of : IsSourceOf contents faultless sure bytes source
+  pub of : IsSourceOf contents faultless sure Reach bytes_to source
 
 -- the source is of one of these files
-pub record IsOfFile {S : Type 0} (contents : S → Option (List ℕ)) (faultless : S → Type 0) (sure : Type 0) (bytes_of : Bor (List ℕ) → Option (List ℕ)) (paths : List (Bor (List ℕ))) (source : S) : Type 0 where
+pub record IsOfFile {S : Type 0} (contents : S → Option (List ℕ)) (faultless : S → Type 0) (sure : Type 0) (Reach : ℕ → Type 0) (bytes_of : ℕ → Bor (List ℕ) → Option (List ℕ)) (paths : List (Bor (List ℕ))) (source : S) : Type 0 where
   pub place : ℕ
   pub path : Bor (List ℕ)
   pub there : slice_get paths place ≡ Some path
-  pub of : IsSourceOf contents faultless sure (bytes_of path) source
+  pub of : IsSourceOf contents faultless sure Reach (λ n. bytes_of n path) source
 
 -- each of the sources is of one of them
-abbrev pub AreOfFiles : {S : Type 0} → (S → Option (List ℕ)) → (S → Type 0) → Type 0 → (Bor (List ℕ) → Option (List ℕ)) → List (Bor (List ℕ)) → List S → Type 0
-AreOfFiles contents faultless sure bytes_of paths sources =
-    (i : ℕ) (source : _) → slice_get sources i ≡ Some source → IsOfFile contents faultless sure bytes_of paths source
+abbrev pub AreOfFiles : {S : Type 0} → (S → Option (List ℕ)) → (S → Type 0) → Type 0 → (ℕ → Type 0) → (ℕ → Bor (List ℕ) → Option (List ℕ)) → List (Bor (List ℕ)) → List S → Type 0
+AreOfFiles contents faultless sure Reach bytes_of paths sources =
+    (i : ℕ) (source : _) → slice_get sources i ≡ Some source → IsOfFile contents faultless sure Reach bytes_of paths source
 
 -- gathering failed, memory was refused, or writing failed
 abbrev pub IsOfWriting : GatheredFault → Type 0

@@ -13,18 +13,19 @@ ghost use Rattle.holders.specs.Blobs.{HasCollision, fixed_as};
 ghost use Rattle.holders.specs.Lists.{IsFromSource};
 ghost use Rattle.holders.specs.Blobs.{IsBlob};
 ghost use Rattle.bao_tasks.specs.FromFiles.{AreEnough, CollidesBeside, CollidesBesideOutline, HasRoom, HaveBytes, IsExcusedGathering, IsFromFile, IsInFile, IsPutAt, IsRightAt, file_bytes, is_regular, taken_bytes};
-ghost use Rattle.bao_tasks.specs.TakenFiles.{IsFaultAt, IsGathered, AreKinds, AreOfFiles, Follows, HasSound, IsDrafted, IsRightDraft, IsTried, is_open, open_fault};
+ghost use Rattle.bao_windows.specs.Available.{CertifiesEnd};
+ghost use Rattle.bao_tasks.specs.TakenFiles.{IsReachOf, IsSourceOf, IsFaultAt, IsGathered, AreKinds, AreOfFiles, Follows, HasSound, IsDrafted, IsRightDraft, IsTried, is_open, open_fault};
 ghost use Rattle.bao_tasks.specs.GatheredFaults.{AreAbsent, IsFirstUnread, IsOfFiles, IsQuietGathered, LooksUnfinished, NamesBeside, NamesFirst, StopsBeside};
 ghost use Rattle.bao_tasks.specs.declared.missing.Lack.TheVariants as Lack;
 ghost use Rattle.bao_tasks.specs.Missing.{IsLackOf};
-ghost use Rattle.bao_tasks.specs.MissingInFiles.{IsLackBeside, IsLackIn, wanted_for};
+ghost use Rattle.bao_tasks.specs.MissingInFiles.{IsLackBeside, IsLackIn, IsReachIn, wanted_for};
 ghost use Rattle.bao_tasks.specs.Gathered.{Fits, HasOutlineIn, HasRootAndFits, IsFaultOfOutline, gathered_text};
 ghost use Rattle.bao_tasks.specs.Givens.{given_contents, is_given_faultless, most_bytes, shown_contents, shown_faultless};
 ghost use Rattle.bao_tasks.specs.Worth.{IsWorthAs};
 
 use crate::file_fate::Fate;
 use crate::gathered_fault::GatheredFault;
-use crate::given::{Given, held, placed};
+use crate::given::{Given, Opened, held, most_bytes, placed, spool, spooled};
 use crate::missing::{Lack, lack_of};
 use crate::notes::Notes;
 use crate::worth::{Worth, worth_of};
@@ -35,11 +36,15 @@ use bao_check::check_outboard;
 use bao_decode::read_outboard_on;
 use bao_files::{Disk, FileFault, Progress, STANDARD_INPUT, Shown, encode_input};
 use bao_text::{Encoding, encoded_len};
-use bao_windows::{GatherFault, Wanted as Windows, WindowsFault, write_windows};
+use bao_windows::{GatherFault, Wanted as Windows, WindowsFault, certified_length, write_windows};
 use holders::{Form, Grain};
 use std::alloc::{AllocError, Global};
 use std::io::Write;
 use std::thread::Threads;
+
+// How long a blob of any length may be for its longest encoding, or copy, to be read to the end from a file that isn't
+// regular, if no file certifies the blob's length: so that an endless pipe ends before it has filled a large disk.
+const MOST_UNCERTIFIED_LEN: u64 = 1 << 40;
 
 // The progress of shorter files isn't reported.
 const LEAST_SHOWN_LEN: u64 = 4 << 20;
@@ -49,8 +54,7 @@ const LEAST_SHOWN_LEN: u64 = 4 << 20;
 pub struct Gathering {
     /// How many workers gather, 1 to 64. A number outside counts as the nearest of these.
     pub workers: u32,
-    /// The most chunks that the blob may have, unless it is `long`. At most one byte more is read of a file that isn't
-    /// regular than the longest encoding, or copy, of such a blob has.
+    /// The most chunks that the blob may have, unless it is `long`.
     pub capacity: u32,
     /// Whether the blob may have any length.
     pub long: bool,
@@ -91,12 +95,14 @@ impl<'a> Wanted<'a> {
     }
 }
 
-// The files taken so far, the length in bytes of the longest, and whether memory was refused for one.
+// The files taken so far, the length in bytes of the longest, and whether memory was refused for one. Files that aren't
+// regular are copied beside the file at `beside`.
 #[derive(Drop)]
 struct Taken<'p, S: Source + Drop, P: Progress> {
     givens: Vec<Shown<'p, S, P>>,
     longest: u64,
     starved: bool,
+    beside: &'p str,
     progress: &'p P,
 }
 
@@ -158,24 +164,49 @@ fn counted<I: Source>(alloc: Global, wanted: &Wanted<'_>, given: &Given<I>) -> O
     worth_of(alloc, &wanted.windows(), given).ok()
 }
 
-// Opens a file, which is regular or not, and returns it with its length.
-fn opened<'a, D: Disk>(
+// How long the blob may be for its longest encoding, or copy, to be read to the end from a file that is copied: as long as
+// one of the files taken certifies.
+fn reach<S: Source + Drop, P: Progress>(
+    alloc: Global,
+    wanted: &Wanted<'_>,
+    taken: &Taken<'_, S, P>,
+) -> u64
+    ensures { (result ≡ 2 ^ 40) ⊎ ((place : ℕ) × CertifiesEnd (shown_contents S.contents) (shown_faultless S.faultless) (wanted_for wanted.now.root.now wanted.now.mode.now wanted.now.form.now wanted.now.how.grain) taken.now.givens.items place result) }
+{
+    let windows = wanted.windows();
+    if let Ok(len) = certified_length(alloc, &windows, taken.givens.as_slice()) {
+        return len;
+    }
+    MOST_UNCERTIFIED_LEN
+}
+
+// Opens a file, which is regular or not. One that isn't regular is copied, if the blob may have any length, or else held
+// in memory.
+fn opened<'a, D: Disk, P: Progress>(
     alloc: Global,
     disk: &D,
     wanted: &Wanted<'_>,
     path: &'a str,
     regular: bool,
-) -> Result<(Given<D::Input>, u64), FileFault<'a>>
-    ensures bytes { IfOk result (λ made. IfSome (taken_bytes regular (most_bytes wanted.now.form.now wanted.now.how.capacity) (D.at disk.now path.now)) (λ bytes. given_contents D.Input.contents made.0 ≡ Some bytes)) }
-    ensures sure { IfOk result (λ made. D.faultless disk.now → is_given_faultless D.Input.faultless made.0) }
+    taken: &Taken<'a, Given<D::Input>, P>,
+) -> Result<Opened<D::Input>, FileFault<'a>>
+    ensures source { IfOk result (λ made. IsSourceOf (given_contents D.Input.contents) (is_given_faultless D.Input.faultless) (D.faultless disk.now)
+        (IsReachOf (shown_contents (given_contents D.Input.contents)) (shown_faultless (is_given_faultless D.Input.faultless)) (wanted_for wanted.now.root.now wanted.now.mode.now wanted.now.form.now wanted.now.how.grain) wanted.now.how.long wanted.now.how.capacity taken.now.givens.items)
+        (λ n. taken_bytes regular (most_bytes wanted.now.form.now n) (D.at disk.now path.now)) made.given) }
     ensures found { OnOk result (D.at disk.now path.now ≢ Absent) }
     ensures there { IfErr result (λ fault. regular ≡ true → D.faultless disk.now → IsStored (D.at disk.now path.now) → fault ≡ FileFault.Memory) }
 {
     if regular {
-        placed(disk, path)
-    } else {
-        held(alloc, disk, wanted.form, wanted.how.capacity, path)
+        return placed(disk, path);
     }
+    let Gathering { capacity, long, .. } = wanted.how;
+    let input = disk.open(path)?;
+    if long && let Some(draft) = spool(disk, taken.beside) {
+        let most = most_bytes(wanted.form, reach(alloc, wanted, taken));
+        return spooled(disk, input, draft, most, path, taken.beside);
+    }
+    let most = most_bytes(wanted.form, CHUNK_LEN as u64 * u64::from(capacity));
+    held(alloc, input, most, path)
 }
 
 // Takes a file, which is regular or not, and returns what became of it.
@@ -190,16 +221,24 @@ fn take<D: Disk, P: Progress>(
     ensures starved { taken.old.starved ≡ true → taken.new.starved ≡ true }
     ensures absent { D.at disk.now path.now ≡ Absent → taken.new.givens.items ≡ taken.old.givens.items }
     ensures taken { (taken.new.givens.items ≡ taken.old.givens.items)
-        ⊎ Follows (shown_contents (given_contents D.Input.contents)) (shown_faultless (is_given_faultless D.Input.faultless)) (D.faultless disk.now) (taken_bytes regular (most_bytes wanted.now.form.now wanted.now.how.capacity) (D.at disk.now path.now)) taken.old.givens.items taken.new.givens.items }
+        ⊎ Follows (shown_contents (given_contents D.Input.contents)) (shown_faultless (is_given_faultless D.Input.faultless)) (D.faultless disk.now)
+        (IsReachOf (shown_contents (given_contents D.Input.contents)) (shown_faultless (is_given_faultless D.Input.faultless)) (wanted_for wanted.now.root.now wanted.now.mode.now wanted.now.form.now wanted.now.how.grain) wanted.now.how.long wanted.now.how.capacity taken.old.givens.items)
+        (λ n. taken_bytes regular (most_bytes wanted.now.form.now n) (D.at disk.now path.now)) taken.old.givens.items taken.new.givens.items }
     ensures there { regular ≡ true → D.faultless disk.now → IsStored (D.at disk.now path.now) → (taken.new.starved ≡ true)
-        ⊎ Follows (shown_contents (given_contents D.Input.contents)) (shown_faultless (is_given_faultless D.Input.faultless)) (D.faultless disk.now) (taken_bytes regular (most_bytes wanted.now.form.now wanted.now.how.capacity) (D.at disk.now path.now)) taken.old.givens.items taken.new.givens.items }
+        ⊎ Follows (shown_contents (given_contents D.Input.contents)) (shown_faultless (is_given_faultless D.Input.faultless)) (D.faultless disk.now)
+        (IsReachOf (shown_contents (given_contents D.Input.contents)) (shown_faultless (is_given_faultless D.Input.faultless)) (wanted_for wanted.now.root.now wanted.now.mode.now wanted.now.form.now wanted.now.how.grain) wanted.now.how.long wanted.now.how.capacity taken.old.givens.items)
+        (λ n. taken_bytes regular (most_bytes wanted.now.form.now n) (D.at disk.now path.now)) taken.old.givens.items taken.new.givens.items }
 {
-    match opened(alloc, disk, wanted, path, regular) {
-        Ok((given, len)) => {
+    match opened(alloc, disk, wanted, path, regular, taken) {
+        Ok(file) => {
+            let Opened { given, len, is_cut } = file;
             let worth = counted(alloc, wanted, &given);
             taken.longest = taken.longest.max(len);
             match taken.givens.push(Shown::over(given, None, taken.progress)) {
-                Ok(()) => Fate::Taken(worth),
+                Ok(()) => Fate::Taken {
+                    worth,
+                    cut: is_cut.then_some(len),
+                },
                 Err(_) => {
                     taken.starved = true;
                     Fate::Starved
@@ -210,6 +249,7 @@ fn take<D: Disk, P: Progress>(
             taken.starved = true;
             Fate::Starved
         }
+        Err(FileFault::Write(_)) => Fate::Uncopied,
         Err(_) => Fate::Unread,
     }
 }
@@ -239,17 +279,15 @@ fn take_files<D: Disk, P: Progress>(
     requires kinds { AreKinds (D.at disk.now) paths.now kinds.now }
     ensures starved { taken.old.starved ≡ true → taken.new.starved ≡ true }
     ensures absent { AreAbsent (D.at disk.now) paths.now → taken.new.givens.items ≡ taken.old.givens.items }
-    ensures files { AreOfFiles (shown_contents (given_contents D.Input.contents)) (shown_faultless (is_given_faultless D.Input.faultless)) (D.faultless disk.now) (file_bytes (most_bytes wanted.now.form.now wanted.now.how.capacity) (D.at disk.now)) paths.now taken.old.givens.items
-        → AreOfFiles (shown_contents (given_contents D.Input.contents)) (shown_faultless (is_given_faultless D.Input.faultless)) (D.faultless disk.now) (file_bytes (most_bytes wanted.now.form.now wanted.now.how.capacity) (D.at disk.now)) paths.now taken.new.givens.items }
+    ensures files { AreOfFiles (shown_contents (given_contents D.Input.contents)) (shown_faultless (is_given_faultless D.Input.faultless)) (D.faultless disk.now)
+        (IsReachIn (wanted_for wanted.now.root.now wanted.now.mode.now wanted.now.form.now wanted.now.how.grain) wanted.now.how.long wanted.now.how.capacity (D.at disk.now) paths.now) (λ n. file_bytes (most_bytes wanted.now.form.now n) (D.at disk.now)) paths.now taken.old.givens.items
+        → AreOfFiles (shown_contents (given_contents D.Input.contents)) (shown_faultless (is_given_faultless D.Input.faultless)) (D.faultless disk.now)
+        (IsReachIn (wanted_for wanted.now.root.now wanted.now.mode.now wanted.now.form.now wanted.now.how.grain) wanted.now.how.long wanted.now.how.capacity (D.at disk.now) paths.now) (λ n. file_bytes (most_bytes wanted.now.form.now n) (D.at disk.now)) paths.now taken.new.givens.items }
     ensures kept { (bytes : List ℕ) → HasSound (shown_contents (given_contents D.Input.contents)) (shown_faultless (is_given_faultless D.Input.faultless)) taken.old.givens.items bytes → HasSound (shown_contents (given_contents D.Input.contents)) (shown_faultless (is_given_faultless D.Input.faultless)) taken.new.givens.items bytes }
     ensures there { regular ≡ true → D.faultless disk.now → (i : ℕ) (path : Bor (List ℕ)) (bytes : List ℕ) → slice_get paths.now i ≡ Some path → is_regular path.now ≡ true
         → D.at disk.now path.now ≡ Stored bytes → (taken.new.starved ≡ true) ⊎ HasSound (shown_contents (given_contents D.Input.contents)) (shown_faultless (is_given_faultless D.Input.faultless)) taken.new.givens.items bytes }
 {
-    let _spare = if regular {
-        spare(disk, paths, kinds)
-    } else {
-        None
-    };
+    let _spare = spare(disk, paths, kinds);
     for (place, path) in paths.iter().enumerate() {
         if kinds[place] != regular {
             continue;
@@ -570,14 +608,14 @@ fn drafted<'a, R: AllocGlobal + Threads + Sync, D: Disk, P: Progress + Sync>(
     ensures absent { AreAbsent (D.at disk.now) files.now → MatchResult result (λ _. ⊥) (IsFirstUnread files.now) }
     ensures unread { (file : Bor (List ℕ)) → IsErrOf result (GatheredFault.File (FileFault.Read file)) → D.faultless disk.now → (text : List ℕ) → IsInFile (D.at disk.now) files.now text → ⊥ }
     ensures right { D.faultless disk.now → IsKnown (D.at disk.now path.now) → (blob : List ℕ) → IsBlob (fixed_as wanted.now.root.now wanted.now.mode.now wanted.now.how.capacity) blob
-        → IsRightDraft D.Draft.contents wanted.now.how wanted.now.mode.now blob result ⊎ HasCollision (IsFromFile wanted.now.form.now wanted.now.how.capacity (D.at disk.now) files.now) (fixed_as wanted.now.root.now wanted.now.mode.now wanted.now.how.capacity) blob }
+        → IsRightDraft D.Draft.contents wanted.now.how wanted.now.mode.now blob result ⊎ HasCollision (IsFromFile wanted.now.form.now (fixed_as wanted.now.root.now wanted.now.mode.now wanted.now.how.capacity) wanted.now.how.long (D.at disk.now) files.now) (fixed_as wanted.now.root.now wanted.now.mode.now wanted.now.how.capacity) blob }
     ensures too_large { AreSlices wanted.now.form.now → D.faultless disk.now → IsErrOf result (GatheredFault.Gather GatherFault.TooLarge)
-        → AreTooLong (IsFromFile wanted.now.form.now wanted.now.how.capacity (D.at disk.now) files.now) (fixed_as wanted.now.root.now wanted.now.mode.now wanted.now.how.capacity) wanted.now.how.capacity }
+        → AreTooLong (IsFromFile wanted.now.form.now (fixed_as wanted.now.root.now wanted.now.mode.now wanted.now.how.capacity) wanted.now.how.long (D.at disk.now) files.now) (fixed_as wanted.now.root.now wanted.now.mode.now wanted.now.how.capacity) wanted.now.how.capacity }
     ensures available { D.faultless disk.now → IsKnown (D.at disk.now path.now) → (blob : List ℕ) → AreEnough wanted.now.form.now (fixed_as wanted.now.root.now wanted.now.mode.now wanted.now.how.capacity) wanted.now.how blob (IsInFile (D.at disk.now) files.now)
-        → IsDrafted D.Draft.contents wanted.now.how wanted.now.mode.now blob result ⊎ HasCollision (IsFromFile wanted.now.form.now wanted.now.how.capacity (D.at disk.now) files.now) (fixed_as wanted.now.root.now wanted.now.mode.now wanted.now.how.capacity) blob }
+        → IsDrafted D.Draft.contents wanted.now.how wanted.now.mode.now blob result ⊎ HasCollision (IsFromFile wanted.now.form.now (fixed_as wanted.now.root.now wanted.now.mode.now wanted.now.how.capacity) wanted.now.how.long (D.at disk.now) files.now) (fixed_as wanted.now.root.now wanted.now.mode.now wanted.now.how.capacity) blob }
     ensures looked { LooksUnfinished result notes.old.lack notes.new.lack }
     ensures listed { IsErrOf result (GatheredFault.Gather GatherFault.Unfinished) → D.faultless disk.now
-        → IsLackIn (wanted_for wanted.now.root.now wanted.now.mode.now wanted.now.form.now wanted.now.how.grain) wanted.now.how.capacity wanted.now.how.parts (D.at disk.now) files.now notes.new.lack }
+        → IsLackIn (wanted_for wanted.now.root.now wanted.now.mode.now wanted.now.form.now wanted.now.how.grain) wanted.now.how.long wanted.now.how.capacity wanted.now.how.parts (D.at disk.now) files.now notes.new.lack }
 {
     let alloc = rt.alloc();
     let Ok(kinds) = kinds_of(alloc, disk, files, notes.fates.as_mut_slice()) else {
@@ -588,6 +626,7 @@ fn drafted<'a, R: AllocGlobal + Threads + Sync, D: Disk, P: Progress + Sync>(
         givens: Vec::new(alloc),
         longest: 0,
         starved: false,
+        beside: path,
         progress,
     };
     let mut tried = Tried {
@@ -625,9 +664,12 @@ fn drafted<'a, R: AllocGlobal + Threads + Sync, D: Disk, P: Progress + Sync>(
 /// be there after a fault.
 ///
 /// Regular files are read by position, only where workers ask for bytes. Other files, such as pipes, are opened only if
-/// the regular ones leave the blob unfinished, or from the start for a `long` blob and a `path` that can't be replaced. At
-/// most one byte more is read of them than the longest encoding, or copy, of a blob of `capacity` chunks has. A file that
-/// can't be opened or read, or for which there is no descriptor or no memory, is left out.
+/// the regular ones leave the blob unfinished, or from the start for a `long` blob and a `path` that can't be replaced.
+/// They are held in memory, and at most one byte more is read of them than the longest encoding, or copy, of a blob of
+/// `capacity` chunks has. For a `long` blob they are copied to drafts of the file at `path` instead, if that can be
+/// replaced: at most one byte more than the longest encoding, or copy, has of a blob of the length that the files taken
+/// before certify or, if none does, of 2^40 bytes. A file that can't be opened, read or copied, or for which there is no
+/// descriptor or no memory, is left out.
 ///
 /// What became of each file is noted in `notes.fates` under its index, as far as that goes, whatever the result; with
 /// `count` also its worth ([`worth_of`]), unless memory is refused. If the blob stays
@@ -683,15 +725,15 @@ pub fn gather_on<'a, R: AllocGlobal + Threads + Sync, D: Disk, P: Progress + Syn
     ensures unread { (file : Bor (List ℕ)) → IsErrOf result (GatheredFault.File (FileFault.Read file)) → D.faultless disk.old → (text : List ℕ) → IsInFile (D.at disk.old) files.now text → ⊥ }
     ensures right { D.faultless disk.old → IsKnown (D.at disk.old path.now) → (blob : List ℕ) → IsBlob (fixed_as root.now mode.now how.capacity) blob
         → IsRightAt (D.at disk.old) (D.at disk.new) path.now how mode.now blob result
-        ⊎ HasCollision (IsFromFile form.now how.capacity (D.at disk.old) files.now) (fixed_as root.now mode.now how.capacity) blob }
+        ⊎ HasCollision (IsFromFile form.now (fixed_as root.now mode.now how.capacity) how.long (D.at disk.old) files.now) (fixed_as root.now mode.now how.capacity) blob }
     ensures too_large { AreSlices form.now → D.faultless disk.old → IsErrOf result (GatheredFault.Gather GatherFault.TooLarge)
-        → AreTooLong (IsFromFile form.now how.capacity (D.at disk.old) files.now) (fixed_as root.now mode.now how.capacity) how.capacity }
+        → AreTooLong (IsFromFile form.now (fixed_as root.now mode.now how.capacity) how.long (D.at disk.old) files.now) (fixed_as root.now mode.now how.capacity) how.capacity }
     ensures available { D.faultless disk.old → IsKnown (D.at disk.old path.now) → (blob : List ℕ) → AreEnough form.now (fixed_as root.now mode.now how.capacity) how blob (IsInFile (D.at disk.old) files.now)
         → IsPutAt (D.at disk.old) (D.at disk.new) path.now how mode.now blob result
-        ⊎ HasCollision (IsFromFile form.now how.capacity (D.at disk.old) files.now) (fixed_as root.now mode.now how.capacity) blob }
+        ⊎ HasCollision (IsFromFile form.now (fixed_as root.now mode.now how.capacity) how.long (D.at disk.old) files.now) (fixed_as root.now mode.now how.capacity) blob }
     ensures looked { LooksUnfinished result notes.old.lack notes.new.lack }
     ensures listed { IsErrOf result (GatheredFault.Gather GatherFault.Unfinished) → D.faultless disk.old
-        → IsLackIn (wanted_for root.now mode.now form.now how.grain) how.capacity how.parts (D.at disk.old) files.now notes.new.lack }
+        → IsLackIn (wanted_for root.now mode.now form.now how.grain) how.long how.capacity how.parts (D.at disk.old) files.now notes.new.lack }
 {
     let wanted = Wanted {
         mode,
@@ -744,15 +786,15 @@ pub fn gather_beside_on<'a, R: AllocGlobal + Threads + Sync, D: Disk, P: Progres
     ensures unread { (file : Bor (List ℕ)) → IsErrOf result (GatheredFault.File (FileFault.Read file)) → D.faultless disk.old → (text : List ℕ) → IsInFile (D.at disk.old) files.now text → file ≡ outboard.entry }
     ensures right { D.faultless disk.old → IsKnown (D.at disk.old path.now) → (blob : List ℕ) → IsBlob (fixed_as root.now mode.now how.capacity) blob
         → IsRightAt (D.at disk.old) (D.at disk.new) path.now how mode.now blob result
-        ⊎ CollidesBesideOutline (fixed_as root.now mode.now how.capacity) how.capacity (D.at disk.old) outboard.now files.now blob }
+        ⊎ CollidesBesideOutline (fixed_as root.now mode.now how.capacity) how.long (D.at disk.old) outboard.now files.now blob }
     ensures available { D.faultless disk.old → IsKnown (D.at disk.old path.now) → (blob : List ℕ) → IsBlob (fixed_as root.now mode.now how.capacity) blob
         → HasRoom how (length blob) → 0 < length blob → length blob < 2 ^ 64 → D.at disk.old outboard.now ≡ Stored (outboard_text mode.now blob)
         → IsInFile (D.at disk.old) files.now blob ⊎ HaveBytes (IsInFile (D.at disk.old) files.now) how.grain blob
         → IsPutAt (D.at disk.old) (D.at disk.new) path.now how mode.now blob result
-        ⊎ CollidesBeside (fixed_as root.now mode.now how.capacity) how.capacity (D.at disk.old) files.now blob }
+        ⊎ CollidesBeside (fixed_as root.now mode.now how.capacity) how.long (D.at disk.old) files.now blob }
     ensures looked { LooksUnfinished result notes.old.lack notes.new.lack }
     ensures listed { IsErrOf result (GatheredFault.Gather GatherFault.Unfinished) → D.faultless disk.old
-        → IsLackBeside root.now mode.now how.grain how.capacity how.parts (D.at disk.old) outboard.now files.now notes.new.lack }
+        → IsLackBeside root.now mode.now how.grain how.long how.capacity how.parts (D.at disk.old) outboard.now files.now notes.new.lack }
 {
     // For the prover alone: the flags of a mode are apart from the tree's.
     mode.is_keyed();

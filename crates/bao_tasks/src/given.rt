@@ -1,23 +1,26 @@
-ghost use Rattle.std.specs.Prelude.{◌≡◌, ◌≢◌, ◌⊎◌, IfErr, IfOk, IfSome, OnOk, Some, false, take, true};
+ghost use Rattle.std.specs.Prelude.{◌≡◌, ◌≢◌, ℕ, [], IfErr, IfOk, IfSome, OnOk, Some, take, true};
+ghost use Rattle.std.specs.Io.KnownBytes.{Appends};
 ghost use Rattle.bao_files.specs.Disks.{Absent, IsStored};
 ghost use Rattle.bao_files.specs.declared.fault.FileFault.TheVariants as FileFault;
 ghost use Rattle.bao_tasks.specs.FromFiles.{taken_bytes};
 ghost use Rattle.bao_tasks.specs.Givens.{given_contents, is_given_faultless, most_bytes};
 
 use b3par::Source;
-use b3tree::CHUNK_LEN;
 use bao_files::{Disk, FileFault, read_input};
 use bao_text::encoded_len;
 use holders::Form;
 use std::alloc::Global;
 use std::io;
-use std::io::Read;
+use std::io::{Read, Write};
+
+// How many bytes are copied at a time.
+const COPY_LEN: usize = 1 << 16;
 
 /// The bytes of a file that a blob is gathered from. A regular file is read by position; the bytes of any other
-/// are held in memory.
+/// are copied to a draft, or held in memory.
 #[derive(Drop)]
 pub enum Given<I> {
-    /// An open regular file.
+    /// An open regular file, or a draft that is read back.
     Placed(I),
     /// The bytes read from a file that can't be read by position, such as a pipe.
     Held(Vec<u8>),
@@ -45,19 +48,26 @@ impl<I: Source> Source for Given<I> {
     }
 }
 
-/// Opens a regular file and returns it with the length that the disk reports, or 0 if it reports none.
+/// A file that was opened: its bytes, how many they are, and whether it has more, which aren't read.
+#[derive(Drop)]
+pub(crate) struct Opened<I> {
+    pub(crate) given: Given<I>,
+    pub(crate) len: u64,
+    pub(crate) is_cut: bool,
+}
+
+/// Opens a regular file. Its length is the one that the disk reports, or 0 if it reports none.
 ///
 /// Refuses with `Read` and the path if the file can't be opened or a first read of it fails, and with `Memory` if
 /// there is none to open it.
 pub(crate) fn placed<'a, D: Disk>(
     disk: &D,
     path: &'a str,
-) -> Result<(Given<D::Input>, u64), FileFault<'a>>
-    ensures bytes { IfOk result (λ made. IfSome (taken_bytes true 0 (D.at disk.now path.now)) (λ bytes. given_contents D.Input.contents made.0 ≡ Some bytes)) }
-    ensures sure { IfOk result (λ made. D.faultless disk.now → is_given_faultless D.Input.faultless made.0) }
+) -> Result<Opened<D::Input>, FileFault<'a>>
+    ensures bytes { IfOk result (λ made. (most : ℕ) → IfSome (taken_bytes true most (D.at disk.now path.now)) (λ bytes. given_contents D.Input.contents made.given ≡ Some bytes)) }
+    ensures sure { IfOk result (λ made. D.faultless disk.now → is_given_faultless D.Input.faultless made.given) }
     ensures found { OnOk result (D.at disk.now path.now ≢ Absent) }
     ensures there { IfErr result (λ fault. D.faultless disk.now → IsStored (D.at disk.now path.now) → fault ≡ FileFault.Memory) }
-    ensures fault { IfErr result (λ fault. (fault ≡ FileFault.Memory) ⊎ (fault ≡ FileFault.Read path.entry)) }
 {
     let file = disk.open(path)?;
     if file.read_at(&mut [0], 0).is_err() {
@@ -67,52 +77,109 @@ pub(crate) fn placed<'a, D: Disk>(
         Some(extent) => extent.len,
         None => 0,
     };
-    Ok((Given::Placed(file), len))
+    Ok(Opened {
+        given: Given::Placed(file),
+        len,
+        is_cut: false,
+    })
 }
 
-// The length in bytes of the longest encoding, or copy, of a blob of at most `capacity` chunks, and one more.
-fn most_bytes(form: &Form<'_>, capacity: u32) -> u64
-    ensures { result ≡ most_bytes form.now capacity }
+/// How many bytes of a file can help to gather a blob of at most `len` bytes: those of the longest encoding, or copy,
+/// and one more, but fewer than 2^64.
+pub(crate) fn most_bytes(form: &Form<'_>, len: u64) -> u64
+    ensures { result ≡ most_bytes form.now len }
 {
-    let len = CHUNK_LEN as u64 * u64::from(capacity);
     match form {
-        Form::Slices => encoded_len(len) as u64 + 1,
-        Form::Bare(_) => len + 1,
+        Form::Slices => u64::try_from(encoded_len(len) + 1).unwrap_or(u64::MAX),
+        Form::Bare(_) => len.saturating_add(1),
     }
 }
 
-// Reads the next `most` bytes of `input`, the file at `path`, or all that are left.
-fn read_most<'a, I: Read + Drop>(
+/// Reads `input`, the file at `path`, into memory: its first `most` bytes, or all if it has fewer.
+///
+/// Refuses with `Read` and the path if a read fails, and with `Memory` if there is none for the bytes.
+pub(crate) fn held<'a, I: Read + Source + Drop>(
     alloc: Global,
     input: I,
     most: u64,
     path: &'a str,
-) -> Result<Vec<u8>, FileFault<'a>>
-    ensures text { IfOk result (λ text. IfSome (I.remaining input) (λ left. text.items ≡ take most left)) }
-    ensures fault { IfErr result (λ fault. (fault ≡ FileFault.Memory) ⊎ (fault ≡ FileFault.Read path.entry)) }
+) -> Result<Opened<I>, FileFault<'a>>
+    ensures bytes { IfOk result (λ made. IfSome (I.remaining input) (λ left. given_contents I.contents made.given ≡ Some (take most left))) }
+    ensures sure { IfOk result (λ made. is_given_faultless I.faultless made.given) }
 {
     let mut input = input.take(most);
-    read_input(alloc, &mut input, 0, path)
+    let text = read_input(alloc, &mut input, 0, path)?;
+    let len = text.len() as u64;
+    Ok(Opened {
+        given: Given::Held(text),
+        len,
+        is_cut: len >= most,
+    })
 }
 
-/// Reads a file that isn't regular into memory and returns its bytes with their number.
-///
-/// At most one byte more is read than the longest encoding, or copy, of a blob of `capacity` chunks has. Refuses
-/// with `Read` and the path if the file can't be opened or read, and with `Memory` if there is none for its bytes.
-pub(crate) fn held<'a, D: Disk>(
-    alloc: Global,
-    disk: &D,
-    form: &Form<'_>,
-    capacity: u32,
-    path: &'a str,
-) -> Result<(Given<D::Input>, u64), FileFault<'a>>
-    ensures bytes { IfOk result (λ made. IfSome (taken_bytes false (most_bytes form.now capacity) (D.at disk.now path.now)) (λ bytes. given_contents D.Input.contents made.0 ≡ Some bytes)) }
-    ensures sure { IfOk result (λ made. D.faultless disk.now → is_given_faultless D.Input.faultless made.0) }
-    ensures found { OnOk result (D.at disk.now path.now ≢ Absent) }
-    ensures fault { IfErr result (λ fault. (fault ≡ FileFault.Memory) ⊎ (fault ≡ FileFault.Read path.entry)) }
+/// Returns an empty draft of the file at `beside`, to copy a file to, if a draft can be written and isn't written to
+/// `beside` itself.
+pub(crate) fn spool<D: Disk>(disk: &D, beside: &str) -> Option<D::Draft>
+    ensures { IfSome result (λ draft. D.faultless disk.now → D.Draft.contents draft ≡ Some []) }
 {
-    let file = disk.open(path)?;
-    let text = read_most(alloc, file, most_bytes(form, capacity), path)?;
-    let len = text.len() as u64;
-    Ok((Given::Held(text), len))
+    let mut draft = disk.draft(beside).ok()?;
+    if !disk.is_replaced(&draft) {
+        return None;
+    }
+    draft.flush().ok()?;
+    Some(draft)
+}
+
+// Copies what `input`, the file at `path`, has left to a draft of the file at `beside`, and returns how many bytes that is.
+fn copy_rest<'a, I: Read, W: Write>(
+    input: &mut I,
+    path: &'a str,
+    draft: &mut W,
+    beside: &'a str,
+) -> Result<u64, FileFault<'a>>
+    ensures { OnOk result (IfSome (I.remaining input.old) (Appends (W.contents draft.old) (W.contents draft.new))) }
+{
+    let mut buf = [0; COPY_LEN];
+    let mut len = 0u64;
+    'copies: for _ in 0..u64::MAX {
+        let Ok(count) = input.read(&mut buf) else {
+            return Err(FileFault::Read(path));
+        };
+        if count == 0 {
+            return Ok(len);
+        }
+        let Ok(()) = draft.write_all(&buf[..count]) else {
+            return Err(FileFault::Write(beside));
+        };
+        len = len.saturating_add(count as u64);
+    }
+    Err(FileFault::Read(path))
+}
+
+/// Copies `input`, the file at `path`, to `draft`, an empty draft of the file at `beside`: its first `most` bytes, or all
+/// if it has fewer. The draft is gone as soon as the copy isn't used any more.
+///
+/// Refuses with `Read` and the path if a read fails, with `Write` and `beside` if the draft can't be written or read back,
+/// and with `Memory`.
+pub(crate) fn spooled<'a, D: Disk>(
+    disk: &D,
+    input: D::Input,
+    draft: D::Draft,
+    most: u64,
+    path: &'a str,
+    beside: &'a str,
+) -> Result<Opened<D::Input>, FileFault<'a>>
+    requires { D.faultless disk.now → D.Draft.contents draft ≡ Some [] }
+    ensures bytes { IfOk result (λ made. D.faultless disk.now → IfSome (D.Input.remaining input) (λ left. given_contents D.Input.contents made.given ≡ Some (take most left))) }
+    ensures sure { IfOk result (λ made. D.faultless disk.now → is_given_faultless D.Input.faultless made.given) }
+{
+    let mut draft = draft;
+    let mut input = input.take(most);
+    let len = copy_rest(&mut input, path, &mut draft, beside)?;
+    let copy = disk.read_back(draft, beside)?;
+    Ok(Opened {
+        given: Given::Placed(copy),
+        len,
+        is_cut: len >= most,
+    })
 }

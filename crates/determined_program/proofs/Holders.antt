@@ -185,8 +185,8 @@ blob_is : (sure : Type 0) (at after : List ℕ → FileState) (m : Mode) (task :
     → IsBlobOf sure at after m task old new → (Writes at after m task (list_of task) blob × Appends old new (line_of m task blob)) ⊎ CollidesIn at m task blob
 blob_is sure at after m (Gather task) old new blob surely is of =
     let key : of.0 ≡ is.1.0 = one_root task.root.now task.root.now of.0 is.1.0 refl of.1.0 is.1.1.0 in
-    let each : IsEachBlob sure at after m task.encode task.capacity task.outboard task.files.items task.out.now task.missing old new is.1.0 =
-    subst (λ (r : Root32). IsEachBlob sure at after m task.encode task.capacity task.outboard task.files.items task.out.now task.missing old new r) key of.1.1 in
+    let each : IsEachBlob sure at after m task.encode task.long task.capacity task.outboard task.files.items task.out.now task.missing old new is.1.0 =
+    subst (λ (r : Root32). IsEachBlob sure at after m task.encode task.long task.capacity task.outboard task.files.items task.out.now task.missing old new r) key of.1.1 in
     elim (each surely is.0 blob is.1.1.1) [
       | inl put ↦ inl put
       | inr pair ↦ inr (is.1.0, (is.1.1.0, pair))

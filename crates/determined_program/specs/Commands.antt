@@ -92,7 +92,7 @@ IsGatheredUnder at mode task blob = ⊥
 -- a collision of the blob with a piece of the task's files is exhibited
 abbrev pub CollidesIn : (List ℕ → FileState) → Mode → Task → List ℕ → Type 0
 CollidesIn at mode (Gather task) blob =
-    OfRoot task.root.now (λ r. Collides (fixed_as r mode task.capacity) task.capacity at task.outboard task.files.items blob)
+    OfRoot task.root.now (λ r. Collides (fixed_as r mode task.capacity) task.long at task.outboard task.files.items blob)
 CollidesIn at mode task blob = ⊥
 
 -- so it is of what the words ask for

@@ -54,12 +54,12 @@ pub fn gather_on_determined<
     ensures absent { AreAbsent (D.at ours.old) files.now → AreSameFaults result.0 result.1 }
     ensures right { D.faultless ours.old → E.faultless theirs.old → IsKnown (D.at ours.old path.now) → (blob : List ℕ) → IsBlob (fixed_as root.now mode.now how.capacity) blob
         → SameRight (D.at ours.old) (D.at ours.new) (E.at theirs.new) result.0 result.1
-        ⊎ HasCollision (IsFromFile form.now how.capacity (D.at ours.old) files.now) (fixed_as root.now mode.now how.capacity) blob }
+        ⊎ HasCollision (IsFromFile form.now (fixed_as root.now mode.now how.capacity) how.long (D.at ours.old) files.now) (fixed_as root.now mode.now how.capacity) blob }
     ensures enough { D.faultless ours.old → E.faultless theirs.old → IsKnown (D.at ours.old path.now) → (blob : List ℕ)
         → AreEnough form.now (fixed_as root.now mode.now how.capacity) how blob (IsInFile (D.at ours.old) files.now)
         → AreEnough form.now (fixed_as root.now mode.now how.capacity) other_how blob (IsInFile (D.at ours.old) files.now)
         → AgreeUnless (λ m n. (m ≡ n) × SameWhereKnown (D.at ours.old) (D.at ours.new) (E.at theirs.new)) IsExcusedGathering IsExcusedGathering result.0 result.1
-        ⊎ HasCollision (IsFromFile form.now how.capacity (D.at ours.old) files.now) (fixed_as root.now mode.now how.capacity) blob }
+        ⊎ HasCollision (IsFromFile form.now (fixed_as root.now mode.now how.capacity) how.long (D.at ours.old) files.now) (fixed_as root.now mode.now how.capacity) blob }
 {
     (
         gather_on(
@@ -113,14 +113,14 @@ pub fn gather_beside_on_determined<
     ensures outboard { (text : List ℕ) → D.at ours.old outboard.now ≡ Stored text → SameOutboard result.0 result.1 }
     ensures right { D.faultless ours.old → E.faultless theirs.old → IsKnown (D.at ours.old path.now) → (blob : List ℕ) → IsBlob (fixed_as root.now mode.now how.capacity) blob
         → SameRight (D.at ours.old) (D.at ours.new) (E.at theirs.new) result.0 result.1
-        ⊎ CollidesBesideOutline (fixed_as root.now mode.now how.capacity) how.capacity (D.at ours.old) outboard.now files.now blob }
+        ⊎ CollidesBesideOutline (fixed_as root.now mode.now how.capacity) how.long (D.at ours.old) outboard.now files.now blob }
     ensures enough { D.faultless ours.old → E.faultless theirs.old → IsKnown (D.at ours.old path.now) → (blob : List ℕ)
         → IsBlob (fixed_as root.now mode.now how.capacity) blob → HasRoom how (length blob) → 0 < length blob → length blob < 2 ^ 64
         → D.at ours.old outboard.now ≡ Stored (outboard_text mode.now blob)
         → IsInFile (D.at ours.old) files.now blob ⊎ HaveBytes (IsInFile (D.at ours.old) files.now) how.grain blob
         → IsInFile (D.at ours.old) files.now blob ⊎ HaveBytes (IsInFile (D.at ours.old) files.now) other_how.grain blob
         → AgreeUnless (λ m n. (m ≡ n) × SameWhereKnown (D.at ours.old) (D.at ours.new) (E.at theirs.new)) IsExcusedGathering IsExcusedGathering result.0 result.1
-        ⊎ CollidesBeside (fixed_as root.now mode.now how.capacity) how.capacity (D.at ours.old) files.now blob }
+        ⊎ CollidesBeside (fixed_as root.now mode.now how.capacity) how.long (D.at ours.old) files.now blob }
 {
     (
         gather_beside_on(

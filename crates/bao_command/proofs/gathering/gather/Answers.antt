@@ -109,7 +109,7 @@ each_blob at between after out how mode list old new count blob result is listed
 listed_gaps : (sure : Type 0) (at after : List ℕ → FileState) (mode : Mode) (task : GatherTask) (cause : GatheredFault) (unlisted : Option FileFault) (lack : Lack) (root : Root32) (most : ℕ)
     (list : Option (Bor (List ℕ))) → task.missing ≡ list → decode_of task.root.now ≡ Ok root.0 → (IsSome list → most ≡ 2 ^ 64 - 1) → Lists at after list (lines_of_parts (parts_in lack))
     → (cause ≢ Gather gather.Unfinished → lack ≡ Unasked)
-    → (cause ≡ Gather gather.Unfinished → sure → IsLack root mode (if task.salvage then ByChunk else ByGroup) task.capacity most at task.outboard task.files.items lack)
+    → (cause ≡ Gather gather.Unfinished → sure → IsLack root mode (if task.salvage then ByChunk else ByGroup) task.long task.capacity most at task.outboard task.files.items lack)
     → LeavesListOf sure at after mode (GatherOf task) (Ungathered cause unlisted)
 listed_gaps sure at after mode task cause unlisted lack root most None is of all lists unasked right = inl lists
 listed_gaps sure at after mode task cause unlisted lack root most (Some list) is of all lists unasked right = inr (inr (
@@ -124,7 +124,7 @@ listed_gaps sure at after mode task cause unlisted lack root most (Some list) is
       lists = subst (λ (named : Option (Bor (List ℕ))). Lists at after named (lines_of_parts (parts_in lack))) (sym is) lists;
       unasked = unasked;
       right = λ unfinished sound.
-          subst (λ (n : ℕ). IsLack root mode (if task.salvage then ByChunk else ByGroup) task.capacity n at task.outboard task.files.items lack) (all refl) (right unfinished sound);
+          subst (λ (n : ℕ). IsLack root mode (if task.salvage then ByChunk else ByGroup) task.long task.capacity n at task.outboard task.files.items lack) (all refl) (right unfinished sound);
     },
   ),
 ))
@@ -146,7 +146,7 @@ returns-in-Ok-gathered-clause-blob g c =
     let new = g.O.Write.contents c.print_count.new.out in
     let told = subst (CommandPrints line old new) (sym c.told.ensures.prints) (told_prints line old new c.print_count.result c.print_count.ensures.prints) in
     on_line line old new c.told.result told (λ printed.
-    let each : IsEachBlob (g.D.Disk.faultless c.args.disk.now) at after mode how.encode how.capacity task.outboard c.as_slice-files.result.now out list old new root = elim c.match-task.branch [
+    let each : IsEachBlob (g.D.Disk.faultless c.args.disk.now) at after mode how.encode how.long how.capacity task.outboard c.as_slice-files.result.now out list old new root = elim c.match-task.branch [
       | in-None w ↦ rw w.in-None.is (λ sure known blob is_blob.
           each_blob at (g.D.Disk.at w.gather_on-gathered.new.disk) after out how mode list old new count blob w.gather_on-gathered.result (sym w.gathered-is ∙ c.in-Ok-gathered.is)
           (subst (λ d. Lists (g.D.Disk.at d) after list []) w.disk-is c.in_ok-list_nothing-in-Ok-gathered.ensures.lists) printed (w.gather_on-gathered.ensures.right sure known blob is_blob))
@@ -154,8 +154,8 @@ returns-in-Ok-gathered-clause-blob g c =
           each_blob at (g.D.Disk.at w.gather_beside_on-gathered.new.disk) after out how mode list old new count blob w.gather_beside_on-gathered.result (sym w.gathered-is ∙ c.in-Ok-gathered.is)
           (subst (λ d. Lists (g.D.Disk.at d) after list []) w.disk-is c.in_ok-list_nothing-in-Ok-gathered.ensures.lists) printed (w.gather_beside_on-gathered.ensures.right sure known blob is_blob))
     ] in
-    let all : IsEachBlob (g.D.Disk.faultless c.args.disk.now) at after mode task.encode task.capacity task.outboard task.files.items out list old new root =
-    subst (λ (files : List (Bor (List ℕ))). IsEachBlob (g.D.Disk.faultless c.args.disk.now) at after mode task.encode task.capacity task.outboard files out list old new root) c.as_slice-files.ensures.value each in
+    let all : IsEachBlob (g.D.Disk.faultless c.args.disk.now) at after mode task.encode task.long task.capacity task.outboard task.files.items out list old new root =
+    subst (λ (files : List (Bor (List ℕ))). IsEachBlob (g.D.Disk.faultless c.args.disk.now) at after mode task.encode task.long task.capacity task.outboard files out list old new root) c.as_slice-files.ensures.value each in
     (root, (c.in_ok-root.ensures.ok, all)))
 
 pub returns-in-Ok-gathered-clause-prints : goal.returns-in-Ok-gathered-clause-prints
@@ -413,21 +413,21 @@ returns-clause-gaps g c =
           (not_looked w.gather_beside_on-gathered.result fault c.in-Ok.notes.lack w.gather_beside_on-gathered.new.notes.lack (sym w.gathered-is ∙ c.in-Err.is) w.gather_beside_on-gathered.ensures.looked
           c.in-Ok.ensures.lack other)
     ] in
-    let right : fault ≡ Gather gather.Unfinished → g.D.Disk.faultless c.args.disk.now → IsLack root c.args.mode.now how.grain how.capacity how.parts at task.outboard c.as_slice-files.result.now lack =
+    let right : fault ≡ Gather gather.Unfinished → g.D.Disk.faultless c.args.disk.now → IsLack root c.args.mode.now how.grain how.long how.capacity how.parts at task.outboard c.as_slice-files.result.now lack =
     λ is sure. elim c.match-task.branch [
       | in-None w ↦
           rw w.in-None.is
-          (subst (λ n. IsLack root c.args.mode.now how.grain how.capacity how.parts at None c.as_slice-files.result.now n.lack) (sym w.notes-is)
+          (subst (λ n. IsLack root c.args.mode.now how.grain how.long how.capacity how.parts at None c.as_slice-files.result.now n.lack) (sym w.notes-is)
           (w.gather_on-gathered.ensures.listed (sym w.gathered-is ∙ c.in-Err.is ∙ ap (λ (f : GatheredFault). Err f) is) sure))
       | in-Some w ↦
           rw w.in-Some.is
-          (subst (λ n. IsLack root c.args.mode.now how.grain how.capacity how.parts at (Some w.in-Some.outboard) c.as_slice-files.result.now n.lack) (sym w.notes-is)
+          (subst (λ n. IsLack root c.args.mode.now how.grain how.long how.capacity how.parts at (Some w.in-Some.outboard) c.as_slice-files.result.now n.lack) (sym w.notes-is)
           (w.gather_beside_on-gathered.ensures.listed (sym w.gathered-is ∙ c.in-Err.is ∙ ap (λ (f : GatheredFault). Err f) is) sure))
     ] in
     let exact : fault ≡ Gather gather.Unfinished → g.D.Disk.faultless c.args.disk.now
-    → IsLack root c.args.mode.now (if task.salvage then ByChunk else ByGroup) task.capacity how.parts at task.outboard task.files.items lack = λ is sure.
-    subst (λ (files : List (Bor (List ℕ))). IsLack root c.args.mode.now (if task.salvage then ByChunk else ByGroup) task.capacity how.parts at task.outboard files lack) c.as_slice-files.ensures.value
-    (subst (λ (grain : Grain). IsLack root c.args.mode.now grain task.capacity how.parts at task.outboard c.as_slice-files.result.now lack) c.grain_of.ensures (right is sure)) in
+    → IsLack root c.args.mode.now (if task.salvage then ByChunk else ByGroup) task.long task.capacity how.parts at task.outboard task.files.items lack = λ is sure.
+    subst (λ (files : List (Bor (List ℕ))). IsLack root c.args.mode.now (if task.salvage then ByChunk else ByGroup) task.long task.capacity how.parts at task.outboard files lack) c.as_slice-files.ensures.value
+    (subst (λ (grain : Grain). IsLack root c.args.mode.now grain task.long task.capacity how.parts at task.outboard c.as_slice-files.result.now lack) c.grain_of.ensures (right is sure)) in
     elim c.relist-unlisted-in-Err.ensures.kept [
       | inl also ↦ inl (before_put at between after kept also)
       | inr listed ↦

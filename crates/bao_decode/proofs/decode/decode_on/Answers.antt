@@ -35,5 +35,5 @@ returns-clause-done g c =
       done.2.0,
       done.2.1,
       puts_text before (g.D.Disk.at c.finish.new.self) c.args.path.now (g.D.Draft.Write.contents c.in-Ok.out) (g.D.Draft.Write.contents c.write_input.new.out)
-          (part_bytes c.args.part.now done.0) c.in-Ok.ensures done.2.2 c.in_ok-finish.ensures.put,
+          (part_bytes c.args.part.now done.0) c.in-Ok.ensures.known done.2.2 c.in_ok-finish.ensures.put,
     )

@@ -29,7 +29,7 @@ returns-in_err-count-clause-refused g c =
     (subst (λ (t : List ℕ). IsAccepted mode root t (outboard_nodes t)) c.as_slice-2.ensures.value accepted) (subst AreBytes c.as_slice.ensures.value c.bytes_are.ensures) in
     beside_stops c.in-Ok.outline mode root text outline bytes (g.D.Input.Source.faultless input) (g.D.Disk.faultless c.args.disk.now) c.args.outboard c.args.copy c.args.path fault
     c.in-Ok.ensures.outline accepted (c.as_slice-2.ensures.value ∙ stored_is (before c.args.outboard.now) c.in_ok-text.text.items outline at_outboard whole) c.in_ok-input.ensures.sure
-    (c.in_err-count.ensures.refused (is_some (g.D.Draft.Write.contents c.in-Ok-draft.out) [] (c.in-Ok-draft.ensures known)) bytes
+    (c.in_err-count.ensures.refused (is_some (g.D.Draft.Write.contents c.in-Ok-draft.out) [] (c.in-Ok-draft.ensures.known known)) bytes
     (contents_of_file (before c.args.copy.now) (g.D.Input.Source.contents input) (g.D.Input.Read.remaining input) bytes at_copy c.in_ok-input.ensures.opened)))
 
 pub returns-in_err-finish-clause-refused : goal.returns-in_err-finish-clause-refused
@@ -73,5 +73,5 @@ returns-clause-done g c =
       subst (λ (t : List ℕ). IsCopyBeside mode root t done.0) c.as_slice-2.ensures.value (beside_of c.in-Ok.outline mode root text done.0 c.in-Ok.ensures.outline accepted done.2.0),
       done.3,
       puts_text before (g.D.Disk.at c.finish.new.self) c.args.path.now (g.D.Draft.Write.contents c.in-Ok-draft.out) (g.D.Draft.Write.contents c.write_input.new.out)
-          done.0 c.in-Ok-draft.ensures done.4 c.in_ok-finish.ensures.put,
+          done.0 c.in-Ok-draft.ensures.known done.4 c.in_ok-finish.ensures.put,
     )

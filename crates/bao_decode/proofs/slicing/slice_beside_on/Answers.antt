@@ -58,7 +58,7 @@ returns-in_err-plain-clause-refused g c =
     → CutBesideStops mode root start len disk outline bytes c.args.outboard c.args.copy c.args.path f) exit.1 exit.2
     (λ known outline bytes at_outboard at_copy.
     inr (unopened_stops mode root start len (cut_beside outline bytes start len) disk c.args.copy c.args.path c.in_err-plain.field-0.0 c.in_err-plain.ensures.fault
-    (λ d. c.in_err-plain.ensures.there (is_some (g.D.Draft.Write.contents c.in-Ok.out) [] (c.in-Ok.ensures known)) d (subst IsStored (sym at_copy) tt))))
+    (λ d. c.in_err-plain.ensures.there (is_some (g.D.Draft.Write.contents c.in-Ok.out) [] (c.in-Ok.ensures.known known)) d (subst IsStored (sym at_copy) tt))))
 
 pub returns-in_err-finish-clause-refused : goal.returns-in_err-finish-clause-refused
 returns-in_err-finish-clause-refused g c =
@@ -104,7 +104,7 @@ returns-clause-done g c =
       done.2,
       done.3,
       puts_text before (g.D.Disk.at c.finish.new.self) c.args.path.now (g.D.Draft.Write.contents c.in-Ok.out) (g.D.Draft.Write.contents c.write_encoding.new.out)
-          done.0 c.in-Ok.ensures done.4 c.in_ok-finish.ensures.put,
+          done.0 c.in-Ok.ensures.known done.4 c.in_ok-finish.ensures.put,
     )
 
 pub returns-clause-slice : goal.returns-clause-slice

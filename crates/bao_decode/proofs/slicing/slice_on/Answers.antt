@@ -65,7 +65,7 @@ returns-clause-done g c =
       done.2,
       done.3,
       puts_text before (g.D.Disk.at c.finish.new.self) c.args.path.now (g.D.Draft.Write.contents c.in-Ok.out) (g.D.Draft.Write.contents c.write_slice.new.out)
-          done.0 c.in-Ok.ensures done.4 c.in_ok-finish.ensures.put,
+          done.0 c.in-Ok.ensures.known done.4 c.in_ok-finish.ensures.put,
     )
 
 pub returns-clause-slice : goal.returns-clause-slice

@@ -26,7 +26,7 @@ returns-clause-done g c =
       made.0,
       made.1,
       said.0,
-      puts_text before (g.D.Disk.at c.finish.new.self) path.now empty full (encoding_text mode kind made.0) c.in-Ok.ensures said.1 c.in_ok-finish.ensures.put,
+      puts_text before (g.D.Disk.at c.finish.new.self) path.now empty full (encoding_text mode kind made.0) c.in-Ok.ensures.known said.1 c.in_ok-finish.ensures.put,
     )
 
 pub returns-in_err-hash-clause-refused : goal.returns-in_err-hash-clause-refused
@@ -47,7 +47,7 @@ returns-in_err-hash-clause-refused g c =
     let opens : Opens (Stored bytes) (g.D.Input.Source.contents own) (g.D.Input.Read.remaining own) =
     subst (λ (s : FileState). Opens s (g.D.Input.Source.contents own) (g.D.Input.Read.remaining own)) stored c.in_ok-input.ensures.opened in
     let there : g.D.Input.Source.contents own ≡ Some bytes = opens.0 in
-    let replaced : c.is_replaced.result ≡ true = c.is_replaced.ensures (subst IsSome (sym (c.in-Ok.ensures known)) refl) in
+    let replaced : c.is_replaced.result ≡ true = c.is_replaced.ensures (subst IsSome (sym (c.in-Ok.ensures.known known)) refl) in
     let size_is : c.if-not-is_replaced.size ≡ length bytes = elim c.if-not-is_replaced.branch [
       | then-not-is_replaced+then-is_same w ↦ absurd (let no = w.if-not-is_replaced.true in cc)
       | else-not-is_replaced+in_ok-size w ↦

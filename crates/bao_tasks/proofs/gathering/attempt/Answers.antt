@@ -23,7 +23,7 @@ returns-in-Ok-ended-clause-right g c = λ known blob is.
     let right = subst (λ (r : Result ℕ GatheredFault). IsRightOf handed (fixed_as wanted.root.now wanted.mode.now wanted.how.capacity) wanted.how.encode blob before after r) c.in-Ok-ended.is
     (c.write_taken-ended.ensures.gathered.right known blob is) in
     elim right [
-      | inl done ↦ inl (done.0, all_of_draft after text (subst (λ (t : Option (List ℕ)). Appends t after text) (c.in-Ok.ensures known) done.1))
+      | inl done ↦ inl (done.0, all_of_draft after text (subst (λ (t : Option (List ℕ)). Appends t after text) (c.in-Ok.ensures.known known) done.1))
       | inr pair ↦ inr pair
     ]
 

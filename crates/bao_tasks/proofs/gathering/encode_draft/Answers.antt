@@ -35,6 +35,6 @@ returns-in-Ok-encode_input-clause-gathered g c =
     let old = g.D.Draft.Write.contents c.args.out.now in
     let new = g.D.Draft.Write.contents c.encode_input.new.out in
     rewritten (IsFromSource wanted.form.now contents faultless items) wanted.form.now (fixed_as wanted.root.now wanted.mode.now wanted.how.capacity) wanted.how (HasSound contents faultless items)
-    (IsKnown (g.D.Disk.at c.args.disk.now c.args.path.now)) ⊤ true (g.D.Draft.Write.contents c.in-Ok.draft) draft old new c.in_ok-count.count (λ _. tt) c.in-Ok.ensures c.in_ok-count.ensures.gathered
+    (IsKnown (g.D.Disk.at c.args.disk.now c.args.path.now)) ⊤ true (g.D.Draft.Write.contents c.in-Ok.draft) draft old new c.in_ok-count.count (λ _. tt) c.in-Ok.ensures.known c.in_ok-count.ensures.gathered
     (λ known. encoded_of draft (g.D.Input.Source.contents c.in_ok-blob.blob) (g.D.Input.Read.remaining c.in_ok-blob.blob) wanted.mode.now c.args.path c.args.path old new c.in-Ok-encode_input.hash
     c.in_ok-blob.ensures.opened c.in-Ok-encode_input.ensures.all)

@@ -86,7 +86,7 @@ returns-in-Err-clause-available g c = λ surely known blob is room some few own 
     subst (λ (t : List ℕ). IsEnoughOf c.args.mode.now c.args.root.now.0 state t) (sym c.as_slice-2.ensures.value) c.in_ok-text.ensures.enough in
     let fixed : Fixed = fixed_as c.args.root.now c.args.mode.now c.args.how.capacity in
     inr
-    (absurd {A = CollidesBeside fixed c.args.how.capacity (g.D.Disk.at c.args.disk.now) c.args.files.now blob}
+    (absurd {A = CollidesBeside fixed c.args.how.long (g.D.Disk.at c.args.disk.now) c.args.files.now blob}
     (own_faultless c.args.root.now c.args.mode.now c.args.how.capacity blob text state c.is_keyed.ensures is few read own c.in-Err.fault c.in-Err.ensures.fault))
 
 pub returns-clause-available : goal.returns-clause-available
@@ -98,7 +98,7 @@ returns-clause-available g c = λ surely known blob is room some few own copies.
     let outline = own_outline c.args.root.now c.args.mode.now c.args.how.capacity blob text state c.is_keyed.ensures is few read own c.in-Ok.outline c.in-Ok.ensures.outline
     (c.in-Ok.ensures.accepted.0 refl) some in
     beside_of (IsPutAt (g.D.Disk.at c.args.disk.now) (g.D.Disk.at c.gather_on.new.disk) c.args.path.now c.args.how c.args.mode.now blob c.gather_on.result)
-    (Bare (record { ref_ptr = (0, 0); now = c.in-Ok.outline })) (fixed_as c.args.root.now c.args.mode.now c.args.how.capacity) c.args.how.capacity (g.D.Disk.at c.args.disk.now) c.args.files.now blob
+    (Bare (record { ref_ptr = (0, 0); now = c.in-Ok.outline })) (fixed_as c.args.root.now c.args.mode.now c.args.how.capacity) c.args.how.long (g.D.Disk.at c.args.disk.now) c.args.files.now blob
     outline
     (c.gather_on.ensures.available surely known blob
     (record {
@@ -114,7 +114,7 @@ returns-clause-right g c = λ surely known blob is.
     let read : IsEnoughOf c.args.mode.now c.args.root.now.0 (at c.args.outboard.now) text =
     subst (λ (t : List ℕ). IsEnoughOf c.args.mode.now c.args.root.now.0 (at c.args.outboard.now) t) (sym c.as_slice-2.ensures.value) c.in_ok-text.ensures.enough in
     outlined_of (IsRightAt at (g.D.Disk.at c.gather_on.new.disk) c.args.path.now c.args.how c.args.mode.now blob c.gather_on.result) c.in-Ok.outline c.args.root.now c.args.mode.now
-    c.args.how.capacity at c.args.outboard.now c.args.files.now blob text (are_of (at c.args.outboard.now) c.args.mode.now c.args.root.now.0 text read (c.in-Ok.ensures.accepted.0 refl)
+    c.args.how.capacity c.args.how.long at c.args.outboard.now c.args.files.now blob text (are_of (at c.args.outboard.now) c.args.mode.now c.args.root.now.0 text read (c.in-Ok.ensures.accepted.0 refl)
     (subst AreBytes (c.as_slice.ensures.value ∙ sym c.as_slice-2.ensures.value) c.bytes_are.ensures))
     c.in-Ok.ensures.outline (c.gather_on.ensures.right surely known blob is)
 

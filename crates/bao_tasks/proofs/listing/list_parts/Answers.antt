@@ -20,4 +20,4 @@ returns-clause-put g c =
     let lines = lines_of_parts c.args.parts.now in
     let written : Appends empty full lines =
     of_no_fault (Appends empty full lines) c.write_parts.result (sym c.is_err.ensures.value ∙ c.if-is_err.false) c.write_parts.ensures in
-    where_ok _ _ c.finish.result (puts_lines before (g.D.Disk.at c.finish.new.self) c.args.path.now empty full lines c.in-Ok.ensures written) c.finish.ensures.put
+    where_ok _ _ c.finish.result (puts_lines before (g.D.Disk.at c.finish.new.self) c.args.path.now empty full lines c.in-Ok.ensures.known written) c.finish.ensures.put

@@ -54,11 +54,11 @@ returns-clause-right g c = λ surely also_surely known blob is.
     let s = c.gather_beside_on-2.result in
     let theirs_right = c.gather_beside_on-2.ensures.right also_surely (subst IsKnown (c.requires.same path) known) blob
     (subst (λ (k : ℕ). IsBlob (fixed_as root mode k) blob) c.requires.capacity is) in
-    rights_agree mode root.0 ours one other path how also blob (CollidesBesideOutline (fixed_as root mode how.capacity) how.capacity ours c.args.outboard.now c.args.files.now blob)
+    rights_agree mode root.0 ours one other path how also blob (CollidesBesideOutline (fixed_as root mode how.capacity) how.long ours c.args.outboard.now c.args.files.now blob)
     c.gather_beside_on.result s c.requires.encode (c.gather_beside_on.ensures.right surely known blob is)
     (subst (λ (T : Type 0). T)
     (λ i. IsRightAt (sym same i) other path also mode blob s
-    ⊎ CollidesBesideOutline (fixed_as root mode (sym c.requires.capacity i)) (sym c.requires.capacity i) (sym same i) c.args.outboard.now c.args.files.now blob) theirs_right)
+    ⊎ CollidesBesideOutline (fixed_as root mode (sym c.requires.capacity i)) (sym c.requires.long i) (sym same i) c.args.outboard.now c.args.files.now blob) theirs_right)
 
 pub returns-clause-enough : goal.returns-clause-enough
 returns-clause-enough g c = λ surely also_surely known blob is room some few own copies also_copies.
@@ -77,8 +77,8 @@ returns-clause-enough g c = λ surely also_surely known blob is room some few ow
     (subst (λ (k : ℕ). IsBlob (fixed_as root mode k) blob) c.requires.capacity is)
     (room_as how also (length blob) c.requires.long c.requires.capacity room) some few (sym (c.requires.same c.args.outboard.now) ∙ own)
     (subst (λ (at : List ℕ → FileState). IsInFile at c.args.files.now blob ⊎ HaveBytes (IsInFile at c.args.files.now) also.grain blob) same also_copies) in
-    enough_agree mode root.0 ours one other path how also blob (CollidesBeside (fixed_as root mode how.capacity) how.capacity ours c.args.files.now blob)
+    enough_agree mode root.0 ours one other path how also blob (CollidesBeside (fixed_as root mode how.capacity) how.long ours c.args.files.now blob)
     c.gather_beside_on.result s c.requires.encode (c.gather_beside_on.ensures.available surely known blob is room some few own copies)
     (subst (λ (T : Type 0). T)
     (λ i. IsPutAt (sym same i) other path also mode blob s
-    ⊎ CollidesBeside (fixed_as root mode (sym c.requires.capacity i)) (sym c.requires.capacity i) (sym same i) c.args.files.now blob) theirs_put)
+    ⊎ CollidesBeside (fixed_as root mode (sym c.requires.capacity i)) (sym c.requires.long i) (sym same i) c.args.files.now blob) theirs_put)

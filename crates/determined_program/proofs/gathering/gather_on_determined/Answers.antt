@@ -63,11 +63,11 @@ returns-clause-right g c = λ surely also_surely known blob is.
     let s = c.gather_on-2.result in
     let theirs_right = c.gather_on-2.ensures.right also_surely (subst IsKnown (c.requires.same path) known) blob
     (subst (λ (k : ℕ). IsBlob (fixed_as root mode k) blob) c.requires.capacity is) in
-    rights_agree mode root.0 ours one other path how also blob (HasCollision (IsFromFile c.args.form.now how.capacity ours c.args.files.now) (fixed_as root mode how.capacity) blob)
+    rights_agree mode root.0 ours one other path how also blob (HasCollision (IsFromFile c.args.form.now (fixed_as root mode how.capacity) how.long ours c.args.files.now) (fixed_as root mode how.capacity) blob)
     c.gather_on.result s c.requires.encode (c.gather_on.ensures.right surely known blob is)
     (subst (λ (T : Type 0). T)
     (λ i. IsRightAt (sym same i) other path also mode blob s
-    ⊎ HasCollision (IsFromFile c.args.form.now (sym c.requires.capacity i) (sym same i) c.args.files.now) (fixed_as root mode (sym c.requires.capacity i)) blob) theirs_right)
+    ⊎ HasCollision (IsFromFile c.args.form.now (fixed_as root mode (sym c.requires.capacity i)) (sym c.requires.long i) (sym same i) c.args.files.now) (fixed_as root mode (sym c.requires.capacity i)) blob) theirs_right)
 
 pub returns-clause-enough : goal.returns-clause-enough
 returns-clause-enough g c = λ surely also_surely known blob is also_is.
@@ -84,8 +84,8 @@ returns-clause-enough g c = λ surely also_surely known blob is also_is.
     let s = c.gather_on-2.result in
     let theirs_put = c.gather_on-2.ensures.available also_surely (subst IsKnown (c.requires.same path) known) blob
     (subst (λ (T : Type 0). T) (λ i. AreEnough c.args.form.now (fixed_as root mode (c.requires.capacity i)) also blob (IsInFile (same i) c.args.files.now)) also_is) in
-    enough_agree mode root.0 ours one other path how also blob (HasCollision (IsFromFile c.args.form.now how.capacity ours c.args.files.now) (fixed_as root mode how.capacity) blob)
+    enough_agree mode root.0 ours one other path how also blob (HasCollision (IsFromFile c.args.form.now (fixed_as root mode how.capacity) how.long ours c.args.files.now) (fixed_as root mode how.capacity) blob)
     c.gather_on.result s c.requires.encode (c.gather_on.ensures.available surely known blob is)
     (subst (λ (T : Type 0). T)
     (λ i. IsPutAt (sym same i) other path also mode blob s
-    ⊎ HasCollision (IsFromFile c.args.form.now (sym c.requires.capacity i) (sym same i) c.args.files.now) (fixed_as root mode (sym c.requires.capacity i)) blob) theirs_put)
+    ⊎ HasCollision (IsFromFile c.args.form.now (fixed_as root mode (sym c.requires.capacity i)) (sym c.requires.long i) (sym same i) c.args.files.now) (fixed_as root mode (sym c.requires.capacity i)) blob) theirs_put)
