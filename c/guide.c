@@ -1,14 +1,14 @@
-/* Runs the code of docs/C-API.md, which scripts/tests/test_c_library.py copies to guide.h. It prints nothing and
- * exits with 0, or says which line failed. */
+/* Runs the code of docs/C-API.md, which scripts/tests/test_c_library.py copies to guide.h. It
+ * prints nothing and exits with 0, or says which line failed. */
 #include "guide.h"
 #include "vectors.h"
 
-#define WANT(test)                                                                  \
-    do {                                                                            \
-        if (!(test)) {                                                              \
-            fprintf(stderr, "guide.c:%d: this is not so: %s\n", __LINE__, #test);   \
-            exit(1);                                                                \
-        }                                                                           \
+#define WANT(test)                                                                                 \
+    do {                                                                                           \
+        if (!(test)) {                                                                             \
+            fprintf(stderr, "guide.c:%d: this is not so: %s\n", __LINE__, #test);                  \
+            exit(1);                                                                               \
+        }                                                                                          \
     } while (0)
 
 enum { LEN = 300003, CHUNKS = LEN / BW_CHUNK_LEN + 1, ROOM = 2 * LEN, HOLDERS = 3 };
@@ -89,12 +89,16 @@ static void serves(void) {
     copy slice = {text, 0};
     encode();
     WANT(bw_seat_new(&plain, root, 0, CHUNKS, &seat) == BW_OK);
-    WANT(bw_cut_slice(texts[0], copies[0].len, 10000, 3000, text, sizeof text, &slice.len) == BW_OK);
-    WANT(keep(&seat, 10000, 3000, &slice) == BW_OTHER_LENGTH && serve(&seat, 10000, 3000, out, ROOM) == 0);
+    WANT(bw_cut_slice(texts[0], copies[0].len, 10000, 3000, text, sizeof text, &slice.len) ==
+         BW_OK);
+    WANT(keep(&seat, 10000, 3000, &slice) == BW_OTHER_LENGTH &&
+         serve(&seat, 10000, 3000, out, ROOM) == 0);
     WANT(bw_cut_slice(texts[0], copies[0].len, UINT64_MAX, 1, out, ROOM, &used) == BW_OK);
-    WANT(bw_seat_settle(&seat, out, used, &at) == BW_OK && keep(&seat, 10000, 3000, &slice) == BW_OK);
+    WANT(bw_seat_settle(&seat, out, used, &at) == BW_OK &&
+         keep(&seat, 10000, 3000, &slice) == BW_OK);
     used = serve(&seat, 10000, 3000, out, ROOM);
-    WANT(used == slice.len && memcmp(out, text, used) == 0 && serve(&seat, 20000, 3000, out, ROOM) == 0);
+    WANT(used == slice.len && memcmp(out, text, used) == 0 &&
+         serve(&seat, 20000, 3000, out, ROOM) == 0);
     bw_free(&seat);
 }
 

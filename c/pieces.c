@@ -1,4 +1,5 @@
-/* Times of BLAKE3's own C library on the first bytes of a file, in pieces, each hashed by itself: scripts/bench.py compares them with those of c/compare.c.
+/* Times of BLAKE3's own C library on the first bytes of a file, in pieces, each hashed by itself:
+ * scripts/bench.py compares them with those of c/compare.c.
  *
  *     pieces FILE
  *
@@ -51,6 +52,7 @@ int main(int argc, char **argv) {
             if (took < least[i]) least[i] = took;
         }
     }
-    for (int i = 0; i < LENS; i++) printf("libblake3's hashes of %zu KiB each: %.3f ms\n", kib[i], least[i] * 1e3);
+    for (int i = 0; i < LENS; i++)
+        printf("libblake3's hashes of %zu KiB each: %.3f ms\n", kib[i], least[i] * 1e3);
     return 0;
 }

@@ -1,5 +1,6 @@
-/* Each function that berylwool.h declares runs in a thread whose stack is filled with a pattern first, on arguments that take it deep. How much of
- * the stack was written to is at most what the header asks a thread to have. It prints the most, or says which call took more. */
+/* Each function that berylwool.h declares runs in a thread whose stack is filled with a pattern
+ * first, on arguments that take it deep. How much of the stack was written to is at most what the
+ * header asks a thread to have. It prints the most, or says which call took more. */
 #define _GNU_SOURCE
 #include "tests.h"
 
@@ -8,7 +9,13 @@
 #include <stdlib.h>
 #include <sys/mman.h>
 
-enum { BLOB_LEN = 3000000, STACK_LEN = 1 << 20, STACK_MOST = 64 * 1024, PATTERN = 0xa5, ROOM = 2 * BLOB_LEN };
+enum {
+    BLOB_LEN = 3000000,
+    STACK_LEN = 1 << 20,
+    STACK_MOST = 64 * 1024,
+    PATTERN = 0xa5,
+    ROOM = 2 * BLOB_LEN
+};
 
 static const bw_mode plain = {0, {0}};
 static uint8_t *blob, *text, *outboard, *out, root[BW_HASH_LEN], far[8 + BW_CHUNK_LEN];
@@ -60,8 +67,10 @@ static void check(void) {
     size_t used;
     sink = bw_check(of(&plain, root, 0, UINT64_MAX), text, text_len, &at);
     sink = bw_check(of(&plain, root, UINT64_MAX, 1), far, sizeof far, &at);
-    sink = bw_decode(of(&plain, root, 0, UINT64_MAX), text, text_len, out, ROOM, &used, &total, &at);
-    sink = bw_audit(of(&plain, root, 0, UINT64_MAX), text, text_len, blob, BLOB_LEN, &at, &ours, &theirs);
+    sink =
+        bw_decode(of(&plain, root, 0, UINT64_MAX), text, text_len, out, ROOM, &used, &total, &at);
+    sink = bw_audit(of(&plain, root, 0, UINT64_MAX), text, text_len, blob, BLOB_LEN, &at, &ours,
+                    &theirs);
 }
 
 static void check_beside(void) {
@@ -92,7 +101,8 @@ static void store(void) {
     sink = bw_seat_settle(&seat, out, used, &at);
     sink = bw_seat_take(&seat, 0, 1, &count);
     sink = bw_cut_slice(text, text_len, 0, 1, out, ROOM, &used);
-    sink = bw_outline_commit(&outline, &seat, CHUNKS(3, 500), blob + 3072, 512000, &count, &parents, &at);
+    sink = bw_outline_commit(&outline, &seat, CHUNKS(3, 500), blob + 3072, 512000, &count, &parents,
+                             &at);
     sink = bw_seat_commit(&seat, 0, UINT64_MAX, text, text_len, &count, &parents, &at);
     sink = bw_seat_give(&seat, 0, 1, &count);
     sink = bw_seat_held(&seat, 0, &count);
@@ -130,7 +140,10 @@ static void plan(void) {
     sink = bw_plan_refused(&it, 0, 0, 2);
     sink = bw_plan_lacks(&it, 0, 1, 1);
     sink = bw_plan_has(&it, 0, 1, 1);
-    for (int k = 0; k < 20; k++) sink = bw_plan_ended(&it, 0, 64, 64, BW_ENDED_OVER, 0, 0, &flag), sink = bw_plan_ask(&it, 0, UINT64_MAX, &next);
+    for (int k = 0; k < 20; k++) {
+        sink = bw_plan_ended(&it, 0, 64, 64, BW_ENDED_OVER, 0, 0, &flag);
+        sink = bw_plan_ask(&it, 0, UINT64_MAX, &next);
+    }
     sink = bw_plan_rank(&it, 0, 1);
     sink = bw_plan_forgive(&it, 0);
     sink = bw_plan_is_left_out(&it, 0, &flag);
@@ -147,10 +160,13 @@ static void *run(void *what) {
 
 /* How much of a stack a call writes to, with what a thread takes for itself. */
 static size_t taken_by(void (*what)(void)) {
-    uint8_t *stack = mmap(NULL, STACK_LEN, PROT_READ | PROT_WRITE, MAP_PRIVATE | MAP_ANONYMOUS, -1, 0);
+    uint8_t *stack =
+        mmap(NULL, STACK_LEN, PROT_READ | PROT_WRITE, MAP_PRIVATE | MAP_ANONYMOUS, -1, 0);
     pthread_attr_t attributes;
     pthread_t thread;
-    if (stack == MAP_FAILED || pthread_attr_init(&attributes) || pthread_attr_setstack(&attributes, stack, STACK_LEN)) exit(2);
+    if (stack == MAP_FAILED || pthread_attr_init(&attributes) ||
+        pthread_attr_setstack(&attributes, stack, STACK_LEN))
+        exit(2);
     memset(stack, PATTERN, STACK_LEN);
     if (pthread_create(&thread, &attributes, run, &what) || pthread_join(thread, NULL)) exit(2);
     size_t left = 0;
@@ -160,29 +176,45 @@ static size_t taken_by(void (*what)(void)) {
     return STACK_LEN - left;
 }
 
-static void nothing(void) {
-}
+static void nothing(void) {}
 
 int main(void) {
-    static const struct { const char *name; void (*what)(void); } calls[] = {
-        {"hash", hash}, {"write", write_texts}, {"ranges", range}, {"check", check}, {"outline", check_beside}, {"feed", pour}, {"store", store}, {"gather", gather}, {"plan", plan},
+    static const struct {
+        const char *name;
+        void (*what)(void);
+    } calls[] = {
+        {"hash", hash},   {"write", write_texts},    {"ranges", range},
+        {"check", check}, {"outline", check_beside}, {"feed", pour},
+        {"store", store}, {"gather", gather},        {"plan", plan},
     };
     size_t used, most = 0, none = taken_by(nothing);
-    blob = malloc(BLOB_LEN), text = malloc(ROOM), outboard = malloc(ROOM), out = malloc(ROOM);
+    blob = malloc(BLOB_LEN);
+    text = malloc(ROOM);
+    outboard = malloc(ROOM);
+    out = malloc(ROOM);
     if (!blob || !text || !outboard || !out) return 2;
     for (size_t i = 0; i < BLOB_LEN; i++) blob[i] = (uint8_t)(i * 31 + i / 999);
     chunks = (BLOB_LEN + BW_CHUNK_LEN - 1) / BW_CHUNK_LEN;
     memset(far, 255, sizeof far);
-    if (bw_encode(&plain, blob, BLOB_LEN, text, ROOM, &text_len, root) || bw_outboard(&plain, blob, BLOB_LEN, outboard, ROOM, &outboard_len, root)) return 2;
+    if (bw_encode(&plain, blob, BLOB_LEN, text, ROOM, &text_len, root) ||
+        bw_outboard(&plain, blob, BLOB_LEN, outboard, ROOM, &outboard_len, root))
+        return 2;
     for (size_t k = 0; k < sizeof calls / sizeof *calls; k++) {
         used = taken_by(calls[k].what);
         if (used > most) most = used;
         if (used <= STACK_MOST) continue;
-        fprintf(stderr, "stack.c: %s takes %zu bytes of stack, of which the thread has %zu for itself\n", calls[k].name, used, none);
+        fprintf(stderr,
+                "stack.c: %s takes %zu bytes of stack, of which the thread has %zu for itself\n",
+                calls[k].name, used, none);
         return 1;
     }
-    printf("a thread that calls the C library takes at most %zu bytes of stack, of which it has %zu for itself\n", most, none);
+    printf("a thread that calls the C library takes at most %zu bytes of stack, of which it has "
+           "%zu for itself\n",
+           most, none);
     bw_free(&outline);
-    free(blob), free(text), free(outboard), free(out);
+    free(blob);
+    free(text);
+    free(outboard);
+    free(out);
     return 0;
 }

@@ -1,4 +1,5 @@
-/* The words of each status. The only function of the library that isn't proved, since no proved export answers a pointer. */
+/* The words of each status. The only function of the library that isn't proved, since no proved
+ * export answers a pointer. */
 #include "berylwool.h"
 
 const char *bw_strerror(bw_status status) {

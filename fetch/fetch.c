@@ -1,6 +1,7 @@
 #include "fetch.h"
 
 enum { PAUSE_MS = 100, ROUND_MS = 1000, ROUND_MOST_MS = 10000, LOOK_MS = 1000 };
+enum { BAD_ENOUGH = 4, LOST_ENOUGH = 3 };
 
 /* --- Made and freed */
 
@@ -10,34 +11,42 @@ bool read_hash(const char *digits, uint8_t hash[BW_HASH_LEN]) {
     return true;
 }
 
+/* A fetch of the root to OUT. 0, or a status; then some message was written. */
 int fetch_new(fetch **it, hub *on, const options *set, const char *root, const char *name) {
     uint8_t bytes[BW_HASH_LEN];
-    if (!read_hash(root, bytes) || !*name) return say(USAGE, "usage: ROOT has 64 hexadecimal digits, and OUT a name (bw-fetch --help tells more)");
+    if (!read_hash(root, bytes) || !*name)
+        return usage("ROOT has 64 hexadecimal digits, and OUT a name");
     fetch *f = *it = calloc(1, sizeof *f);
     if (!f) return no_memory();
-    f->hub = on, f->set = set, f->status = GOES_ON, f->changes = 1, f->began = f->moved_at = now_ms();
-    f->out.fd = -1, f->name = strdup(name), f->drain_bytes = malloc(DRAIN_LEN);
-    memcpy(f->root, bytes, BW_HASH_LEN);
+    *f = (fetch){.hub = on, .set = set, .status = GOES_ON, .changes = 1, .out = {.fd = -1}};
+    f->began = f->moved_at = now_ms();
+    f->name = strdup(name);
+    f->drain_bytes = malloc(DRAIN_LEN);
     if (!f->name || !f->drain_bytes || bw_hasher_new(&set->mode, &f->hasher)) return no_memory();
-    int status = out_new(&f->out, f->name, f->root);
+    const int status = out_new(&f->out, f->name, bytes);
     return status == NO_MEMORY ? no_memory() : status;
 }
 
 /* Local mirrors come before those of the network, and these before outboard encodings. */
-static int place_of(const peer *it) {
-    return it->at.kind == OUTBOARD ? 2 : !it->at.is_local;
-}
+static int place_of(const peer *it) { return it->at.kind == OUTBOARD ? 2 : !it->at.is_local; }
 
+/* NULL: there is no memory. */
 peer *fetch_add(fetch *f, const char *url, kind as) {
     peer *it = calloc(1, sizeof *it), **at = &f->peers;
-    if (!it || !source_new(&it->at, url, as, as == OUTBOARD ? IN_MOST : (unsigned)f->set->connections)) return free(it), NULL;
+    const unsigned most = as == OUTBOARD ? IN_MOST : (unsigned)f->set->connections;
+    if (!it || !source_new(&it->at, url, as, most)) {
+        free(it);
+        return NULL;
+    }
     while (*at && place_of(*at) <= place_of(it)) at = &(*at)->next;
-    it->next = *at, *at = it;
+    it->next = *at;
+    *at = it;
     if (as != OUTBOARD) f->mirror_count++;
     else if (!f->lines) f->lines = it;
     return it;
 }
 
+/* Whether all that used the fetch has ended. */
 bool fetch_is_quiet(fetch *f) {
     exchange_sweep(f);
     return !f->exchanges && !f->is_draining;
@@ -45,75 +54,52 @@ bool fetch_is_quiet(fetch *f) {
 
 void fetch_free(fetch *f) {
     if (!f) return;
-    for (peer *it = f->peers, *next; it; it = next) next = it->next, source_free(&it->at), free(it->spine), free(it);
-    for (opener *it = f->openers, *next; it; it = next) next = it->next, free(it);
-    bw_free(&f->length), bw_free(&f->chunks), bw_free(&f->parents), bw_free(&f->hasher);
-    free(f->own.at.shown), free(f->drain_bytes);
+    for (peer *it = f->peers, *next; it; it = next) {
+        next = it->next;
+        source_free(&it->at);
+        free(it->spine);
+        free(it);
+    }
+    for (opener *it = f->openers, *next; it; it = next) {
+        next = it->next;
+        free(it);
+    }
+    bw_free(&f->length);
+    bw_free(&f->chunks);
+    bw_free(&f->parents);
+    bw_free(&f->hasher);
     out_free(&f->out);
-    free(f->name), free(f);
+    free(f->own.at.shown);
+    free(f->drain_bytes);
+    free(f->known);
+    free(f->name);
+    free(f);
 }
 
-/* --- What is known */
-
-uint64_t units_of(uint64_t total) {
-    return (chunks_of(total) - 1) / UNIT_CHUNKS + 1;
-}
-
-run run_of_unit(uint64_t total, uint64_t unit) {
-    uint64_t first = unit * UNIT_CHUNKS, left = chunks_of(total) - first;
-    return (run){first, left < UNIT_CHUNKS ? left : UNIT_CHUNKS};
-}
-
-uint64_t groups_of(uint64_t total) {
-    return (chunks_of(total) - 1) / BW_GROUP_CHUNKS + 1;
-}
-
-static size_t place_of_known(uint64_t outboard_at) {
-    return (size_t)(outboard_at / BW_PARENT_LEN * 0x9E3779B97F4A7C15 >> (64 - KNOWN_BITS));
-}
-
-/* One parent may take the place of another, which is asked for again then. */
-void fetch_recall(const fetch *f, trail *it) {
-    for (size_t i = 0; i < it->count; i++) {
-        ancestor *to = &it->list[i];
-        const known *from = &f->known[place_of_known(to->outboard_at)];
-        if (to->is_known || from->outboard_at != to->outboard_at) continue;
-        memcpy(to->text, from->text, BW_PARENT_LEN);
-        to->is_known = true;
-    }
-}
-
-void fetch_remember(fetch *f, const trail *it) {
-    for (size_t i = 0; i < it->count; i++) {
-        const ancestor *from = &it->list[i];
-        known *to = &f->known[place_of_known(from->outboard_at)];
-        if (!from->is_known) continue;
-        to->outboard_at = from->outboard_at;
-        memcpy(to->text, from->text, BW_PARENT_LEN);
-    }
-}
+/* --- Plans */
 
 void fetch_say(const fetch *f, const peer *of, const char *what) {
-    if (f->set->verbose) fprintf(stderr, "bw-fetch: %s: %s\n", of->at.shown, what ? what : of->at.why);
+    if (f->set->verbose)
+        fprintf(stderr, "bw-fetch: %s: %s\n", of->at.shown, what ? what : of->at.why);
 }
 
+/* It has to be looked at again at that moment. */
 void fetch_wait(fetch *f, uint64_t until) {
     f->waits = true;
-    if (until < f->wake) f->wake = until;
+    f->wake = least(f->wake, until);
 }
 
-static bw_plan *plan_of(fetch *f, const peer *it) {
-    return it->at.kind == OUTBOARD ? &f->parents : &f->chunks;
-}
-
+/* No call of a plan fails but for memory: else this program has a fault. */
 void fetch_must(fetch *f, bw_status of) {
     if (of) fetch_stop(f, OTHER_ROOT);
 }
 
 booking booking_of(fetch *f, peer *it) {
-    return (booking){.plan = plan_of(f, it), .of = &it->at, .holder = it->holder};
+    bw_plan *plan = it->at.kind == OUTBOARD ? &f->parents : &f->chunks;
+    return (booking){.plan = plan, .of = &it->at, .holder = it->holder};
 }
 
+/* Books what is wanted of a holder: 0; or until when that is nothing, UINT64_MAX for ever. */
 uint64_t fetch_book(fetch *f, booking *it, uint64_t now) {
     bw_plan_next next = {0};
     fetch_must(f, bw_plan_ask(it->plan, it->holder, now, &next));
@@ -122,64 +108,90 @@ uint64_t fetch_book(fetch *f, booking *it, uint64_t now) {
     return it->is_open ? 0 : next.kind == BW_NEXT_WAIT ? next.until_ms : UINT64_MAX;
 }
 
+/* Tells the plan how it ended, if it is open, and counts a failure as the source's. */
 void fetch_close(fetch *f, booking *it, uint32_t how, uint64_t later_ms) {
+    const run of = it->chunks;
     uint32_t failed = 0;
     if (!it->is_open) return;
     it->is_open = false;
-    fetch_must(f, bw_plan_ended(it->plan, it->holder, it->chunks.first, it->chunks.count, how, later_ms, now_ms(), &failed));
+    fetch_must(f, bw_plan_ended(it->plan, it->holder, of.first, of.count, how, later_ms, now_ms(),
+                                &failed));
     it->of->faults += failed;
+}
+
+/* The chunks of a unit, and all behind it. */
+run all_from(const fetch *f, uint64_t unit) {
+    return (run){unit * UNIT_CHUNKS, chunks_of(f->total) - unit * UNIT_CHUNKS};
+}
+
+/* Tells a plan something of a holder's chunks, but for those in `but`, of a unit's groups. */
+void fetch_report(fetch *f, const booking *of, report *as, run it, const uint64_t *but) {
+    for (uint64_t g = it.first / BW_GROUP_CHUNKS; g < group_after(it); g++) {
+        const uint64_t mask = mask_in(g, it) & ~(but ? but[g % UNIT_GROUPS] : 0);
+        fetch_must(f, as(of->plan, of->holder, g, mask));
+    }
 }
 
 void fetch_stop(fetch *f, int status) {
     if (f->status != GOES_ON) return;
     f->status = status;
     atomic_store(&f->out.is_over, status != DONE);
+    for (exchange *e = f->exchanges; e; e = e->next) exchange_cut(e);
+}
+
+/* Ends all that is under way. Whether no job works on any of it. */
+static bool end_all(fetch *f) {
+    bool is_quiet = true;
     for (exchange *e = f->exchanges; e; e = e->next) {
-        if (!e->is_over) e->is_over = true, f->live--, e->from->busy--, leg_cut(&e->leg), leg_cut(&e->flow);
+        exchange_end(e, BW_ENDED_CUT, 0);
+        is_quiet &= !e->is_busy;
     }
+    return is_quiet;
 }
 
-/* The whole unit's bytes of a pipe go to its window; a file's were written already. */
-void fetch_keep(fetch *f, size_t holder, uint64_t group, uint64_t mask, const uint8_t *bytes) {
-    uint64_t taken = 0, start = group * GROUP_LEN;
-    if (bw_plan_kept(&f->chunks, holder, group, mask, &taken)) return fetch_stop(f, OTHER_ROOT);
-    f->chunks_open -= (uint64_t)__builtin_popcountll(taken);
-    uint64_t had = chunks_of(f->total) - f->chunks_open, last = chunks_of(f->total) - 1;
-    if (had > f->most_had) f->most_had = had, f->moved_at = now_ms(), f->rounds = 0;
-    if (f->believed && group == last / BW_GROUP_CHUNKS && mask >> last % BW_GROUP_CHUNKS & 1) fetch_certify(f);
-    for (unsigned j = 0; j < BW_GROUP_CHUNKS && f->out.is_pipe; j++) {
-        uint64_t at = start + (uint64_t)j * BW_CHUNK_LEN, len = f->total - at < BW_CHUNK_LEN ? f->total - at : BW_CHUNK_LEN;
-        if (taken >> j & 1 && at < f->total) out_put(&f->out, at, bytes + (size_t)j * BW_CHUNK_LEN, (size_t)len);
-    }
-}
-
-/* --- Who is in: at most so many at a time, that no list of mirrors costs more memory or descriptors */
+/* --- Who is in: so few at a time that no list of mirrors costs more memory or descriptors */
 
 bool fetch_has_left_out(fetch *f, const peer *it) {
+    bw_plan *plan = it->at.kind == OUTBOARD ? &f->parents : &f->chunks;
     uint32_t out = 0;
-    return it->is_holder && plan_of(f, it)->at && !bw_plan_is_left_out(plan_of(f, it), it->holder, &out) && out;
+    return it->is_holder && plan->at && !bw_plan_is_left_out(plan, it->holder, &out) && out;
+}
+
+/* Whether most of what it has is false, as far as is known, or others overtake it. */
+bool is_doubtful(const peer *it) {
+    const bool lies = it->bad >= BAD_ENOUGH && it->bad > it->good;
+    return lies || (it->lost >= LOST_ENOUGH && (uint64_t)it->lost * UNIT_GROUPS > it->good);
+}
+
+uint32_t rank_of(const fetch *f, const peer *it) {
+    if (it->at.kind == PLAIN && f->lacks_lines) return USELESS;
+    if (it == f->believed) return 0;
+    return is_doubtful(it) || it->at.hangs || it->at.no_ranges ? LAST : !it->at.is_local;
 }
 
 /* While a length is only believed, no plan has more holders than those that are asked. */
 static void let_in(fetch *f, peer *it) {
-    bw_plan *plan = plan_of(f, it);
-    bool is_late = f->believed && it != f->believed && (it->at.kind != OUTBOARD || it->claimed != f->total);
+    const bool is_line = it->at.kind == OUTBOARD;
+    const bool is_late = f->believed && it != f->believed && (!is_line || it->claimed != f->total);
     it->is_in = true;
     if (!f->is_settled || it->is_holder || is_late) return;
-    it->rank = it == f->believed ? 0 : it->at.no_ranges ? 2 : !it->at.is_local;
-    it->is_holder = it->is_in = !bw_plan_add_holder(plan, &it->holder) && !bw_plan_rank(plan, it->holder, it->rank);
+    bw_plan *plan = booking_of(f, it).plan;
+    it->rank = rank_of(f, it);
+    it->is_holder = it->is_in =
+        !bw_plan_add_holder(plan, &it->holder) && !bw_plan_rank(plan, it->holder, it->rank);
     f->no_memory |= !it->is_in;
-    for (uint64_t g = 0; g < groups_of(f->total) && it->is_in && it->at.kind == OUTBOARD; g++) fetch_must(f, bw_plan_lacks(plan, it->holder, g, UINT64_MAX));
+    const booking of = booking_of(f, it);
+    if (it->is_in && is_line) fetch_report(f, &of, bw_plan_lacks, all_from(f, 0), NULL);
 }
 
+/* Lets one more mirror in, with its outboard encoding. False: there is none. */
 bool fetch_admit(fetch *f) {
     peer *m = f->next_in;
     if (m == f->lines) return false;
     f->next_in = m->next;
     peer *line = f->has_own_lines ? m->line : f->lines;
-    for (int i = 0; i < (f->has_own_lines ? 1 : IN_MOST) && line; i++, line = line->next) {
+    for (int i = 0; i < (f->has_own_lines ? 1 : IN_MOST) && line; i++, line = line->next)
         if (!line->is_in) let_in(f, line);
-    }
     let_in(f, m);
     return true;
 }
@@ -187,133 +199,156 @@ bool fetch_admit(fetch *f) {
 /* Whether some mirror is in. */
 static bool admit_all(fetch *f) {
     size_t in = 0;
-    for (peer *m = f->peers; m != f->next_in; m = m->next) in += m->is_in && !fetch_has_left_out(f, m);
+    bool some = false;
+    for (peer *m = f->peers; m != f->next_in; m = m->next)
+        in += m->is_in && !fetch_has_left_out(f, m);
     for (; in < IN_MOST && f->next_in != f->lines; in++) fetch_admit(f);
-    for (peer *m = f->peers; m != f->next_in; m = m->next) {
-        if (m->is_in) return true;
-    }
-    return false;
+    for (peer *m = f->peers; m != f->next_in; m = m->next) some |= m->is_in;
+    return some;
+}
+
+static void let_all_in(fetch *f) {
+    for (peer *it = f->peers; it; it = it->next)
+        if (it->is_in) let_in(f, it);
 }
 
 /* --- The length is there */
 
-static bool make_plans(fetch *f) {
-    const options *o = f->set;
-    double longest = SETTLING * o->set.stall * 1000;
-    bw_plan_policy policy = {(uint32_t)o->retries, PAUSE_MS, (uint32_t)(longest < 1e9 ? longest : 1e9), OVERTAKE_MS};
-    bool ok = !bw_plan_new(f->total, &policy, &f->chunks);
-    policy.patience_ms = 0;
-    return ok && !bw_plan_new(f->total, &policy, &f->parents);
+static void certify(fetch *f) {
+    f->believed = NULL;
+    f->changes++;
+    let_all_in(f);
+    bw_free(&f->length);
+    const int status = out_certify(&f->out);
+    if (status) fetch_stop(f, status);
 }
 
-/* What was passed on to a pipe is true, whatever its length is. What is in OUT.part.fetch is verified anew. */
+static bw_plan_policy policy_of(const fetch *f, uint32_t patience_ms) {
+    const double longest = SETTLING * f->set->set.stall * 1000;
+    return (bw_plan_policy){(uint32_t)f->set->retries, PAUSE_MS, (uint32_t)longest, patience_ms};
+}
+
+/* What went to a pipe is true, whatever its length. OUT.part.fetch is verified anew. */
 static void begin_anew(fetch *f, uint64_t total) {
-    f->total = total, f->unit_count = units_of(total), f->chunks_open = chunks_of(total);
-    if (!make_plans(f) || (!f->out.is_pipe && bw_hasher_new(&f->set->mode, &f->hasher))) return fetch_stop(f, NO_MEMORY);
+    const bw_plan_policy of_chunks = policy_of(f, OVERTAKE_MS), of_parents = policy_of(f, 0);
+    f->total = total;
+    f->unit_count = units_of(total);
+    f->chunks_open = chunks_of(total);
+    free(f->known);
+    f->known = calloc(f->unit_count, sizeof *f->known);
+    if (!f->known || bw_plan_new(total, &of_chunks, &f->chunks) ||
+        bw_plan_new(total, &of_parents, &f->parents) ||
+        (!f->out.is_pipe && bw_hasher_new(&f->set->mode, &f->hasher)))
+        return fetch_stop(f, NO_MEMORY);
     if (!f->out.is_pipe) f->drained = 0;
-    int status = f->out.fd < 0 || f->out.total != total ? out_open(&f->out, total) : 0;
-    if (status) return fetch_stop(f, status);
+    const int status = f->out.fd < 0 || f->out.total != total ? out_open(&f->out, total) : 0;
+    if (status) fetch_stop(f, status);
     for (peer *it = f->peers; it; it = it->next) it->is_holder = false;
-    memset(f->known, 0, sizeof f->known);
 }
 
-static void keep_drained(fetch *f) {
-    uint64_t none;
-    for (uint64_t g = 0; g < f->drained * UNIT_GROUPS && f->status == GOES_ON; g++) {
-        fetch_must(f, bw_plan_kept(&f->chunks, 0, g, UINT64_MAX, &none));
-        f->chunks_open -= (uint64_t)__builtin_popcountll(none);
-    }
+static void limit(fetch *f) {
+    const uint64_t end = (f->drained + WINDOW_UNITS) * UNIT_CHUNKS;
+    if (f->out.is_pipe) fetch_must(f, bw_plan_limit(&f->chunks, end));
 }
 
-static void let_all_in(fetch *f) {
-    for (peer *it = f->peers; it; it = it->next) {
-        if (it->is_in) let_in(f, it);
-    }
-}
-
+/* A length is certified, or believed: makes the plans and, where there is none yet, OUT.part.fetch.
+ * What came under the same length stays. */
 void fetch_settle(fetch *f, uint64_t total) {
-    bool is_new = !f->chunks.at || f->total != total;
+    const bool is_new = !f->chunks.at || f->total != total;
+    uint64_t taken;
     f->is_settled = true;
     if (is_new) begin_anew(f, total);
     if (f->status != GOES_ON) return;
     let_all_in(f);
-    if (!admit_all(f)) return fetch_stop(f, NO_MEMORY);     /* what is resumed needs a holder, too */
-    if (is_new) keep_drained(f);
-    if (f->out.is_pipe) fetch_must(f, bw_plan_limit(&f->chunks, (f->drained + WINDOW_UNITS) * UNIT_CHUNKS));
-    if (!f->believed) fetch_certify(f);
-}
-
-void fetch_certify(fetch *f) {
-    f->believed = NULL, f->changes++;
-    let_all_in(f);
-    bw_free(&f->length);
-    int status = out_certify(&f->out);
-    if (status) fetch_stop(f, status);
+    if (!admit_all(f)) return fetch_stop(f, NO_MEMORY); /* what is resumed needs a holder, too */
+    for (uint64_t g = 0; is_new && g < f->drained * UNIT_GROUPS && f->status == GOES_ON; g++) {
+        fetch_must(f, bw_plan_kept(&f->chunks, 0, g, UINT64_MAX, &taken));
+        f->chunks_open -= (uint64_t)__builtin_popcountll(taken);
+    }
+    limit(f);
+    if (!f->believed) certify(f);
 }
 
 /* A length that was believed wasn't certified. */
 static void doubt(fetch *f) {
-    for (exchange *e = f->exchanges; e; e = e->next) {
-        if (!e->is_over) exchange_end(e, BW_ENDED_CUT, 0);
-    }
-    f->is_settled = false, f->believed = NULL, f->changes++;
+    if (!end_all(f)) return;
+    f->is_settled = false;
+    f->believed = NULL;
+    f->changes++;
     fetch_wait(f, now_ms());
 }
 
-/* --- Hashed in order, as it stands in OUT.part.fetch or is passed on: this decides about status 0 */
-
-bool fetch_has_unit(fetch *f, uint64_t unit) {
-    uint64_t lacking = 0;
-    for (uint64_t g = unit * UNIT_GROUPS; g < (unit + 1) * UNIT_GROUPS && g < groups_of(f->total) && !lacking; g++) {
-        fetch_must(f, bw_plan_lacking(&f->chunks, g, &lacking));
+/* Takes chunks of a group as there. A pipe's bytes go to its window; a file's were written already.
+ * The last chunk certifies a length that was believed. */
+void fetch_keep(fetch *f, size_t holder, uint64_t group, uint64_t mask, const uint8_t *bytes) {
+    const uint64_t all = chunks_of(f->total), last = all - 1;
+    uint64_t taken = 0, at = group * GROUP_LEN;
+    if (bw_plan_kept(&f->chunks, holder, group, mask, &taken)) return fetch_stop(f, OTHER_ROOT);
+    f->chunks_open -= (uint64_t)__builtin_popcountll(taken);
+    if (all - f->chunks_open > f->most_had) {
+        f->most_had = all - f->chunks_open;
+        f->moved_at = now_ms();
+        f->rounds = 0;
     }
-    return !lacking;
+    if (f->believed && group == last / BW_GROUP_CHUNKS && mask >> last % BW_GROUP_CHUNKS & 1)
+        certify(f);
+    for (; taken && f->out.is_pipe; taken >>= 1, at += BW_CHUNK_LEN, bytes += BW_CHUNK_LEN)
+        if (taken & 1 && at < f->total)
+            out_put(&f->out, at, bytes, least(f->total - at, BW_CHUNK_LEN));
 }
 
+/* --- Hashed in order, as it stands in OUT.part.fetch or is passed on: this decides on status 0 */
+
+/* Whether some of the chunks are lacking, but for those in `but`, of a unit's groups. */
+bool fetch_lacks(fetch *f, run of, const uint64_t *but) {
+    uint64_t lacking = 0;
+    for (uint64_t g = of.first / BW_GROUP_CHUNKS, end = group_after(of); g < end && !lacking; g++) {
+        fetch_must(f, bw_plan_lacking(&f->chunks, g, &lacking));
+        lacking &= mask_in(g, of) & ~(but ? but[g % UNIT_GROUPS] : 0);
+    }
+    return lacking;
+}
+
+bool fetch_has_unit(fetch *f, uint64_t unit) {
+    return !fetch_lacks(f, run_of_unit(f->total, unit), NULL);
+}
+
+/* Of the next unit; and of none the last word: a proved hasher over the bytes that went to OUT. */
 static void run_drain(job *of) {
     fetch *f = of->with;
-    uint64_t from = f->drained * UNIT_LEN, end = f->total - from < UNIT_LEN ? f->total : from + UNIT_LEN;
-    f->drain_status = DONE;
+    uint64_t from = f->drained * UNIT_LEN, end = least(f->total, from + UNIT_LEN);
+    f->drain_status = GOES_ON;
+    if (f->drained == f->unit_count) {
+        const bool is_same = out_has_root(&f->out, &f->hasher);
+        f->drain_status = !is_same ? OTHER_ROOT : out_finish(&f->out) ? DONE : FILE_FAULT;
+        return;
+    }
     out_write_back(&f->out, from, end - from);
-    while (from < end && !f->drain_status) {
-        size_t len = end - from < DRAIN_LEN ? (size_t)(end - from) : DRAIN_LEN;
-        if (!out_get(&f->out, from, f->drain_bytes, len) || !out_pass(&f->out, f->drain_bytes, len)) f->drain_status = FILE_FAULT;
+    for (size_t len; from < end && f->drain_status == GOES_ON; from += len) {
+        len = least(end - from, DRAIN_LEN);
+        if (!out_get(&f->out, from, f->drain_bytes, len) || !out_pass(&f->out, f->drain_bytes, len))
+            f->drain_status = FILE_FAULT;
         else if (bw_hasher_update(&f->hasher, f->drain_bytes, len)) f->drain_status = OTHER_ROOT;
-        from += len;
     }
 }
 
 static void was_drained(job *of) {
     fetch *f = of->with;
     f->is_draining = false;
-    if (f->drain_status) return fetch_stop(f, f->drain_status);
-    f->drained++, f->changes++, f->moved_at = now_ms();
-    if (f->out.is_pipe) fetch_must(f, bw_plan_limit(&f->chunks, (f->drained + WINDOW_UNITS) * UNIT_CHUNKS));
-}
-
-/* The last word: a proved hasher over the bytes that went to OUT. */
-static void run_finish(job *of) {
-    fetch *f = of->with;
-    uint8_t found[BW_HASH_LEN];
-    bool same = !bw_hasher_finish(&f->hasher, 0, found, BW_HASH_LEN) && !memcmp(found, f->root, BW_HASH_LEN);
-    f->drain_status = !same ? OTHER_ROOT : out_finish(&f->out) ? DONE : FILE_FAULT;
-}
-
-static void was_finished(job *of) {
-    fetch *f = of->with;
-    f->is_draining = false;
-    fetch_stop(f, f->drain_status == OTHER_ROOT ? say(OTHER_ROOT, "what was written hasn't the root") : f->drain_status);
+    if (f->drain_status == OTHER_ROOT) say(OTHER_ROOT, "what was written hasn't the root");
+    if (f->drain_status != GOES_ON) return fetch_stop(f, f->drain_status);
+    f->drained++;
+    f->changes++;
+    f->moved_at = now_ms();
+    limit(f);
 }
 
 static void drain_turn(fetch *f) {
-    bool finishes = f->drained == f->unit_count;
+    const bool finishes = f->drained == f->unit_count;
     if (f->is_draining || (!finishes && !fetch_has_unit(f, f->drained))) return;
-    for (exchange *e = f->exchanges; e && finishes; e = e->next) {
-        if (!e->is_over) exchange_end(e, BW_ENDED_CUT, 0);
-        if (e->is_busy) return;             /* it may still write behind the blob */
-    }
+    if (finishes && !end_all(f)) return; /* a job may still write behind the blob */
     f->is_draining = true;
-    f->drain = (job){.run = finishes ? run_finish : run_drain, .done = finishes ? was_finished : was_drained, .with = f};
+    f->drain = (job){.run = run_drain, .done = was_drained, .with = f};
     pool_post(&f->hub->pool, f->out.is_pipe ? TO_READ : TO_COMPUTE, &f->drain);
 }
 
@@ -323,22 +358,25 @@ static void start_resuming(fetch *f) {
     char *name = strdup(f->out.part);
     if (!name) return fetch_stop(f, NO_MEMORY);
     f->own.at = (source){.shown = name, .kind = PLAIN, .fd = f->out.fd, .is_local = true};
-    f->own_line.at = (source){.shown = name, .kind = OUTBOARD, .fd = f->out.fd, .is_local = true, .base = f->out.total};
+    f->own_line.at = f->own.at;
+    f->own_line.at.kind = OUTBOARD;
+    f->own_line.at.base = f->out.total;
     f->is_resuming = true;
     fetch_settle(f, f->out.total);
 }
 
 static void resume_turn(fetch *f) {
     while (f->status == GOES_ON && f->live < IN_MOST && f->resumed < f->unit_count) {
-        uint64_t unit = f->resumed++, at = out_data(&f->out, unit * UNIT_LEN);
-        if (at >= (unit + 1) * UNIT_LEN) {
-            f->resumed = at / UNIT_LEN < f->unit_count ? at / UNIT_LEN : f->unit_count;
+        const uint64_t at = out_data(&f->out, f->resumed * UNIT_LEN) / UNIT_LEN;
+        if (at > f->resumed) {
+            f->resumed = least(at, f->unit_count);
             continue;
         }
-        exchange *e = exchange_new(f, &f->own);
-        if (!e) return f->live ? (void)f->resumed-- : fetch_stop(f, NO_MEMORY);
+        exchange *e = exchange_new(f, &f->own, NULL);
+        if (!e && !f->live) fetch_stop(f, NO_MEMORY);
+        if (!e) return;
         e->by = &f->own_line;
-        e->proving = run_of_unit(f->total, unit);
+        e->proving = run_of_unit(f->total, f->resumed++);
         exchange_unit(e, e->proving);
     }
     f->is_resuming = f->live || f->resumed < f->unit_count;
@@ -346,70 +384,77 @@ static void resume_turn(fetch *f) {
 
 /* --- The end */
 
-/* Those whose faults were the network's are asked again, after a while. False: there are none, or nothing came for too long. */
-static bool forgive(fetch *f, uint64_t now, bool some) {
-    if (!some || (double)(now - f->moved_at) >= f->set->patience * 1000) return false;
-    uint64_t pause = (uint64_t)ROUND_MS << (f->rounds < 4 ? f->rounds : 4);
-    f->rounds++, f->changes++;
+/* Those whose faults were the network's are asked again, after a while. Parents that no outboard
+ * encoding had may be had then. */
+static void forgive(fetch *f, uint64_t now) {
+    const uint64_t pause = least((uint64_t)ROUND_MS << least(f->rounds, 4), ROUND_MOST_MS);
+    f->rounds++;
+    f->changes++;
     for (peer *it = f->peers; it; it = it->next) {
-        it->later = now + (pause < ROUND_MOST_MS ? pause : ROUND_MOST_MS);
+        const booking of = booking_of(f, it);
+        it->later = now + pause;
         it->is_tried &= !it->at.is_far;
-        if (it->at.kind != OUTBOARD && !it->at.no_ranges) it->at.most = (unsigned)f->set->connections;
-        if (!it->is_holder) continue;
-        if (it->at.is_far) fetch_must(f, bw_plan_forgive(plan_of(f, it), it->holder));
-        /* parents that no outboard encoding had may be had of one that is asked again */
-        for (uint64_t g = 0; g < groups_of(f->total) && it->at.kind == PLAIN; g++) fetch_must(f, bw_plan_has(&f->chunks, it->holder, g, UINT64_MAX));
+        if (it->at.kind != OUTBOARD && !it->at.no_ranges)
+            it->at.most = (unsigned)f->set->connections;
+        if (it->is_holder && it->at.is_far) fetch_must(f, bw_plan_forgive(of.plan, of.holder));
+        const bool may_have_lines = it->is_holder && it->at.kind == PLAIN;
+        if (may_have_lines) fetch_report(f, &of, bw_plan_has, all_from(f, 0), NULL);
     }
-    for (opener *it = f->openers; it && !f->is_settled; it = it->next) {
+    for (opener *it = f->openers; it && !f->is_settled; it = it->next)
         if (it->from->at.is_far) fetch_must(f, bw_plan_forgive(&f->length, it->booked.holder));
-    }
     fetch_wait(f, now + 1);
-    return true;
 }
 
+/* Nothing is under way, and nobody is to be asked. */
 static void give_up(fetch *f, uint64_t now) {
-    bool some = false, may_pass = false;    /* the network is why something is lacking: then it may be there later */
+    bool some = false, may_pass = false; /* the network is to blame: then it may be there later */
     if (f->believed) return doubt(f);
     if (!f->is_settled && open_believe(f, now)) return;
     for (const peer *it = f->peers; it; it = it->next) {
-        bool is_far = it->at.is_far && it->at.faults;
-        some |= is_far && it->is_in, may_pass |= is_far;
+        const bool is_far = it->at.is_far && it->at.faults;
+        some |= is_far && it->is_in;
+        may_pass |= is_far;
     }
-    if (!forgive(f, now, some)) fetch_stop(f, f->no_memory ? NO_MEMORY : may_pass ? UNREACHED : LACKING);
+    if (some && (double)(now - f->moved_at) < f->set->patience * 1000) return forgive(f, now);
+    fetch_stop(f, f->no_memory ? NO_MEMORY : may_pass ? UNREACHED : LACKING);
 }
 
 /* What is there before anything is asked for. */
 static void begin(fetch *f) {
     f->next_in = f->peers;
-    for (peer *m = f->peers, *line = f->lines; m != f->lines && !f->has_own_lines; m = m->next) m->line = line = line->next ? line->next : f->lines;
-    if (out_is_right(&f->out, &f->set->mode, &f->total)) {
-        f->is_settled = true;
-        return fetch_stop(f, DONE);
-    }
-    if (f->set->check) return fetch_stop(f, LACKING);
-    int status = out_resume(&f->out);
+    for (peer *m = f->peers, *line = f->lines; m != f->lines && !f->has_own_lines; m = m->next)
+        m->line = line = line->next ? line->next : f->lines;
+    f->is_settled = out_is_right(&f->out, &f->set->mode, &f->total);
+    if (f->is_settled || f->set->check) return fetch_stop(f, f->is_settled ? DONE : LACKING);
+    const int status = out_resume(&f->out);
     if (status > 0) return fetch_stop(f, status);
     if (!status && f->out.total <= f->set->most) return start_resuming(f);
-    const bw_plan_policy policy = {(uint32_t)f->set->retries, PAUSE_MS, (uint32_t)(SETTLING * f->set->set.stall * 1000), 0};
+    const bw_plan_policy policy = policy_of(f, 0);
     if (bw_plan_new(1, &policy, &f->length)) fetch_stop(f, NO_MEMORY);
 }
 
+static void step(fetch *f, uint64_t now) {
+    if (!f->is_settled) open_all(f, now);
+    if (f->status == GOES_ON && f->is_resuming) resume_turn(f);
+    if (f->status == GOES_ON && f->is_settled) drain_turn(f);
+    if (f->status != GOES_ON || !f->is_settled || f->is_resuming) return;
+    admit_all(f);
+    exchange_ask_all(f, now);
+}
+
+/* Does what can be done now. Whether it is over, with f->status. */
 bool fetch_turn(fetch *f, uint64_t now) {
     exchange_sweep(f);
     if (f->status != GOES_ON) return true;
-    f->wake = now + LOOK_MS, f->waits = false;
+    f->wake = now + LOOK_MS;
+    f->waits = false;
     if (!f->length.at && !f->is_settled) begin(f);
-    bool is_late = f->set->max_time > 0 && (double)(now - f->began) > f->set->max_time * 1000;
+    const bool is_late = f->set->max_time > 0 && (double)(now - f->began) > f->set->max_time * 1000;
     if (f->status == GOES_ON && is_late) fetch_stop(f, say(UNREACHED, "--max-time is over"));
-    if (f->status == GOES_ON && !f->is_settled) open_all(f, now);
-    if (f->status == GOES_ON && f->is_resuming) resume_turn(f);
-    if (f->status == GOES_ON && f->is_settled) drain_turn(f);
-    if (f->status == GOES_ON && f->is_settled && !f->is_resuming) {
-        admit_all(f);
-        exchange_ask_all(f, now);
-    }
-    bool is_idle = exchange_all_wait(f) && !f->waits && !f->is_draining && !f->is_resuming;
-    bool drains = f->is_settled && (f->drained == f->unit_count || fetch_has_unit(f, f->drained));
+    if (f->status == GOES_ON) step(f, now);
+    const bool is_idle = exchange_all_wait(f) && !f->waits && !f->is_draining && !f->is_resuming;
+    const bool drains =
+        f->is_settled && (f->drained == f->unit_count || fetch_has_unit(f, f->drained));
     if (f->status == GOES_ON && is_idle && !drains) give_up(f, now);
     return f->status != GOES_ON;
 }

@@ -1,21 +1,16 @@
 #include "http.h"
 
+#include <stddef.h>
+
 #if LIBCURL_VERSION_NUM < 0x080600
 #define CURLE_TOO_LARGE 100
 #endif
 
-enum {
-    SEVERAL_MOST = 64,
-    NEAR = 65536,                           /* gaps of so many bytes are asked for as well, by one range */
-    BUFFER_LEN = 131072,
-    HOPS_MOST = 5,
-    RATE_LEAST = 1024,
-    DAY = 86400,
-    POLL_MS = 200,
-    LIMITED_MS = 20
-};
+/* NEAR: gaps of so many bytes are asked for as well, by one range */
+enum { NEAR = 65536, BUFFER_LEN = 131072, HOPS_MOST = 5, RATE_LEAST = 1024 };
+enum { DAY = 86400, POLL_MS = 200, LIMITED_MS = 20 };
 
-/* --- What libcurl calls */
+/* --- What libcurl calls; `with` is NULL once the request is left alone */
 
 /* Whether a limit holds up what comes. */
 static bool is_held_up(const hub *it) {
@@ -23,7 +18,6 @@ static bool is_held_up(const hub *it) {
     return rate && it->bytes * 1000 / rate > now_ms() - it->began;
 }
 
-/* Here and below, `with` is NULL once the request is left alone. */
 static size_t on_header(char *line, size_t one, size_t len, void *with) {
     leg *it = with;
     (void)one;
@@ -32,32 +26,38 @@ static size_t on_header(char *line, size_t one, size_t len, void *with) {
 
 /* The bytes of a file that is copied whole. */
 static bool copy_bytes(leg *it, const char *bytes, size_t len) {
-    uint64_t at = it->answer.came - len;
-    if (!it->copy_to || it->several) return false;
+    const uint64_t end = it->answer.came;
+    if (!it->copy_to || it->several || end > it->copy_most) return false;
     if (it->fd < 0) it->fd = open(it->copy_to, O_TMPFILE | O_RDWR | O_CLOEXEC, 0600);
-    return it->fd >= 0 && write_at(it->fd, at, bytes, len) == len && at + len <= it->copy_most;
+    return it->fd >= 0 && write_at(it->fd, end - len, bytes, len) == len;
 }
 
 /* What a file that streams has behind the pieces waits until these are others. */
 static size_t on_body(char *at, size_t one, size_t len, void *with) {
+    const uint8_t *bytes = (const uint8_t *)at;
     leg *it = with;
     (void)one;
     if (!it) return 0;
     answer *a = &it->answer;
-    bool streams = it->streams && a->code == 200 && !a->is_coded;
-    if (is_held_up(it->hub)) return it->is_paused = true, CURL_WRITEFUNC_PAUSE;
+    const bool streams = it->streams && a->code == 200 && !a->is_coded;
+    it->is_paused = is_held_up(it->hub);
+    if (it->is_paused) return CURL_WRITEFUNC_PAUSE;
     it->has_news = true;
-    if (streams && !answer_stream(a, (const uint8_t *)at, len)) return it->is_full = true, CURL_WRITEFUNC_PAUSE;
-    it->of->bytes += len, it->hub->bytes += len;
+    if (streams && !answer_stream(a, bytes, len)) return CURL_WRITEFUNC_PAUSE;
+    it->of->bytes += len;
+    it->hub->bytes += len;
     if (streams) return len;
-    if (a->code >= 300) return (a->came += len) <= a->most ? len : 0;
-    if (!answer_body(a, (const uint8_t *)at, len)) return 0;
+    if (a->code >= 300) {
+        a->came += len;
+        return a->came <= a->most ? len : 0;
+    }
+    if (!answer_body(a, bytes, len)) return 0;
     return a->state != WHOLE_FILE || copy_bytes(it, at, len) ? len : 0;
 }
 
 /* From a public address no redirect leads to a private one. */
 static curl_socket_t open_socket(void *with, curlsocktype purpose, struct curl_sockaddr *to) {
-    leg *it = with;
+    const leg *it = with;
     (void)purpose;
     if (!it || (it->is_guarded && address_is_private(&to->addr))) return CURL_SOCKET_BAD;
     return socket(to->family, to->socktype | SOCK_CLOEXEC, to->protocol);
@@ -71,34 +71,43 @@ static curl_socket_t open_socket(void *with, curlsocktype purpose, struct curl_s
 static bool set_options(leg *it) {
     const settings *s = it->hub->set;
     CURLcode r = CURLE_OK;
-    SET(CURLOPT_NOSIGNAL, 1L), SET(CURLOPT_BUFFERSIZE, (long)BUFFER_LEN), SET(CURLOPT_IPRESOLVE, s->family), SET(CURLOPT_USERAGENT, s->agent);
+    SET(CURLOPT_NOSIGNAL, 1L);
+    SET(CURLOPT_BUFFERSIZE, (long)BUFFER_LEN);
+    SET(CURLOPT_IPRESOLVE, s->family);
+    SET(CURLOPT_USERAGENT, s->agent);
 #if LIBCURL_VERSION_NUM >= 0x075500
     SET(CURLOPT_PROTOCOLS_STR, "http,https");
-    if (r == CURLE_UNSUPPORTED_PROTOCOL) r = CURLE_OK, SET(CURLOPT_PROTOCOLS_STR, "http");
+    if (r == CURLE_UNSUPPORTED_PROTOCOL)
+        r = curl_easy_setopt(it->easy, CURLOPT_PROTOCOLS_STR, "http");
 #else
     SET(CURLOPT_PROTOCOLS, (long)(CURLPROTO_HTTP | CURLPROTO_HTTPS));
 #endif
-    SET(CURLOPT_WRITEFUNCTION, on_body), SET(CURLOPT_WRITEDATA, it);
-    SET(CURLOPT_HEADERFUNCTION, on_header), SET(CURLOPT_HEADERDATA, it);
-    SET(CURLOPT_OPENSOCKETFUNCTION, open_socket), SET(CURLOPT_OPENSOCKETDATA, it);
-    SET(CURLOPT_ERRORBUFFER, it->why), SET(CURLOPT_PRIVATE, it);
-    if (s->authorities || s->authorities_in) SET(CURLOPT_CAINFO, s->authorities);
-    /* not the folder that libcurl was built with; one that knows no folders needn't be told */
-    if ((s->authorities || s->authorities_in) && curl_easy_setopt(it->easy, CURLOPT_CAPATH, s->authorities_in) && s->authorities_in) return false;
-    if (s->certificate) SET(CURLOPT_SSLCERT, s->certificate);
-    if (s->key) SET(CURLOPT_SSLKEY, s->key);
+    SET(CURLOPT_WRITEFUNCTION, on_body);
+    SET(CURLOPT_WRITEDATA, it);
+    SET(CURLOPT_HEADERFUNCTION, on_header);
+    SET(CURLOPT_HEADERDATA, it);
+    SET(CURLOPT_OPENSOCKETFUNCTION, open_socket);
+    SET(CURLOPT_OPENSOCKETDATA, it);
+    SET(CURLOPT_ERRORBUFFER, it->why);
+    SET(CURLOPT_PRIVATE, it);
+    SET(CURLOPT_SSLCERT, s->certificate);
+    SET(CURLOPT_SSLKEY, s->key);
     if (s->proxy) SET(CURLOPT_PROXY, s->proxy);
     if (s->netrc) SET(CURLOPT_NETRC, (long)CURL_NETRC_OPTIONAL);
-    if (s->unchecked) SET(CURLOPT_SSL_VERIFYPEER, 0L), SET(CURLOPT_SSL_VERIFYHOST, 0L);
-    return !r;
+    SET(CURLOPT_SSL_VERIFYPEER, (long)!s->unchecked);
+    SET(CURLOPT_SSL_VERIFYHOST, s->unchecked ? 0L : 2L);
+    if (!s->authorities && !s->authorities_in) return !r;
+    SET(CURLOPT_CAINFO, s->authorities);
+    /* not the folder that libcurl was built with; one that knows no folders needn't be told */
+    const CURLcode of_folder = curl_easy_setopt(it->easy, CURLOPT_CAPATH, s->authorities_in);
+    return !r && (!of_folder || !s->authorities_in);
 }
 
-/* How many pieces are asked for as one range: each begins near the end of the one before, and the first and the last lack
- * something. */
+/* How many are one range: each is near the one before, and the first and last lack something. */
 static size_t near_ones(const piece *list, size_t count) {
     size_t n = 1;
     for (size_t i = 1; i < count; i++) {
-        uint64_t end = list[i - 1].at + list[i - 1].len;
+        const uint64_t end = list[i - 1].at + list[i - 1].len;
         if (list[i].at < end || list[i].at - end > NEAR) break;
         if (!piece_is_whole(&list[i])) n = i + 1;
     }
@@ -107,25 +116,29 @@ static size_t near_ones(const piece *list, size_t count) {
 
 /* Picks the pieces of the next request, and writes its ranges. How many bytes are asked for. */
 static uint64_t write_ranges(leg *it) {
-    const piece *list = it->wanted->list;
+    const piece *of = it->wanted->list, *end = of + it->wanted->count;
     size_t some = 0, used = 0;
     it->count = it->wanted->count;
-    if (it->streams) return pieces_lacking(list, it->count);
-    while (piece_is_whole(&list[it->first])) it->first++;
-    list += it->first, it->count -= it->first;
-    for (size_t i = 0; i < it->count; i++) some += !piece_is_whole(&list[i]);
-    it->several = some > 1 && some <= SEVERAL_MOST && !it->of->one_range && !it->of->no_ranges;
+    if (it->streams) return pieces_lacking(of, it->count);
+    while (piece_is_whole(&it->wanted->list[it->first])) it->first++;
+    of += it->first;
+    it->count -= it->first;
+    for (const piece *p = of; p < end; p++) some += !piece_is_whole(p);
+    it->several = some > 1 && !it->of->one_range && !it->of->no_ranges;
     if (!it->several) {
-        it->count = near_ones(list, it->count);
-        uint64_t from = list->at + list->have, end = list[it->count - 1].at + list[it->count - 1].len;
-        snprintf(it->range, sizeof it->range, "%" PRIu64 "-%" PRIu64, from, end - 1);
-        return end - from;
+        it->count = near_ones(of, it->count);
+        const uint64_t from = of->at + of->have,
+                       last = of[it->count - 1].at + of[it->count - 1].len - 1;
+        snprintf(it->range, sizeof it->range, "%" PRIu64 "-%" PRIu64, from, last);
+        return last + 1 - from;
     }
-    for (const piece *of = list; of < list + it->count; of++) {
-        if (piece_is_whole(of)) continue;
-        used += (size_t)snprintf(it->range + used, sizeof it->range - used, "%s%" PRIu64 "-%" PRIu64, used ? "," : "", of->at + of->have, of->at + of->len - 1);
+    for (const piece *p = of; p < end; p++) {
+        if (piece_is_whole(p)) continue;
+        used +=
+            (size_t)snprintf(it->range + used, sizeof it->range - used, "%s%" PRIu64 "-%" PRIu64,
+                             used ? "," : "", p->at + p->have, p->at + p->len - 1);
     }
-    return pieces_lacking(list, it->count);
+    return pieces_lacking(of, it->count);
 }
 
 /* Where it is asked, or was. */
@@ -137,31 +150,38 @@ static void request(leg *it) {
     source *of = it->of;
     CURLcode r = CURLE_OK;
     const char *to = address_of(it);
-    bool strange = to != of->url && !url_same_server(to, of->url);
+    const bool is_own = to == of->url || url_same_server(to, of->url);
     if (to == of->moved) it->is_guarded = of->is_guarded;
-    uint64_t asked = write_ranges(it);
+    const uint64_t asked = write_ranges(it);
     answer_begin(&it->answer, it->wanted->list + it->first, it->count, asked);
     it->answer.streams = it->streams;
-    it->why[0] = 0, it->mark = 0, it->since = now_ms();
-    SET(CURLOPT_URL, to), SET(CURLOPT_RANGE, it->streams ? NULL : it->range), SET(CURLOPT_FRESH_CONNECT, (long)(it->is_guarded && it->url));
-    SET(CURLOPT_HTTPHEADER, strange ? it->hub->set->plain : it->hub->set->headers);
+    it->why[0] = 0;
+    it->mark = 0;
+    it->since = now_ms();
+    SET(CURLOPT_URL, to);
+    SET(CURLOPT_RANGE, it->streams ? NULL : it->range);
+    SET(CURLOPT_FRESH_CONNECT, (long)(it->is_guarded && it->url));
+    SET(CURLOPT_HTTPHEADER, is_own ? it->hub->set->headers : it->hub->set->plain);
     if (!r && !curl_multi_add_handle(it->hub->multi, it->easy)) return;
-    snprintf(of->why, sizeof of->why, "%s", r ? curl_easy_strerror(r) : "libcurl refuses the request");
-    it->error = ENOMEM;                     /* its end is told by hub_wait */
+    source_note(of, true, "%s", r ? curl_easy_strerror(r) : "libcurl refuses the request");
+    it->error = ENOMEM; /* its end is told by hub_wait */
 }
 
 static bool may_try_one(const leg *it, CURLcode r) {
     const long c = it->answer.code;
     if (!it->several) return false;
     if (it->answer.state == WHOLE_FILE || (!r && it->answer.state == ONE_BODY)) return true;
-    return c >= 400 && c != 401 && c != 404 && c != 407 && c != 410 && c != 429 && !(c == 503 && it->wait_ms);
+    return c >= 400 && c != 401 && c != 404 && c != 407 && c != 410 && c != 429 &&
+           !(c == 503 && it->wait_ms);
 }
 
 /* Goes where an answer leads. False: it doesn't. */
 static bool follow(leg *it) {
-    char *at = NULL, *to;
+    char *at = NULL;
     curl_easy_getinfo(it->easy, CURLINFO_PRIMARY_IP, &at);
-    if (!answer_moves(&it->answer) || ++it->hops > HOPS_MOST || !(to = url_next(address_of(it), it->answer.location))) return false;
+    if (!answer_moves(&it->answer) || ++it->hops > HOPS_MOST) return false;
+    char *to = url_next(address_of(it), it->answer.location);
+    if (!to) return false;
     if (at && *at && !text_is_private(at) && !it->hub->set->allow_private) it->is_guarded = true;
     free(it->url);
     it->url = to;
@@ -172,22 +192,27 @@ static bool follow(leg *it) {
 static void note_why(leg *it, CURLcode r) {
     source *of = it->of;
     const long c = of->code = it->answer.code;
-    const char *why = it->answer.state == WHOLE_FILE ? "it serves no ranges" : "other bytes came than were asked for";
-    bool ours = !r || r == CURLE_WRITE_ERROR, stays = ours || r == CURLE_UNSUPPORTED_PROTOCOL || r == CURLE_URL_MALFORMAT
-        || r == CURLE_OUT_OF_MEMORY || r == CURLE_WEIRD_SERVER_REPLY || r == CURLE_PEER_FAILED_VERIFICATION || r == CURLE_TOO_LARGE;
-    of->is_far = c >= 500 || c == 429 || c == 408 || !stays;
-    if (answer_moves(&it->answer)) snprintf(of->why, sizeof of->why, "it leads elsewhere, where no redirect is followed");
-    else if (c >= 400) snprintf(of->why, sizeof of->why, "HTTP status %ld", c);
-    else if (it->is_guarded && r == CURLE_COULDNT_CONNECT) of->is_far = false, snprintf(of->why, sizeof of->why, "it leads to a private address, or can't be reached");
-    else snprintf(of->why, sizeof of->why, "%s", ours ? why : it->why[0] ? it->why : curl_easy_strerror(r));
+    const bool is_ours = !r || r == CURLE_WRITE_ERROR;
+    const bool stays = is_ours || r == CURLE_UNSUPPORTED_PROTOCOL || r == CURLE_URL_MALFORMAT ||
+                       r == CURLE_OUT_OF_MEMORY || r == CURLE_WEIRD_SERVER_REPLY ||
+                       r == CURLE_PEER_FAILED_VERIFICATION || r == CURLE_TOO_LARGE;
+    const bool is_far = c >= 500 || c == 429 || c == 408 || !stays;
+    if (answer_moves(&it->answer))
+        source_note(of, is_far, "it leads elsewhere, where no redirect is followed");
+    else if (c >= 400) source_note(of, is_far, "HTTP status %ld", c);
+    else if (it->is_guarded && r == CURLE_COULDNT_CONNECT)
+        source_note(of, false, "it leads to a private address, or can't be reached");
+    else if (!is_ours) source_note(of, is_far, "%s", it->why[0] ? it->why : curl_easy_strerror(r));
+    else if (it->answer.state == WHOLE_FILE) source_note(of, is_far, "it serves no ranges");
+    else source_note(of, is_far, "other bytes came than were asked for");
 }
 
 /* What came whole is a local file from now on. */
 static bool has_copied(leg *it, CURLcode r) {
-    if (it->fd < 0) return false;
-    bool ok = !r && it->of->fd < 0;
-    if (ok) it->of->fd = it->fd, it->of->is_local = true;
-    else close(it->fd);
+    const bool ok = it->fd >= 0 && !r && it->of->fd < 0;
+    if (ok) it->of->fd = it->fd;
+    else if (it->fd >= 0) close(it->fd);
+    it->of->is_local |= ok;
     it->fd = -1;
     return ok;
 }
@@ -198,81 +223,111 @@ static void has_no_ranges(source *it) {
     if (it->kind != OUTBOARD) it->most = 1;
 }
 
-static uint64_t retry_after(CURL *of) {
-    curl_off_t seconds = 0;
-    curl_easy_getinfo(of, CURLINFO_RETRY_AFTER, &seconds);
-    return seconds < 0 ? 0 : 1000 * (uint64_t)(seconds < DAY ? seconds : DAY);
+/* All that a request was for came. */
+static void go_on(leg *it, CURLcode r) {
+    source *of = it->of;
+    if (it->answer.code == 200 && r == CURLE_WRITE_ERROR && !it->several) has_no_ranges(of);
+    if (it->url) {
+        free(of->moved);
+        of->moved = it->url;
+        of->is_guarded = it->is_guarded;
+        it->url = NULL;
+    }
+    of->code = it->answer.code;
+    it->hops = 0;
+    if (it->streams) it->is_through = true;
+    else if (are_whole(it->wanted)) leg_end_with(it, LEG_ALL);
+    else request(it);
 }
 
 static void finish(leg *it, CURLcode r) {
     source *of = it->of;
+    const bool is_whole_file = it->answer.state == WHOLE_FILE;
+    curl_off_t seconds = 0;
     curl_multi_remove_handle(it->hub->multi, it->easy);
     if (follow(it)) return request(it);
-    it->wait_ms = retry_after(it->easy);
+    curl_easy_getinfo(it->easy, CURLINFO_RETRY_AFTER, &seconds);
+    it->wait_ms = seconds < 0 ? 0 : 1000 * least((uint64_t)seconds, DAY);
     it->at_end = !r && it->answer.state == ONE_BODY;
-    bool copied = has_copied(it, r);
-    if (!pieces_lacking(it->wanted->list + it->first, it->count)) {
-        if (it->answer.code == 200 && r == CURLE_WRITE_ERROR && !it->several) has_no_ranges(of);
-        if (it->url && it->hops) free(of->moved), of->moved = it->url, of->is_guarded = it->is_guarded, it->url = NULL;
-        of->code = it->answer.code, it->hops = 0;
-        if (it->streams) return (void)(it->is_through = true);
-        return pieces_lacking(it->wanted->list, it->wanted->count) ? request(it) : leg_end_with(it, LEG_ALL);
-    }
+    const bool copied = has_copied(it, r);
+    if (!pieces_lacking(it->wanted->list + it->first, it->count)) return go_on(it, r);
     if (copied) return leg_read(it);
-    if (may_try_one(it, r)) return of->one_range = true, request(it);
+    if (may_try_one(it, r)) {
+        of->one_range = true;
+        return request(it);
+    }
     note_why(it, r);
-    free(of->moved), of->moved = NULL;
-    if ((it->answer.code == 429 || it->answer.code == 503) && it->wait_ms) return leg_end_with(it, LEG_LATER);
-    if (it->answer.state == WHOLE_FILE) has_no_ranges(of);
-    leg_end_with(it, it->answer.state == WHOLE_FILE && !it->copy_to ? LEG_NO_RANGES : LEG_SHORT);
+    free(of->moved);
+    of->moved = NULL;
+    if (is_whole_file) has_no_ranges(of);
+    const bool is_later = (of->code == 429 || of->code == 503) && it->wait_ms;
+    const leg_end as = is_whole_file && !it->copy_to ? LEG_NO_RANGES : LEG_SHORT;
+    leg_end_with(it, is_later ? LEG_LATER : as);
 }
 
 /* --- Legs */
 
+/* Begins. Its end is told later, and exactly once. */
 void leg_start(leg *it, hub *on, source *of, pieces *wanted) {
-    free(it->url);                          /* where the one before led */
-    *it = (leg){
-        .came = it->came, .ended = it->ended, .with = it->with, .copy_to = it->copy_to, .copy_most = it->copy_most,
-        .streams = it->streams, .easy = it->easy, .hub = on, .of = of, .wanted = wanted, .fd = -1, .since = now_ms(),
-        .runs = true, .next = on->legs,
-    };
+    free(it->url); /* where the one before led */
+    memset(&it->runs, 0, sizeof *it - offsetof(leg, runs));
+    it->hub = on;
+    it->of = of;
+    it->wanted = wanted;
+    it->fd = -1;
+    it->since = now_ms();
+    it->runs = true;
+    it->next = on->legs;
     on->legs = it;
     of->live++;
     if (of->is_local) return leg_read(it);
-    if (!it->easy && (it->easy = curl_easy_init()) && !set_options(it)) curl_easy_cleanup(it->easy), it->easy = NULL;
+    if (!it->easy && (it->easy = curl_easy_init()) && !set_options(it)) {
+        curl_easy_cleanup(it->easy);
+        it->easy = NULL;
+    }
     if (it->easy) return request(it);
-    snprintf(of->why, sizeof of->why, "libcurl refuses an option, or memory");
+    source_note(of, true, "libcurl refuses an option, or memory");
     it->error = ENOMEM;
 }
 
+/* Of a file that streams: all pieces came, and were laid out anew, where it goes on. */
 void leg_go_on(leg *it) {
-    it->answer.asked = it->wanted->list, it->answer.count = it->count = it->wanted->count;
-    it->is_full = false, it->since = now_ms();
-    if (!it->is_through) curl_easy_pause(it->easy, CURLPAUSE_CONT);
-    else it->error = EPIPE, snprintf(it->of->why, sizeof it->of->why, "it ends before");
+    it->answer.asked = it->wanted->list;
+    it->answer.count = it->count = it->wanted->count;
+    it->since = now_ms();
+    if (!it->is_through) {
+        curl_easy_pause(it->easy, CURLPAUSE_CONT);
+        return;
+    }
+    source_note(it->of, true, "it ends before");
+    it->error = EPIPE;
 }
 
-/* To end a request whose name is looked up would wait for the name server: it is left to end by itself, and opens no socket. */
-static void leave_alone(leg *it) {
+/* To end a request before its name is known would wait for the name server: it ends by itself. */
+static void stop(leg *it) {
     CURLcode r = CURLE_OK;
-    SET(CURLOPT_OPENSOCKETDATA, NULL), SET(CURLOPT_ERRORBUFFER, NULL), SET(CURLOPT_PRIVATE, NULL);
-    SET(CURLOPT_WRITEDATA, NULL), SET(CURLOPT_HEADERDATA, NULL);
+    double looked = 0;
+    curl_easy_getinfo(it->easy, CURLINFO_NAMELOOKUP_TIME, &looked);
+    if (looked > 0 || it->answer.header_bytes) {
+        curl_multi_remove_handle(it->hub->multi, it->easy);
+        has_copied(it, CURLE_ABORTED_BY_CALLBACK);
+        return;
+    }
+    SET(CURLOPT_OPENSOCKETDATA, NULL);
+    SET(CURLOPT_ERRORBUFFER, NULL);
+    SET(CURLOPT_PRIVATE, NULL);
+    SET(CURLOPT_WRITEDATA, NULL);
+    SET(CURLOPT_HEADERDATA, NULL);
     it->hub->ghosts++;
     it->easy = NULL;
 }
 
-static void stop(leg *it) {
-    double looked = 0;
-    curl_easy_getinfo(it->easy, CURLINFO_NAMELOOKUP_TIME, &looked);
-    if (looked <= 0 && !it->answer.header_bytes) return leave_alone(it);
-    curl_multi_remove_handle(it->hub->multi, it->easy);
-    has_copied(it, CURLE_ABORTED_BY_CALLBACK);
-}
-
+/* Nothing more is wanted, and no end is told. */
 void leg_cut(leg *it) {
     if (!it->runs || it->is_cut) return;
-    it->is_cut = true, it->of->live--;
-    if (it->is_local) return;               /* a read that hangs uses its pieces until it ends */
+    it->is_cut = true;
+    it->of->live--;
+    if (it->is_local) return; /* a read that hangs uses its pieces until it ends */
     if (it->easy && !it->error && !it->is_through) stop(it);
     leg_unlink(it);
 }
@@ -280,16 +335,18 @@ void leg_cut(leg *it) {
 void leg_free(leg *it) {
     curl_easy_cleanup(it->easy);
     free(it->url);
-    it->easy = NULL, it->url = NULL;
 }
 
 /* --- All of them */
 
 bool hub_new(hub *it, const settings *set) {
     *it = (hub){.set = set, .began = now_ms()};
-    return !curl_global_init(CURL_GLOBAL_DEFAULT) && (it->multi = curl_multi_init()) && pool_new(&it->pool, it->multi);
+    if (curl_global_init(CURL_GLOBAL_DEFAULT) || !(it->multi = curl_multi_init())) return false;
+    pool_new(&it->pool, it->multi);
+    return true;
 }
 
+/* Whether all is freed; else a thread or name server hangs, and the process has to end as it is. */
 bool hub_free(hub *it) {
     if (!pool_end(&it->pool) || it->ghosts) return false;
     curl_multi_cleanup(it->multi);
@@ -297,41 +354,46 @@ bool hub_free(hub *it) {
     return true;
 }
 
-/* Whether a leg gave less than the least rate for as long as a stall takes. One that a limit holds up isn't blamed. */
+/* Whether it gave less than the least rate for a stall's time, while no limit held it up. */
 static bool stalls(leg *it, uint64_t now) {
     const settings *s = it->hub->set;
-    uint64_t came = it->answer.came, took = now - it->since;
-    if (it->streams && !pieces_lacking(it->wanted->list, it->wanted->count)) it->since = now;
+    const uint64_t came = it->answer.came, took = now - it->since;
+    const bool is_quick = (double)(came - it->mark) >= s->stall * RATE_LEAST || s->limit_rate;
+    if (it->streams && are_whole(it->wanted)) it->since = now;
     else if (it->is_local) it->of->hangs |= (double)took > s->stall * 500;
-    else if ((double)(came - it->mark) >= s->stall * RATE_LEAST || s->limit_rate) it->mark = came, it->since = now;
+    else if (is_quick) {
+        it->mark = came;
+        it->since = now;
+    }
     return (double)(now - it->since) > s->stall * 1000;
 }
 
 /* What a leg waits to be told. Whether it has ended by that. */
 static bool look_at(leg *it, uint64_t now) {
-    source *of = it->of;
     if (it->is_cut) return false;
-    if (it->is_paused && !is_held_up(it->hub)) it->is_paused = false, curl_easy_pause(it->easy, CURLPAUSE_CONT);
-    if (it->has_news) it->has_news = false, it->came(it);
-    bool failed = !it->is_local && it->error;   /* a read under way writes that of a local file */
+    if (it->is_paused && !is_held_up(it->hub)) {
+        it->is_paused = false;
+        curl_easy_pause(it->easy, CURLPAUSE_CONT);
+    }
+    if (it->has_news) {
+        it->has_news = false;
+        it->tell(it, LEG_MORE);
+    }
+    const bool failed =
+        !it->is_local && it->error; /* a read under way writes that of a local file */
     if (it->is_cut || (!failed && !stalls(it, now))) return it->is_cut && !it->is_local;
-    if (!failed) snprintf(of->why, sizeof of->why, "less than 1 KiB a second for %g seconds", it->hub->set->stall);
-    of->is_far = true;
+    if (!failed)
+        source_note(it->of, true, "less than 1 KiB a second for %g seconds", it->hub->set->stall);
     leg_cut(it);
-    it->ended(it, LEG_SHORT);
+    it->tell(it, LEG_SHORT);
     return true;
-}
-
-static void look_at_all(hub *it) {
-    const uint64_t now = now_ms();
-    for (leg *at = it->legs; at;) at = look_at(at, now) ? it->legs : at->next;
 }
 
 static void take_messages(hub *it) {
     int left;
     for (CURLMsg *m; (m = curl_multi_info_read(it->multi, &left));) {
         CURL *easy = m->easy_handle;
-        CURLcode r = m->data.result;
+        const CURLcode r = m->data.result;
         leg *of = NULL;
         curl_easy_getinfo(easy, CURLINFO_PRIVATE, (char **)(void *)&of);
         if (of) {
@@ -344,13 +406,15 @@ static void take_messages(hub *it) {
     }
 }
 
+/* Moves all on, and waits until something happens, at most up to a moment. */
 void hub_wait(hub *it, uint64_t until) {
-    uint64_t now = now_ms(), most = it->set->limit_rate ? LIMITED_MS : POLL_MS;
+    const uint64_t now = now_ms(), most = it->set->limit_rate ? LIMITED_MS : POLL_MS;
+    const uint64_t left = until > now ? until - now : 0;
     int runs = 0;
-    if (until < now + most) most = until > now ? until - now : 0;
-    curl_multi_poll(it->multi, NULL, 0, (int)most, NULL);
+    curl_multi_poll(it->multi, NULL, 0, (int)least(left, most), NULL);
     curl_multi_perform(it->multi, &runs);
     take_messages(it);
-    look_at_all(it);
+    const uint64_t then = now_ms();
+    for (leg *at = it->legs; at;) at = look_at(at, then) ? it->legs : at->next;
     pool_collect(&it->pool);
 }

@@ -1,14 +1,12 @@
 #include "fetch.h"
 
-#include <libgen.h>
 #include <poll.h>
 #include <sys/file.h>
-#include <sys/stat.h>
 #include <sys/statvfs.h>
 
-enum { PARENTS_LEN = 8192, TRIES_MOST = 8, TAIL_LEN = 48, PIPE_LEN = 4096, NAP_MS = 200 };
+enum { TRIES_MOST = 8, TAIL_LEN = 48, PIPE_LEN = 4096, NAP_MS = 200 };
 
-/* What is to be replaced: behind a link what it leads to. 0, or a status. */
+/* The regular file that is to be replaced, behind a link what it leads to. 0, or a status. */
 static int find_target(output *it) {
     struct stat of;
     if (lstat(it->path, &of)) return errno == ENOENT ? 0 : file_fault(it->path);
@@ -18,25 +16,31 @@ static int find_target(output *it) {
         if (!it->target || lstat(it->target, &of)) return file_fault(it->path);
         it->path = it->target;
     }
-    if (!S_ISREG(of.st_mode)) return say(FILE_FAULT, "%s: not a regular file; OUT may be -, for a pipe", it->path);
+    if (!S_ISREG(of.st_mode))
+        return say(FILE_FAULT, "%s: not a regular file; OUT may be -, for a pipe", it->path);
     if (access(it->path, W_OK)) return file_fault(it->path);
-    it->is_there = true, it->mode = of.st_mode & 0777, it->user = of.st_uid, it->group = of.st_gid;
+    it->is_there = true;
+    it->mode = of.st_mode & 0777;
+    it->was = of;
     return 0;
 }
 
+/* Names the files. 0, or a status: 3 was said. */
 int out_new(output *it, const char *path, const uint8_t root[BW_HASH_LEN]) {
     const char *temporary = getenv("TMPDIR");
     *it = (output){.path = path, .fd = -1, .is_pipe = !strcmp(path, "-")};
     memcpy(it->root, root, BW_HASH_LEN);
-    if (it->is_pipe) return (it->folder = strdup(temporary && *temporary ? temporary : "/tmp")) ? 0 : NO_MEMORY;
-    mode_t mask = umask(0);
+    if (it->is_pipe) {
+        it->folder = strdup(temporary && *temporary ? temporary : "/tmp");
+        return it->folder ? 0 : NO_MEMORY;
+    }
+    const mode_t mask = umask(0);
     umask(mask);
     it->mode = 0666 & ~mask;
-    int status = find_target(it);
+    const int status = find_target(it);
     if (status) return status;
-    char *copy = strdup(it->path);
-    it->folder = copy ? strdup(dirname(copy)) : NULL;
-    free(copy);
+    const char *slash = strrchr(it->path, '/');
+    it->folder = slash ? strndup(it->path, (size_t)(slash - it->path) + 1) : strdup(".");
     if (asprintf(&it->part, "%s.part.fetch", it->path) < 0) it->part = NULL;
     return it->part && it->folder ? 0 : NO_MEMORY;
 }
@@ -48,39 +52,53 @@ static void close_part(output *it) {
 
 void out_free(output *it) {
     close_part(it);
-    free(it->target), free(it->part), free(it->folder), free(it->window);
+    free(it->target);
+    free(it->part);
+    free(it->folder);
+    free(it->window);
 }
 
+/* Whether the bytes that a hasher took in have the root. */
+bool out_has_root(const output *it, bw_hasher *hasher) {
+    uint8_t found[BW_HASH_LEN];
+    return !bw_hasher_finish(hasher, 0, found, BW_HASH_LEN) &&
+           !memcmp(found, it->root, BW_HASH_LEN);
+}
+
+/* Whether OUT has the root already, and how long it is. */
 bool out_is_right(const output *it, const bw_mode *mode, uint64_t *len) {
     static uint8_t bytes[DRAIN_LEN];
-    uint8_t found[BW_HASH_LEN];
     bw_hasher hasher = BW_EMPTY;
-    int fd = it->is_there ? open(it->path, O_RDONLY | O_CLOEXEC | O_NONBLOCK) : -1;
+    const int fd = it->is_there ? open(it->path, O_RDONLY | O_CLOEXEC | O_NONBLOCK) : -1;
     ssize_t n = -1;
     *len = 0;
     bool ok = fd >= 0 && !bw_hasher_new(mode, &hasher);
-    while (ok && (n = read(fd, bytes, sizeof bytes)) > 0) ok = !bw_hasher_update(&hasher, bytes, (size_t)n), *len += (uint64_t)n;
-    ok = ok && !n && !bw_hasher_finish(&hasher, 0, found, BW_HASH_LEN) && !memcmp(found, it->root, BW_HASH_LEN);
+    while (ok && (n = read(fd, bytes, sizeof bytes)) > 0) {
+        ok = !bw_hasher_update(&hasher, bytes, (size_t)n);
+        *len += (uint64_t)n;
+    }
+    ok = ok && !n && out_has_root(it, &hasher);
     bw_free(&hasher);
     if (fd >= 0) close(fd);
     return ok;
 }
 
-/* --- OUT.part.fetch: made by this user alone, with one name, and written by no other run. What isn't so is removed. */
+/* --- OUT.part.fetch: this user's, of one name, written by one run. What isn't so is removed. */
 
 /* Whether the file that is open is this user's own, and has the name. */
 static bool is_own(const output *it) {
     struct stat ours, named;
     if (fstat(it->fd, &ours) || lstat(it->part, &named)) return false;
-    return ours.st_dev == named.st_dev && ours.st_ino == named.st_ino && S_ISREG(ours.st_mode) && ours.st_nlink == 1
-        && ours.st_uid == geteuid() && !(ours.st_mode & 077);
+    return ours.st_dev == named.st_dev && ours.st_ino == named.st_ino && S_ISREG(ours.st_mode) &&
+           ours.st_nlink == 1 && ours.st_uid == geteuid() && !(ours.st_mode & 077);
 }
 
-/* What was there is opened, or what is made. Another run that ended between opening and locking has made OUT of the file. */
+/* What was there is opened, or what is made. Another run that ended between opening and locking has
+ * made OUT of the file. 0, -1 where nothing is there, or a status. */
 static int lock_part(output *it, bool makes) {
     for (int i = 0; i < TRIES_MOST; i++) {
         it->fd = open(it->part, O_RDWR | O_CLOEXEC | O_NOFOLLOW | O_NONBLOCK);
-        bool is_there = it->fd >= 0 || errno != ENOENT;
+        const bool is_there = it->fd >= 0 || errno != ENOENT;
         if (it->fd >= 0 && flock(it->fd, LOCK_EX | LOCK_NB) && errno == EWOULDBLOCK) {
             close_part(it);
             return say(FILE_FAULT, "%s: another bw-fetch writes it", it->part);
@@ -103,143 +121,150 @@ static void write_tail(const output *it, uint8_t bytes[TAIL_LEN]) {
     memcpy(bytes + 16, it->root, BW_HASH_LEN);
 }
 
-static uint64_t tail_at(uint64_t total) {
-    return total + bw_outboard_len(total);
-}
+static uint64_t tail_at(uint64_t total) { return total + bw_outboard_len(total); }
 
+/* Opens what an earlier run left of the same root. 0, -1 where that is nothing, or a status. */
 int out_resume(output *it) {
     uint8_t bytes[TAIL_LEN], wanted[TAIL_LEN];
     struct stat of;
-    int status = it->is_pipe ? -1 : lock_part(it, false);
+    const int status = it->is_pipe ? -1 : lock_part(it, false);
     if (status) return status;
-    uint64_t size = fstat(it->fd, &of) || of.st_size < TAIL_LEN ? 0 : (uint64_t)of.st_size - TAIL_LEN;
-    bool ok = size && read_at(it->fd, size, bytes, TAIL_LEN) == TAIL_LEN;
-    if (ok) it->total = length_claimed(bytes + 8), write_tail(it, wanted);
-    if (ok && !memcmp(bytes, wanted, TAIL_LEN) && it->total < size && tail_at(it->total) == size) return 0;
-    return close_part(it), -1;
+    const uint64_t size = fstat(it->fd, &of) ? 0 : (uint64_t)of.st_size;
+    if (size > TAIL_LEN && read_at(it->fd, size - TAIL_LEN, bytes, TAIL_LEN) == TAIL_LEN) {
+        it->total = length_claimed(bytes + 8);
+        write_tail(it, wanted);
+        if (!memcmp(bytes, wanted, TAIL_LEN) && it->total < size &&
+            tail_at(it->total) == size - TAIL_LEN)
+            return 0;
+    }
+    close_part(it);
+    return -1;
 }
 
+/* Makes OUT.part.fetch anew, or the window, for a blob of so many bytes. 0, or a status. */
 int out_open(output *it, uint64_t total) {
     it->total = total;
     if (it->is_pipe) {
-        uint64_t units = total / UNIT_LEN + 1;
         free(it->window);
-        it->window_len = (units < WINDOW_UNITS ? units : WINDOW_UNITS) * UNIT_LEN;
-        it->window = malloc((size_t)it->window_len);
+        it->window_len = least(total / UNIT_LEN + 1, WINDOW_UNITS) * UNIT_LEN;
+        it->window = malloc(it->window_len);
         return it->window ? 0 : NO_MEMORY;
     }
     close_part(it);
     it->is_full = false;
-    int status = lock_part(it, true);
+    const int status = lock_part(it, true);
     if (status) return status;
     return ftruncate(it->fd, 0) || ftruncate(it->fd, (off_t)total) ? file_fault(it->part) : 0;
 }
 
+/* The length is certified: a later run can go on. 0, or a status. */
 int out_certify(output *it) {
     uint8_t bytes[TAIL_LEN];
+    const uint64_t end = tail_at(it->total);
     if (it->is_pipe) return 0;
     write_tail(it, bytes);
-    bool has_room = write_at(it->fd, it->total, bytes + 8, BW_LENGTH_LEN) == BW_LENGTH_LEN
-        && write_at(it->fd, tail_at(it->total), bytes, TAIL_LEN) == TAIL_LEN;
-    it->is_full |= !has_room;
-    return ftruncate(it->fd, (off_t)(it->is_full ? it->total : tail_at(it->total) + TAIL_LEN)) ? file_fault(it->part) : 0;
+    it->is_full |= write_at(it->fd, it->total, bytes + 8, BW_LENGTH_LEN) < BW_LENGTH_LEN ||
+                   write_at(it->fd, end, bytes, TAIL_LEN) < TAIL_LEN;
+    return ftruncate(it->fd, (off_t)(it->is_full ? it->total : end + TAIL_LEN))
+               ? file_fault(it->part)
+               : 0;
 }
 
+/* The first byte from there on that isn't in a hole, or UINT64_MAX. */
 uint64_t out_data(const output *it, uint64_t from) {
-    off_t at = lseek(it->fd, (off_t)from, SEEK_DATA);
+    const off_t at = lseek(it->fd, (off_t)from, SEEK_DATA);
     return at >= 0 ? (uint64_t)at : errno == ENXIO ? UINT64_MAX : from;
 }
 
-/* Has parents give way to the blob where a disk is full, if it has room for the blob then. Else all is kept for a later run. */
+/* On a full disk parents give way to the blob, if it has room then. Else all is kept as it is. */
 static bool give_way(output *it) {
     struct statvfs disk;
     struct stat of;
-    if ((errno != ENOSPC && errno != EDQUOT) || fstatvfs(it->fd, &disk) || fstat(it->fd, &of)) return false;
-    if ((uint64_t)disk.f_bavail * disk.f_frsize + (uint64_t)of.st_blocks * 512 < it->total) return errno = ENOSPC, false;
+    if ((errno != ENOSPC && errno != EDQUOT) || fstatvfs(it->fd, &disk) || fstat(it->fd, &of))
+        return false;
+    if ((uint64_t)disk.f_bavail * disk.f_frsize + (uint64_t)of.st_blocks * 512 < it->total) {
+        errno = ENOSPC;
+        return false;
+    }
     atomic_store(&it->is_full, true);
     return !ftruncate(it->fd, (off_t)it->total);
 }
 
+/* Bytes of the blob, to their place and from it. A pipe's lie within the window. */
 bool out_put(output *it, uint64_t from, const uint8_t *bytes, size_t len) {
-    if (it->is_pipe) return memcpy(it->window + from % it->window_len, bytes, len), true;
-    if (write_at(it->fd, from, bytes, len) == len) return true;
-    return (give_way(it) && write_at(it->fd, from, bytes, len) == len) || !file_fault(it->part);
+    if (it->is_pipe) return memcpy(it->window + from % it->window_len, bytes, len);
+    return write_at(it->fd, from, bytes, len) == len ||
+           (give_way(it) && write_at(it->fd, from, bytes, len) == len) || !file_fault(it->part);
 }
 
 bool out_get(const output *it, uint64_t from, uint8_t *bytes, size_t len) {
-    if (it->is_pipe) return memcpy(bytes, it->window + from % it->window_len, len), true;
+    if (it->is_pipe) return memcpy(bytes, it->window + from % it->window_len, len);
     return read_at(it->fd, from, bytes, len) == len || !file_fault(it->part);
 }
 
+/* Has the disk begin with a range of the file, so that less is left to out_finish. */
 void out_write_back(const output *it, uint64_t from, uint64_t len) {
     if (!it->is_pipe) sync_file_range(it->fd, (off_t)from, (off_t)len, SYNC_FILE_RANGE_WRITE);
 }
 
-/* So little at a time that a pipe takes it as soon as it takes something: nobody may read it for ever. */
+/* Writes the next bytes to a pipe; of a file nothing is to be done. So little at a time that a pipe
+ * takes it as soon as it takes something: nobody may read it for ever. */
 bool out_pass(output *it, const uint8_t *bytes, size_t len) {
+    struct pollfd to = {.fd = STDOUT_FILENO, .events = POLLOUT};
     while (it->is_pipe && len) {
-        struct pollfd to = {.fd = STDOUT_FILENO, .events = POLLOUT};
         if (atomic_load(&it->is_over)) return false;
         if (poll(&to, 1, NAP_MS) <= 0) continue;
-        ssize_t n = write(STDOUT_FILENO, bytes, len < PIPE_LEN ? len : PIPE_LEN);
+        const ssize_t n = write(STDOUT_FILENO, bytes, least(len, PIPE_LEN));
         if (n < 0 && (errno == EINTR || errno == EAGAIN)) continue;
         if (n <= 0) return !file_fault("standard output");
-        bytes += n, len -= (size_t)n;
+        bytes += n;
+        len -= (size_t)n;
     }
     return true;
 }
 
-/* So that the new name is on the disk as well. A folder that can't be opened or flushed is left as it is. */
-static void flush_folder(const output *it) {
-    int fd = open(it->folder, O_RDONLY | O_DIRECTORY | O_CLOEXEC);
-    if (fd >= 0) fsync(fd), close(fd);
-}
-
+/* Has the file on the disk and renames it to OUT. A folder that can't be opened or flushed, so that
+ * the new name is on the disk as well, is left as it is. */
 bool out_finish(output *it) {
     if (it->is_pipe) return true;
-    if (it->is_there && fchown(it->fd, it->user, it->group)) errno = 0;     /* as far as it is allowed */
-    if (fchmod(it->fd, it->mode) || ftruncate(it->fd, (off_t)it->total) || fsync(it->fd) || rename(it->part, it->path)) return !file_fault(it->path);
-    flush_folder(it);
+    if (it->is_there && fchown(it->fd, it->was.st_uid, it->was.st_gid))
+        errno = 0; /* as far as it is allowed */
+    if (fchmod(it->fd, it->mode) || ftruncate(it->fd, (off_t)it->total) || fsync(it->fd) ||
+        rename(it->part, it->path))
+        return !file_fault(it->path);
     close_part(it);
+    const int folder = open(it->folder, O_RDONLY | O_DIRECTORY | O_CLOEXEC);
+    if (folder < 0) return true;
+    fsync(folder);
+    close(folder);
     return true;
 }
 
 /* --- Parents: byte `at` of the outboard encoding is byte `at` after the blob */
 
-typedef struct learning {
-    const output *to;
-    trail *above;
-    bool is_new;
-    uint64_t from;
-    size_t len;
-    uint8_t bytes[PARENTS_LEN];
-} learning;
-
-/* Parents that follow each other are written at once. */
-static void flush_parents(learning *by) {
-    if (by->len) (void)write_at(by->to->fd, by->to->total + by->from, by->bytes, by->len);
-    by->len = 0;
+static void put_parents(const output *it, uint64_t at, const uint8_t *bytes, size_t len) {
+    if (len && !it->is_pipe && !atomic_load(&it->is_full))
+        (void)write_at(it->fd, it->total + at, bytes, len);
 }
 
-static void learn_node(learning *by, const bw_placed *it, const uint8_t *bytes) {
-    ancestor *of = trail_find(by->above, it->outboard_at);
-    if (of && of->is_known) return;
-    if (of) memcpy(of->text, bytes, BW_PARENT_LEN), of->is_known = by->is_new = true;
-    if (by->to->is_pipe || atomic_load(&by->to->is_full)) return;
-    if (it->outboard_at != by->from + by->len || by->len == PARENTS_LEN) flush_parents(by);
-    if (!by->len) by->from = it->outboard_at;
-    memcpy(by->bytes + by->len, bytes, BW_PARENT_LEN);
-    by->len += BW_PARENT_LEN;
-}
-
-bool out_learn(const output *it, trail *above, uint64_t start, uint64_t len, const uint8_t *text) {
-    learning by = {.to = it, .above = above};
+/* Keeps the parents of an accepted slice that weren't known. A pipe keeps only those above units,
+ * as does a file where there is no room for others: that ends no fetch. */
+void out_learn(const output *it, known *above, uint64_t start, uint64_t len, const uint8_t *text) {
+    static _Thread_local uint8_t bytes[GROUP_NODES_MOST * BW_PARENT_LEN];
+    uint64_t at = 0;
+    size_t used = 0; /* of those that follow each other, which are written at once */
     slice of;
-    if (!slice_of(&of, it->total, start, len)) return false;
+    if (!slice_of(&of, it->total, start, len)) return;
     text += BW_LENGTH_LEN;
-    for (size_t i = 0; i < of.count; text += of.nodes[i++].size) {
-        if (of.nodes[i].kind == BW_NODE_PARENT) learn_node(&by, &of.nodes[i], text);
+    for (const bw_placed *node = of.nodes; node < of.nodes + of.count; text += node++->size) {
+        if (node->kind != BW_NODE_PARENT || !know(above, node, text)) continue;
+        if (node->outboard_at != at + used) {
+            put_parents(it, at, bytes, used);
+            at = node->outboard_at;
+            used = 0;
+        }
+        memcpy(bytes + used, text, BW_PARENT_LEN);
+        used += BW_PARENT_LEN;
     }
-    flush_parents(&by);
-    return by.is_new;
+    put_parents(it, at, bytes, used);
 }

@@ -5,34 +5,33 @@
 
 enum { READERS_MOST = 64, COMPUTERS_MOST = 16 };
 
+/* Milliseconds of a clock that doesn't go back. */
 uint64_t now_ms(void) {
     struct timespec t;
     clock_gettime(CLOCK_MONOTONIC, &t);
     return (uint64_t)t.tv_sec * 1000 + (uint64_t)t.tv_nsec / 1000000;
 }
 
-bool pool_new(pool *it, CURLM *wakes) {
-    long cores = sysconf(_SC_NPROCESSORS_ONLN);
-    const unsigned most[] = {[TO_COMPUTE] = cores < 1 ? 1 : cores > COMPUTERS_MOST ? COMPUTERS_MOST : (unsigned)cores, [TO_READ] = READERS_MOST};
-    pthread_condattr_t steady;
+void pool_new(pool *it, CURLM *wakes) {
+    const long cores = sysconf(_SC_NPROCESSORS_ONLN);
     *it = (pool){.wakes = wakes};
-    if (pthread_condattr_init(&steady)) return false;
-    pthread_condattr_setclock(&steady, CLOCK_MONOTONIC);
+    it->lanes[TO_COMPUTE].most = cores < 1 ? 1 : (unsigned)least((uint64_t)cores, COMPUTERS_MOST);
+    it->lanes[TO_READ].most = READERS_MOST;
     pthread_mutex_init(&it->lock, NULL);
-    pthread_cond_init(&it->gone, &steady);
-    for (unsigned i = 0; i < LANES; i++) {
-        lane *of = &it->lanes[i];
-        *of = (lane){.pool = it, .end = &of->first, .most = most[i]};
+    pthread_cond_init(&it->gone, NULL);
+    for (lane *of = it->lanes; of < it->lanes + LANES; of++) {
+        of->pool = it;
+        of->end = &of->first;
         pthread_cond_init(&of->wake, NULL);
     }
-    return true;
 }
 
 static void finish(pool *it, job *what) {
     pthread_mutex_lock(&it->lock);
-    what->next = it->done, it->done = what;
+    what->next = it->done;
+    it->done = what;
     pthread_mutex_unlock(&it->lock);
-    curl_multi_wakeup(it->wakes);           /* if it can't, the job is seen when it next looks */
+    curl_multi_wakeup(it->wakes); /* if it can't, the job is seen when it next looks */
 }
 
 static void *serve(void *with) {
@@ -47,7 +46,8 @@ static void *serve(void *with) {
             of->idle--;
             continue;
         }
-        if (!(of->first = what->next)) of->end = &of->first;
+        of->first = what->next;
+        if (!of->first) of->end = &of->first;
         pthread_mutex_unlock(&it->lock);
         what->run(what);
         finish(it, what);
@@ -65,7 +65,10 @@ static void grow(lane *of) {
     sigset_t all, before;
     sigfillset(&all);
     pthread_sigmask(SIG_SETMASK, &all, &before);
-    if (!pthread_create(&thread, NULL, serve, of)) pthread_detach(thread), of->threads++;
+    if (!pthread_create(&thread, NULL, serve, of)) {
+        pthread_detach(thread);
+        of->threads++;
+    }
     pthread_sigmask(SIG_SETMASK, &before, NULL);
 }
 
@@ -74,29 +77,41 @@ void pool_post(pool *it, unsigned to, job *what) {
     what->next = NULL;
     pthread_mutex_lock(&it->lock);
     if (!of->idle && of->threads < of->most) grow(of);
-    bool alone = !of->threads;              /* no thread is allowed: it is done here and now */
-    if (!alone) *of->end = what, of->end = &what->next, pthread_cond_signal(&of->wake);
+    const bool has_thread = of->threads;
+    if (has_thread) {
+        *of->end = what;
+        of->end = &what->next;
+        pthread_cond_signal(&of->wake);
+    }
     pthread_mutex_unlock(&it->lock);
-    if (alone) what->run(what), finish(it, what);
+    if (has_thread) return;
+    what->run(what); /* no thread is allowed: it is done here and now */
+    finish(it, what);
 }
 
+/* Calls `done` of each job that is. */
 void pool_collect(pool *it) {
     pthread_mutex_lock(&it->lock);
     job *what = it->done;
     it->done = NULL;
     pthread_mutex_unlock(&it->lock);
-    for (job *next; what; what = next) next = what->next, what->done(what);
+    for (job *next; what; what = next) {
+        next = what->next;
+        what->done(what);
+    }
 }
 
+/* Ends the threads, and waits a second for them. False: some hang, and use what they were given. */
 bool pool_end(pool *it) {
     struct timespec until;
+    int r = 0;
     clock_gettime(CLOCK_MONOTONIC, &until);
     until.tv_sec++;
     pthread_mutex_lock(&it->lock);
     it->quit = true;
-    for (unsigned i = 0; i < LANES; i++) pthread_cond_broadcast(&it->lanes[i].wake);
-    int r = 0;
-    while (!r && it->lanes[TO_COMPUTE].threads + it->lanes[TO_READ].threads) r = pthread_cond_timedwait(&it->gone, &it->lock, &until);
+    for (lane *of = it->lanes; of < it->lanes + LANES; of++) pthread_cond_broadcast(&of->wake);
+    while (!r && it->lanes[TO_COMPUTE].threads + it->lanes[TO_READ].threads)
+        r = pthread_cond_clockwait(&it->gone, &it->lock, CLOCK_MONOTONIC, &until);
     pthread_mutex_unlock(&it->lock);
     return !r;
 }

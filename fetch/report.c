@@ -6,27 +6,31 @@
 
 static const double KIB = 1024, MIB = 1048576;
 
+/* Prints a line, and returns the status. */
 int say(int status, const char *format, ...) {
-    va_list words;
-    va_start(words, format);
-    fputs("bw-fetch: ", stderr), vfprintf(stderr, format, words), fputc('\n', stderr);
-    va_end(words);
+    va_list rest;
+    va_start(rest, format);
+    fputs("bw-fetch: ", stderr);
+    vfprintf(stderr, format, rest);
+    fputc('\n', stderr);
+    va_end(rest);
     return status;
 }
 
-int no_memory(void) {
-    return say(NO_MEMORY, "out of memory");
-}
+int no_memory(void) { return say(NO_MEMORY, "out of memory"); }
 
-int file_fault(const char *path) {
-    return say(FILE_FAULT, "%s: %s", path, strerror(errno));
-}
+int file_fault(const char *path) { return say(FILE_FAULT, "%s: %s", path, strerror(errno)); }
 
 static void print_peer(fetch *f, const peer *it) {
-    const char *became = fetch_has_left_out(f, it) ? "; left out" : it->rank == 2 ? "; asked last" : "", *why = it->at.why;
-    fprintf(stderr, "bw-fetch: %s: %" PRIu64 " bytes, %" PRIu64 " of them false; ", it->at.shown, it->at.bytes, it->at.wrong);
-    if (it->at.kind != OUTBOARD) fprintf(stderr, "%" PRIu64 " groups taken, %" PRIu64 " refused; ", it->good, it->bad);
-    fprintf(stderr, "%u faults%s%s%s\n", it->at.faults, became, *why ? ": " : "", why);
+    const char *became = fetch_has_left_out(f, it) ? "; left out"
+                         : it->rank == LAST        ? "; asked last"
+                                                   : "";
+    fprintf(stderr, "bw-fetch: %s: %" PRIu64 " bytes, %" PRIu64 " of them false; ", it->at.shown,
+            it->at.bytes, it->at.wrong);
+    if (it->at.kind != OUTBOARD)
+        fprintf(stderr, "%" PRIu64 " groups taken, %" PRIu64 " refused; ", it->good, it->bad);
+    fprintf(stderr, "%u faults%s%s%s\n", it->at.faults, became, *it->at.why ? ": " : "",
+            it->at.why);
 }
 
 /* --- JSON */
@@ -34,7 +38,7 @@ static void print_peer(fetch *f, const peer *it) {
 static void put_text(FILE *to, const char *text) {
     fputc('"', to);
     for (; *text; text++) {
-        unsigned char c = (unsigned char)*text;
+        const unsigned char c = (unsigned char)*text;
         fprintf(to, c < 0x20 ? "\\u%04x" : c == '"' || c == '\\' ? "\\%c" : "%c", c);
     }
     fputc('"', to);
@@ -45,8 +49,10 @@ static void put_peers(FILE *to, fetch *f, const char *name, const peer *from, co
     for (const peer *it = from; it != end; it = it->next) {
         fputs(it == from ? "{\"url\":" : ",{\"url\":", to);
         put_text(to, it->at.shown);
-        fprintf(to, ",\"bytes\":%" PRIu64 ",\"false\":%" PRIu64 ",\"taken\":%" PRIu64 ",\"refused\":%" PRIu64, it->at.bytes, it->at.wrong, it->good, it->bad);
-        fprintf(to, ",\"faults\":%u,\"http\":%ld,\"left_out\":%s,\"reason\":", it->at.faults, it->at.code, fetch_has_left_out(f, it) ? "true" : "false");
+        fprintf(to, ",\"bytes\":%" PRIu64 ",\"false\":%" PRIu64, it->at.bytes, it->at.wrong);
+        fprintf(to, ",\"taken\":%" PRIu64 ",\"refused\":%" PRIu64, it->good, it->bad);
+        fprintf(to, ",\"faults\":%u,\"http\":%ld,\"left_out\":%s,\"reason\":", it->at.faults,
+                it->at.code, fetch_has_left_out(f, it) ? "true" : "false");
         put_text(to, it->at.why);
         fputc('}', to);
     }
@@ -55,10 +61,11 @@ static void put_peers(FILE *to, fetch *f, const char *name, const peer *from, co
 
 static void print_json(fetch *f) {
     FILE *to = f->out.is_pipe ? stderr : stdout;
+    const uint64_t lacking = f->status ? f->chunks_open * BW_CHUNK_LEN : 0;
     fputs("{\"out\":", to);
     put_text(to, f->name);
     fprintf(to, ",\"status\":%d,\"length\":", f->status);
-    if (f->is_settled) fprintf(to, "%" PRIu64 ",\"lacking\":%" PRIu64, f->total, f->status ? f->chunks_open * BW_CHUNK_LEN : 0);
+    if (f->is_settled) fprintf(to, "%" PRIu64 ",\"lacking\":%" PRIu64, f->total, lacking);
     else fputs("null,\"lacking\":null", to);
     put_peers(to, f, "mirrors", f->peers, f->lines);
     put_peers(to, f, "outboards", f->lines, NULL);
@@ -69,52 +76,59 @@ static void print_json(fetch *f) {
 /* --- At the end */
 
 static void print_why(const fetch *f) {
-    uint64_t claimed = f->claimed_above;
-    bool lacks = f->status == LACKING || f->status == UNREACHED;
+    const bool lacks = f->status == LACKING || f->status == UNREACHED;
+    const uint64_t chunks = chunks_of(f->total), claimed = f->claimed_above, most = f->set->most;
     if (f->status == INTERRUPTED) say(0, "interrupted");
     if (f->set->check) say(0, "%s hasn't the root", f->name);
-    else if (lacks && f->is_settled) say(0, "unfinished: %" PRIu64 " KiB of %" PRIu64 " are lacking", f->chunks_open, chunks_of(f->total));
+    else if (lacks && f->is_settled)
+        say(0, "unfinished: %" PRIu64 " KiB of %" PRIu64 " are lacking", f->chunks_open, chunks);
     else if (lacks) say(0, "no mirror certifies a length");
-    if (lacks && !f->is_settled && claimed) say(0, "%" PRIu64 " bytes were claimed, and --max is %" PRIu64, claimed, f->set->most);
-    if (f->status == UNREACHED) say(0, "the network is to blame, or time was over: it may go on later");
+    if (lacks && !f->is_settled && claimed)
+        say(0, "%" PRIu64 " bytes were claimed, and --max is %" PRIu64, claimed, most);
+    if (f->status == UNREACHED)
+        say(0, "the network is to blame, or time was over: it may go on later");
     if (f->status == NO_MEMORY) no_memory();
-    if (f->is_settled && f->out.fd >= 0) say(0, "what came is kept in %s, for the next run", f->out.part);
+    if (f->is_settled && f->out.fd >= 0)
+        say(0, "what came is kept in %s, for the next run", f->out.part);
 }
 
 void report_end(fetch *f) {
-    const options *o = f->set;
-    bool lacks = !o->check && (f->status == LACKING || f->status == UNREACHED);
-    for (const peer *it = f->peers; it && (o->verbose || lacks); it = it->next) print_peer(f, it);
+    const bool lacks = !f->set->check && (f->status == LACKING || f->status == UNREACHED);
+    const char *name = f->is_one_of_many ? f->name : "";
+    for (const peer *it = f->peers; it && (f->set->verbose || lacks); it = it->next)
+        print_peer(f, it);
     if (f->status) print_why(f);
-    if (o->json) print_json(f);
-    if (!f->status && !o->quiet) fprintf(stderr, "ok %" PRIu64 "%s%s\n", f->total, f->is_one_of_many ? " " : "", f->is_one_of_many ? f->name : "");
+    if (f->set->json) print_json(f);
+    if (f->status || f->set->quiet) return;
+    fprintf(stderr, "ok %" PRIu64 "%s%s\n", f->total, *name ? " " : "", name);
 }
 
 /* --- Progress */
 
-static void print_line(const fetch *f, double had, double rate, bool is_last) {
-    unsigned live = 0, last = 0;
-    double all = (double)f->total / MIB, left = (double)f->chunks_open / KIB;
-    for (const peer *m = f->peers; m != f->lines; m = m->next) {
-        bool in = m->is_in && m->at.faults < f->set->retries;
-        live += in, last += in && m->rank == 2;
-    }
-    fprintf(stderr, "\r%.1f of %.1f MiB  %.1f MiB/s  %.0f s left  ", had, all, rate, rate > 0 ? left / rate : 0);
-    fprintf(stderr, "%u of %zu mirrors, %u of them last \033[K%s", live, f->mirror_count, last, is_last ? "\n" : "");
-}
-
-/* Ten times a second at most, and at the end. */
+/* Ten times a second at most, and at the end. Nobody has to read what goes to a descriptor. */
 void report_progress(fetch *f, bool is_last) {
     const options *o = f->set;
-    uint64_t now = now_ms();
+    const uint64_t now = now_ms();
     if (!f->is_settled || !f->unit_count || (!is_last && now - f->shown_at < 100)) return;
     f->shown_at = now;
-    double all = (double)f->total / MIB, left = (double)f->chunks_open / KIB, took = (double)(now - f->began) / 1000;
-    double had = all > left ? all - left : 0, rate = took > 0 ? had / took : 0;
+    const double all = (double)f->total / MIB, left = (double)f->chunks_open / KIB;
+    const double took = (double)(now - f->began) / 1000, had = all > left ? all - left : 0;
+    const double rate = took > 0 ? had / took : 0;
     struct pollfd to = {.fd = o->progress, .events = POLLOUT};
-    if (o->progress >= 0 && poll(&to, 1, 0) > 0) {     /* nobody has to read it */
-        dprintf(o->progress, "{\"have\":%.0f,\"length\":%" PRIu64 ",\"rate\":%.0f,\"seconds\":%.1f}\n", had * MIB, f->total, rate * MIB, took);
-    } else if (o->progress < 0 && !o->quiet && !f->is_one_of_many && isatty(STDERR_FILENO)) {
-        print_line(f, had, rate, is_last);
+    if (o->progress >= 0 && poll(&to, 1, 0) > 0)
+        dprintf(o->progress,
+                "{\"have\":%.0f,\"length\":%" PRIu64 ",\"rate\":%.0f,\"seconds\":%.1f}\n",
+                had * MIB, f->total, rate * MIB, took);
+    if (o->progress >= 0 || o->quiet || f->is_one_of_many || !isatty(STDERR_FILENO)) return;
+    unsigned live = 0, last = 0;
+    for (peer *m = f->peers; m != f->lines; m = m->next) {
+        const bool in = m->is_in && m->at.faults < o->retries;
+        live += in;
+        last += in && m->rank == LAST;
     }
+    fprintf(
+        stderr,
+        "\r%.1f of %.1f MiB  %.1f MiB/s  %.0f s left  %u of %zu mirrors, %u of them last \033[K%s",
+        had, all, rate, rate > 0 ? left / rate : 0, live, f->mirror_count, last,
+        is_last ? "\n" : "");
 }

@@ -1,4 +1,6 @@
-#include "tree.h"
+#include "fetch.h"
+
+enum { UNKNOWN, GETS_KNOWN, IS_KNOWN };
 
 uint64_t length_claimed(const uint8_t claim[BW_LENGTH_LEN]) {
     uint64_t total = 0;
@@ -10,89 +12,111 @@ void claim_length(uint8_t claim[BW_LENGTH_LEN], uint64_t total) {
     for (int i = 0; i < BW_LENGTH_LEN; i++) claim[i] = (uint8_t)(total >> 8 * i);
 }
 
-uint64_t chunks_of(uint64_t total) {
-    return total ? (total - 1) / BW_CHUNK_LEN + 1 : 1;
+/* What of a run is among `count` chunks from `first` on. */
+run run_in(run it, uint64_t first, uint64_t count) {
+    const uint64_t from = it.first > first ? it.first : first,
+                   to = least(end_of(it), first + count);
+    return (run){from, from < to ? to - from : 0};
 }
 
+run run_of_unit(uint64_t total, uint64_t unit) {
+    return run_in((run){0, chunks_of(total)}, unit * UNIT_CHUNKS, UNIT_CHUNKS);
+}
+
+/* What of a run is in a group. */
+uint64_t mask_in(uint64_t group, run it) {
+    const run in = run_in(it, group * BW_GROUP_CHUNKS, BW_GROUP_CHUNKS);
+    return in.count ? UINT64_MAX >> (64 - in.count) << in.first % BW_GROUP_CHUNKS : 0;
+}
+
+/* Whether there is such a slice: a blob whose combined encoding has 2^64 bytes has none. */
 bool slice_of(slice *it, uint64_t total, uint64_t start, uint64_t len) {
-    return bw_slice_nodes(total, start, len, it->nodes, GROUP_NODES_MOST, &it->count) == BW_OK;
+    return !bw_slice_nodes(total, start, len, it->nodes, GROUP_NODES_MOST, &it->count);
 }
 
-void trail_to(trail *it, uint64_t total, uint64_t start, uint64_t len) {
-    slice first;
-    uint64_t own = total - start < len ? total - start : len;
-    it->count = 0;
-    if (!slice_of(&first, total, start, 1)) return;
-    for (size_t i = 0; i < first.count && first.nodes[i].len > own; i++) {
-        const bw_placed *of = &first.nodes[i];
-        it->list[it->count++] = (ancestor){.outboard_at = of->outboard_at, .combined_at = of->combined_at};
-    }
+/* --- Parents above units, which any thread may get to know */
+
+static known *known_at(known *all, const bw_placed *it) {
+    const bool is_above = all && it->kind == BW_NODE_PARENT && it->len > UNIT_LEN;
+    return is_above ? &all[it->number / UNIT_CHUNKS] : NULL;
 }
 
-ancestor *trail_find(trail *it, uint64_t outboard_at) {
-    for (size_t i = 0; i < it->count; i++) {
-        if (it->list[i].outboard_at == outboard_at) return &it->list[i];
-    }
+static const uint8_t *known_text(known *all, const bw_placed *it) {
+    known *at = known_at(all, it);
+    return at && atomic_load(&at->state) == IS_KNOWN ? at->text : NULL;
+}
+
+/* Whether a parent that was verified is new, or below units. */
+bool know(known *all, const bw_placed *it, const uint8_t *text) {
+    known *at = known_at(all, it);
+    int state = UNKNOWN;
+    if (!at) return true;
+    if (!atomic_compare_exchange_strong(&at->state, &state, GETS_KNOWN)) return false;
+    memcpy(at->text, text, BW_PARENT_LEN);
+    atomic_store(&at->state, IS_KNOWN);
+    return true;
+}
+
+/* --- Where files have the nodes of a slice */
+
+/* Whether a kind of file has a node, at byte *at. The chunk of an empty blob has no bytes. */
+static bool place_in(kind of, const bw_placed *it, uint64_t *at) {
+    const bool is_chunk = it->kind == BW_NODE_CHUNK;
+    *at = of == COMBINED ? it->combined_at : is_chunk ? it->start : it->outboard_at;
+    return it->size && (of == COMBINED || is_chunk == (of == PLAIN));
+}
+
+/* The piece that has a range, or NULL. */
+static const piece *piece_with(const pieces *in, uint64_t at, size_t len) {
+    for (const piece *it = in->list; it < in->list + in->count; it++)
+        if (at >= it->at && at + len <= it->at + it->len) return it;
     return NULL;
 }
 
-/* Whether a parent needn't be asked for. */
-static bool is_there(const pieces *out, const trail *known, bool is_combined, uint64_t at) {
-    for (size_t i = 0; known && i < known->count; i++) {
-        const ancestor *it = &known->list[i];
-        if (it->is_known && (is_combined ? it->combined_at : it->outboard_at) == at) return true;
-    }
-    for (size_t i = 0; i < out->count; i++) {
-        const piece *it = &out->list[i];
-        if (at >= it->at && at + BW_PARENT_LEN <= it->at + it->len) return true;
-    }
-    return false;
-}
-
-bool add_ranges(pieces *out, const trail *known, bool is_combined, uint64_t total, uint64_t start, uint64_t len) {
-    bw_range ranges[BW_RANGES_MAX];
+/* Adds where a kind of file has nodes of a slice of at most a unit, but for those that are known,
+ * or asked for already. What is adjacent becomes one piece. False: there is no room, and some were
+ * added. In the thread that decides. */
+bool pieces_add(pieces *out, known *above, kind of, uint64_t total, uint64_t start, uint64_t len) {
+    static bw_placed nodes[BW_NODES_MAX(UNIT_CHUNKS)];
     size_t count;
-    if ((is_combined ? bw_slice_ranges : bw_outboard_ranges)(total, start, len, ranges, BW_RANGES_MAX, &count)) return false;
-    for (size_t i = 0; i < count; i++) {
-        uint64_t at = ranges[i].at ? ranges[i].at : BW_LENGTH_LEN, end = ranges[i].at + ranges[i].len;
-        while (at < end && is_there(out, known, is_combined, at)) at += BW_PARENT_LEN;
-        if (at >= end) continue;
+    uint64_t at;
+    if (bw_slice_nodes(total, start, len, nodes, sizeof nodes / sizeof *nodes, &count))
+        return false;
+    for (const bw_placed *it = nodes; it < nodes + count; it++) {
+        if (!place_in(of, it, &at) || known_text(above, it) || piece_with(out, at, it->size))
+            continue;
         piece *last = out->count ? &out->list[out->count - 1] : NULL;
-        if (last && last->at + last->len == at) last->len += (size_t)(end - at);
-        else if (out->count == out->room) return false;
-        else out->list[out->count++] = (piece){.at = at, .len = (size_t)(end - at)};
+        if (last && last->at + last->len == at) last->len += it->size;
+        else if (out->count == PIECES_MOST) return false;
+        else out->list[out->count++] = (piece){.at = at, .len = it->size};
     }
     return true;
 }
 
+/* What came of a range, or NULL. */
 const uint8_t *pieces_find(const pieces *in, uint64_t at, size_t len) {
-    for (size_t i = 0; in && i < in->count; i++) {
-        const piece *it = &in->list[i];
-        if (at >= it->at && at + len <= it->at + it->have) return it->bytes + (at - it->at);
-    }
-    return NULL;
+    const piece *it = piece_with(in, at, len);
+    return it && at + len <= it->at + it->have ? it->bytes + (at - it->at) : NULL;
 }
 
 static const uint8_t *find_node(const origin *from, const bw_placed *it) {
-    bool is_chunk = it->kind == BW_NODE_CHUNK;
-    const ancestor *above = from->known && !is_chunk ? trail_find(from->known, it->outboard_at) : NULL;
-    if (above && above->is_known) return above->text;
-    if (from->combined) return pieces_find(from->combined, it->combined_at, it->size);
-    return is_chunk ? pieces_find(from->plain, it->start, it->size) : pieces_find(from->outboard, it->outboard_at, it->size);
+    const uint8_t *found = known_text(from->known, it);
+    uint64_t at;
+    if (!found && place_in(from->as, it, &at)) found = pieces_find(from->seen, at, it->size);
+    if (!found && place_in(OUTBOARD, it, &at)) found = pieces_find(from->parents, at, it->size);
+    return found;
 }
 
-size_t slice_put(uint64_t total, uint64_t start, uint64_t len, const origin *from, uint8_t *out, size_t room) {
+/* Puts a slice of a group into GROUP_SLICE_MOST bytes. Its length, or 0 where a node is lacking. */
+size_t slice_put(const origin *from, uint64_t total, uint64_t start, uint64_t len, uint8_t *out) {
     slice of;
     size_t used = BW_LENGTH_LEN;
     if (!slice_of(&of, total, start, len)) return 0;
     claim_length(out, total);
-    for (size_t i = 0; i < of.count; i++) {
-        const bw_placed *it = &of.nodes[i];
-        if (!it->size) continue;            /* the chunk of an empty blob */
-        const uint8_t *bytes = it->size <= room - used ? find_node(from, it) : NULL;
-        if (!bytes) return 0;
+    for (const bw_placed *it = of.nodes; it < of.nodes + of.count; used += it++->size) {
+        const uint8_t *bytes = it->size ? find_node(from, it) : out;
+        if (!bytes || used + it->size > GROUP_SLICE_MOST) return 0;
         memcpy(out + used, bytes, it->size);
-        used += it->size;
     }
     return used;
 }

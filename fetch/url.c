@@ -2,7 +2,6 @@
 
 #include <arpa/inet.h>
 #include <netdb.h>
-#include <strings.h>
 
 bool url_is_local(const char *url) {
     return !strstr(url, "://") || !strncasecmp(url, "file://", 7);
@@ -14,82 +13,104 @@ static size_t path_len(const char *url) {
 }
 
 bool url_is_combined(const char *url) {
-    size_t len = path_len(url);
+    const size_t len = path_len(url);
     return len > 4 && !strncmp(url + len - 4, ".bao", 4);
 }
 
+/* Without a fragment, and with a tail at the end of its path, before a query. NULL: no memory. */
 char *url_tailed(const char *url, const char *tail) {
+    char *it;
     if (!strncasecmp(url, "file://", 7)) url += 7;
-    size_t path = path_len(url), query = url_is_local(url) ? 0 : strcspn(url + path, "#"), len = path + query + strlen(tail) + 1;
-    char *it = malloc(len);
-    if (it) snprintf(it, len, "%.*s%s%.*s", (int)path, url, tail, (int)query, url + path);
-    return it;
+    const int path = (int)path_len(url), query = (int)strcspn(url + path, "#");
+    return asprintf(&it, "%.*s%s%.*s", path, url, tail, query, url + path) < 0 ? NULL : it;
 }
 
+/* The same without user, password and query. */
 char *url_shown(const char *url) {
-    const char *host = strstr(url, "://");
+    const char *host = strstr(url, "://"), *at;
+    char *it;
     if (!host || url_is_local(url)) return strdup(url);
-    size_t path = path_len(url), start = (size_t)(host - url) + 3, end = start + strcspn(url + start, "/?#"), at = end;
-    while (at > start && url[at - 1] != '@') at--;
-    char *it = malloc(path + 5);
-    if (it) snprintf(it, path + 5, "%.*s%.*s%s", (int)start, url, (int)(path - at), url + at, url[path] ? "?..." : "");
-    return it;
+    host += 3;
+    const char *end = url + path_len(url);
+    for (at = host + strcspn(host, "/?#"); at > host && at[-1] != '@';) at--;
+    const int start = (int)(host - url), rest = (int)(end - at);
+    const int len = asprintf(&it, "%.*s%.*s%s", start, url, rest, at, *end ? "?..." : "");
+    return len < 0 ? NULL : it;
 }
 
+/* A part of an address, or of what an answer of it leads to; for curl_free. NULL: there is none. */
+static char *part_of(const char *base, const char *location, CURLUPart part) {
+    CURLU *it = curl_url();
+    char *found = NULL;
+    const bool ok = it && !curl_url_set(it, CURLUPART_URL, base, 0) &&
+                    (!location || !curl_url_set(it, CURLUPART_URL, location, 0)) &&
+                    !curl_url_set(it, CURLUPART_FRAGMENT, NULL, 0);
+    if (ok) curl_url_get(it, part, &found, part == CURLUPART_PORT ? CURLU_DEFAULT_PORT : 0);
+    curl_url_cleanup(it);
+    return found;
+}
+
+/* Where an answer of `base` leads, or NULL: to another scheme, but for https in place of http. */
 char *url_next(const char *base, const char *location) {
-    CURLU *to = curl_url();
-    char *found = NULL, *copy = NULL;
-    bool ok = to && !curl_url_set(to, CURLUPART_URL, base, 0) && !curl_url_set(to, CURLUPART_URL, location, 0)
-        && !curl_url_set(to, CURLUPART_FRAGMENT, NULL, 0) && !curl_url_get(to, CURLUPART_URL, &found, 0);
-    bool was_secure = !strncasecmp(base, "https:", 6);
-    if (ok && (!strncasecmp(found, "https:", 6) || (!was_secure && !strncasecmp(found, "http:", 5)))) copy = strdup(found);
+    char *found = part_of(base, location, CURLUPART_URL), *copy = NULL;
+    const bool was_secure = !strncasecmp(base, "https:", 6);
+    const bool is_secure = found && !strncasecmp(found, "https:", 6);
+    const bool is_plain = found && !strncasecmp(found, "http:", 5);
+    if (is_secure || (is_plain && !was_secure)) copy = strdup(found);
     curl_free(found);
-    curl_url_cleanup(to);
     return copy;
 }
 
 bool url_same_server(const char *one, const char *other) {
     static const CURLUPart parts[] = {CURLUPART_SCHEME, CURLUPART_HOST, CURLUPART_PORT};
-    CURLU *a = curl_url(), *b = curl_url();
-    bool same = a && b && !curl_url_set(a, CURLUPART_URL, one, 0) && !curl_url_set(b, CURLUPART_URL, other, 0);
+    bool same = true;
     for (int i = 0; i < 3 && same; i++) {
-        char *x = NULL, *y = NULL;
-        same = !curl_url_get(a, parts[i], &x, CURLU_DEFAULT_PORT) && !curl_url_get(b, parts[i], &y, CURLU_DEFAULT_PORT) && !strcasecmp(x, y);
-        curl_free(x), curl_free(y);
+        char *x = part_of(one, NULL, parts[i]), *y = part_of(other, NULL, parts[i]);
+        same = x && y && !strcasecmp(x, y);
+        curl_free(x);
+        curl_free(y);
     }
-    curl_url_cleanup(a), curl_url_cleanup(b);
     return same;
 }
 
 /* RFC 6890, and what came after it. */
 static bool is_private4(uint32_t a) {
-    static const struct { uint32_t net; int bits; } nets[] = {
-        {0x00000000, 8}, {0x0A000000, 8}, {0x64400000, 10}, {0x7F000000, 8}, {0xA9FE0000, 16}, {0xAC100000, 12},
-        {0xC0000000, 24}, {0xC0A80000, 16}, {0xC6120000, 15}, {0xE0000000, 3},
-    };
-    for (size_t i = 0; i < sizeof nets / sizeof *nets; i++) {
+    static const struct {
+        uint32_t net;
+        int bits;
+    } nets[] = {{0x00000000, 8},  {0x0A000000, 8},  {0x64400000, 10}, {0x7F000000, 8},
+                {0xA9FE0000, 16}, {0xAC100000, 12}, {0xC0000000, 24}, {0xC0A80000, 16},
+                {0xC6120000, 15}, {0xE0000000, 3}};
+    for (size_t i = 0; i < sizeof nets / sizeof *nets; i++)
         if (!((a ^ nets[i].net) >> (32 - nets[i].bits))) return true;
-    }
     return false;
 }
 
 /* One that has a public IPv4 address within is as that one. */
 static bool is_private6(const uint8_t a[16]) {
-    static const uint8_t mapped[12] = {0, 0, 0, 0, 0, 0, 0, 0, 0, 0, 255, 255}, none[12], nat[12] = {0, 0x64, 0xff, 0x9b};
-    const uint8_t *in = a[0] == 0x20 && a[1] == 2 ? a + 2 : a + 12;
-    bool has4 = in == a + 2 || !memcmp(a, mapped, 12) || !memcmp(a, none, 12) || !memcmp(a, nat, 12);
-    if (has4) return is_private4((uint32_t)in[0] << 24 | (uint32_t)in[1] << 16 | (uint32_t)in[2] << 8 | in[3]);
-    return (a[0] & 0xe0) != 0x20;           /* public ones are in 2000::/3 */
+    static const uint8_t mapped[12] = {[10] = 255, [11] = 255}, none[12],
+                         nat[12] = {0, 0x64, 0xff, 0x9b};
+    const bool is_6to4 = a[0] == 0x20 && a[1] == 2;
+    const uint8_t *in = is_6to4 ? a + 2 : a + 12;
+    if (is_6to4 || !memcmp(a, mapped, 12) || !memcmp(a, none, 12) || !memcmp(a, nat, 12))
+        return is_private4((uint32_t)in[0] << 24 | (uint32_t)in[1] << 16 | (uint32_t)in[2] << 8 |
+                           in[3]);
+    return (a[0] & 0xe0) != 0x20; /* public ones are in 2000::/3 */
 }
 
+/* Whether an address is of this machine or of a network that isn't the public one. */
 bool address_is_private(const struct sockaddr *it) {
-    if (it->sa_family == AF_INET) return is_private4(ntohl(((const struct sockaddr_in *)(const void *)it)->sin_addr.s_addr));
-    return it->sa_family != AF_INET6 || is_private6(((const struct sockaddr_in6 *)(const void *)it)->sin6_addr.s6_addr);
+    const void *at = it;
+    if (it->sa_family == AF_INET)
+        return is_private4(ntohl(((const struct sockaddr_in *)at)->sin_addr.s_addr));
+    return it->sa_family != AF_INET6 ||
+           is_private6(((const struct sockaddr_in6 *)at)->sin6_addr.s6_addr);
 }
 
 bool text_is_private(const char *address) {
     struct addrinfo *it = NULL, as = {.ai_flags = AI_NUMERICHOST};
-    bool is = !getaddrinfo(address, NULL, &as, &it) && address_is_private(it->ai_addr);
-    if (it) freeaddrinfo(it);
+    if (getaddrinfo(address, NULL, &as, &it)) return false;
+    const bool is = address_is_private(it->ai_addr);
+    freeaddrinfo(it);
     return is;
 }

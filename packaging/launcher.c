@@ -1,4 +1,5 @@
-/* /usr/bin/bao_gather of the Debian package: becomes the build of bao_gather for this processor's level. PROGRAMS is the folder of the builds. */
+/* /usr/bin/bao_gather of the Debian package: becomes the build of bao_gather for this processor's
+ * level. PROGRAMS is the folder of the builds. */
 #include <stdio.h>
 #include <unistd.h>
 

@@ -1,10 +1,11 @@
-/* Runs a program, and writes to TOLD how it ended: its status, or minus the signal that ended it, and the most KiB of memory
-   that it had at once.
+/* Runs a program, and writes to TOLD how it ended: its status, or minus the signal that ended it,
+   and the most KiB of memory that it had at once.
 
    usage: peak TOLD SECONDS BYTES FILES PROGRAM WORD ..
 
-   The program has so many seconds, so many bytes of addresses and so many open files at once; 0 is no limit of its own. Linux counts
-   with a program what its process had before. So this one starts it, which has next to nothing. */
+   The program has so many seconds, so many bytes of addresses and so many open files at once; 0 is
+   no limit of its own. Linux counts with a program what its process had before. So this one starts
+   it, which has next to nothing. */
 #define _GNU_SOURCE
 #include <stdio.h>
 #include <stdlib.h>

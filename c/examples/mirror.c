@@ -1,9 +1,11 @@
-/* Gathers a blob out of copies of its encoding, any of which may be damaged, and writes it to standard output.
+/* Gathers a blob out of copies of its encoding, any of which may be damaged, and writes it to
+ * standard output.
  *
  *     mirror ROOT COPY ..
  *
- * ROOT is the blob's hash in hexadecimal digits and a COPY a file with its combined encoding. Four threads share a store. Each asks another
- * copy first, and serves itself a slice of what the store holds after each group, as it would to a peer. */
+ * ROOT is the blob's hash in hexadecimal digits and a COPY a file with its combined encoding. Four
+ * threads share a store. Each asks another copy first, and serves itself a slice of what the store
+ * holds after each group, as it would to a peer. */
 #include "berylwool.h"
 
 #include <pthread.h>
@@ -45,7 +47,8 @@ static void *room(size_t len) {
 static copy read_copy(const char *path) {
     FILE *file = fopen(path, "rb");
     long len;
-    if (!file || fseek(file, 0, SEEK_END) || (len = ftell(file)) < 0 || fseek(file, 0, SEEK_SET)) stop(path, "can't be read");
+    if (!file || fseek(file, 0, SEEK_END) || (len = ftell(file)) < 0 || fseek(file, 0, SEEK_SET))
+        stop(path, "can't be read");
     copy it = {room((size_t)len), (size_t)len};
     if (fread(it.text, 1, it.len, file) != it.len) stop(path, "can't be read");
     fclose(file);
@@ -69,13 +72,18 @@ static void *work(void *arg) {
         for (uint32_t k = 0; k < it->copy_count && left; k++) {
             const copy *from = &it->copies[(it->number + k) % it->copy_count];
             uint64_t committed = 0, parents = 0;
-            if (bw_cut_slice(from->text, from->len, start, GROUP_LEN, slice, slice_room, &used) != BW_OK) continue;
-            if (bw_seat_commit(&it->seat, start, GROUP_LEN, slice, used, &committed, &parents, &at) == BW_OK) left = 0;
+            if (bw_cut_slice(from->text, from->len, start, GROUP_LEN, slice, slice_room, &used) !=
+                BW_OK)
+                continue;
+            if (bw_seat_commit(&it->seat, start, GROUP_LEN, slice, used, &committed, &parents,
+                               &at) == BW_OK)
+                left = 0;
         }
         must("give", bw_seat_give(&it->seat, group, left, &left));
         bw_node lacking;
         served.start = start;
-        if (bw_seat_slice(&it->seat, start, GROUP_LEN, slice, slice_room, &used, &lacking) == BW_OK) {
+        if (bw_seat_slice(&it->seat, start, GROUP_LEN, slice, slice_room, &used, &lacking) ==
+            BW_OK) {
             must("served slice", bw_check(&served, slice, used, &at));
             it->served++;
         }
@@ -90,7 +98,9 @@ static uint64_t settle(bw_seat *seat, const copy *copies, uint32_t count) {
     uint64_t len = 0, at = 0;
     size_t used = 0;
     for (uint32_t k = 0; k < count; k++) {
-        if (bw_cut_slice(copies[k].text, copies[k].len, UINT64_MAX, 1, tail, sizeof tail, &used) != BW_OK) continue;
+        if (bw_cut_slice(copies[k].text, copies[k].len, UINT64_MAX, 1, tail, sizeof tail, &used) !=
+            BW_OK)
+            continue;
         if (bw_seat_settle(seat, tail, used, &at) != BW_OK) continue;
         must("length", bw_seat_length(seat, &len));
         return len;

@@ -25,9 +25,6 @@ DELAYED = "-Wl,--wrap=pthread_mutex_lock,--wrap=pthread_mutex_unlock,--wrap=pthr
 # The large cases show nothing more under a sanitizer, where they take long.
 LARGE = "64 MiB", "little memory"
 
-# With the sanitizers few parents are known at once: what a long blob has with the usual ones.
-NARROW = ("-DKNOWN_BITS=1",)
-
 
 def run(*words, **more):
     words = [str(it) for it in words]
@@ -136,7 +133,7 @@ def main(drawn="4000"):
             missing.append(f"cc {flag}")
             continue
         delayed = name == "tsan"
-        program = build("cc", name, [flag, *NARROW, *[DELAYED] * delayed], [*sources, *[HERE / "delays.c"] * delayed])
+        program = build("cc", name, [flag, *[DELAYED] * delayed], [*sources, *[HERE / "delays.c"] * delayed])
         os.environ["BW_DELAYS"] = "1"                       # of drawn.py each draw has its own
         run(sys.executable, HERE / "hostile.py", program, mkbao, *(f"-{it}" for it in (*LARGE, "near ranges")))
         run(sys.executable, HERE / "options.py", program, mkbao)

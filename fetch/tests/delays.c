@@ -1,6 +1,7 @@
-/* Linked into bw-fetch under the thread sanitizer with -Wl,--wrap=pthread_mutex_lock and the like: at each lock, unlock, wait and signal a thread goes on, lets
- * others go first, or sleeps for up to a millisecond, as it is drawn. The draws hang on the number BW_DELAYS, and on how many there were before; without it
- * there are none. They order nothing: the counter is relaxed. */
+/* Linked into bw-fetch under the thread sanitizer with -Wl,--wrap=pthread_mutex_lock and the like:
+ * at each lock, unlock, wait and signal a thread goes on, lets others go first, or sleeps for up to
+ * a millisecond, as it is drawn. The draws hang on the number BW_DELAYS, and on how many there were
+ * before; without it there are none. They order nothing: the counter is relaxed. */
 #define _GNU_SOURCE
 #include <pthread.h>
 #include <sched.h>
@@ -28,7 +29,8 @@ __attribute__((constructor)) static void begin(void) {
 
 static void delay(void) {
     if (!seed) return;
-    uint64_t x = (seed << 32 ^ atomic_fetch_add_explicit(&draws, 1, memory_order_relaxed)) + 0x9E3779B97F4A7C15;
+    uint64_t x = (seed << 32 ^ atomic_fetch_add_explicit(&draws, 1, memory_order_relaxed)) +
+                 0x9E3779B97F4A7C15;
     x = (x ^ x >> 30) * 0xBF58476D1CE4E5B9;
     x = (x ^ x >> 27) * 0x94D049BB133111EB;
     x ^= x >> 31;

@@ -1,5 +1,6 @@
-/* For libFuzzer: an answer of any headers and any body goes into three pieces, which lie between bytes that stay as they are. The first byte
- * says how much is taken at once; headers end at an empty line. */
+/* For libFuzzer: an answer of any headers and any body goes into three pieces, which lie between
+ * bytes that stay as they are. The first byte says how much is taken at once; headers end at an
+ * empty line. */
 #include "../http.h"
 
 #include <stdlib.h>
@@ -20,12 +21,18 @@ int LLVMFuzzerTestOneInput(const uint8_t *data, size_t size) {
     static answer it;
     uint8_t *bytes = calloc(3, LEN + FENCE);
     piece list[3];
-    if (!bytes || !size) return free(bytes), 0;
+    if (!bytes || !size) {
+        free(bytes);
+        return 0;
+    }
     size_t step = 1 + data[0] * 16u;
-    for (int i = 0; i < 3; i++) list[i] = (piece){.at = starts[i], .len = LEN, .bytes = bytes + i * (LEN + FENCE)};
+    for (int i = 0; i < 3; i++)
+        list[i] = (piece){.at = starts[i], .len = LEN, .bytes = bytes + i * (LEN + FENCE)};
     answer_begin(&it, list, 3, 3 * LEN);
-    data++, size--;
-    for (const uint8_t *end; (end = memchr(data, '\n', size)) && answer_header(&it, (const char *)data, (size_t)(end - data) + 1);) {
+    data++;
+    size--;
+    for (const uint8_t *end; (end = memchr(data, '\n', size)) &&
+                             answer_header(&it, (const char *)data, (size_t)(end - data) + 1);) {
         bool is_last = end - data < 2;
         size -= (size_t)(end - data) + 1, data = end + 1;
         if (is_last) break;

@@ -1,4 +1,5 @@
-/* mkbao FILE [KEY | CONTEXT]: writes FILE.bao and FILE.obao, and prints the root. KEY is 64 hexadecimal digits. */
+/* mkbao FILE [KEY | CONTEXT]: writes FILE.bao and FILE.obao, and prints the root. KEY is 64
+ * hexadecimal digits. */
 #define _GNU_SOURCE
 #include <berylwool.h>
 
@@ -25,7 +26,9 @@ static uint8_t *map(const char *path, const char *tail, size_t *len) {
     int fd = is_new ? open(name, O_RDWR | O_CREAT | O_TRUNC, 0666) : open(name, O_RDONLY);
     if (fd < 0 || (is_new && ftruncate(fd, (off_t)*len)) || fstat(fd, &is)) stop(name);
     *len = (size_t)is.st_size;
-    void *at = *len ? mmap(NULL, *len, is_new ? PROT_READ | PROT_WRITE : PROT_READ, is_new ? MAP_SHARED : MAP_PRIVATE, fd, 0) : NULL;
+    void *at = *len ? mmap(NULL, *len, is_new ? PROT_READ | PROT_WRITE : PROT_READ,
+                           is_new ? MAP_SHARED : MAP_PRIVATE, fd, 0)
+                    : NULL;
     if (at == MAP_FAILED || close(fd)) stop(name);
     return at;
 }
@@ -36,17 +39,22 @@ int main(int count, char **words) {
     size_t used, len;
     if (count < 2) stop("FILE [KEY | CONTEXT]");
     bool is_keyed = count == 3 && strlen(words[2]) == 64;
-    if (count == 3 && !is_keyed && bw_mode_derive((const uint8_t *)words[2], strlen(words[2]), &mode)) stop("CONTEXT");
+    if (count == 3 && !is_keyed &&
+        bw_mode_derive((const uint8_t *)words[2], strlen(words[2]), &mode))
+        stop("CONTEXT");
     for (int i = 0; is_keyed && i < 32; i++) {
         unsigned byte;
         if (sscanf(words[2] + 2 * i, "%2x", &byte) != 1) stop("KEY");
-        mode.kind = BW_MODE_KEYED_HASH, mode.key[i] = (uint8_t)byte;
+        mode.kind = BW_MODE_KEYED_HASH;
+        mode.key[i] = (uint8_t)byte;
     }
     const uint8_t *blob = map(words[1], "", &len), none[1] = {0};
-    size_t bao_len = (size_t)bw_slice_len(len, 0, UINT64_MAX), obao_len = (size_t)bw_outboard_len(len);
+    size_t bao_len = (size_t)bw_slice_len(len, 0, UINT64_MAX),
+           obao_len = (size_t)bw_outboard_len(len);
     uint8_t *bao = map(words[1], ".bao", &bao_len), *obao = map(words[1], ".obao", &obao_len);
     if (bw_encode(&mode, len ? blob : none, len, bao, bao_len, &used, root)) stop("bw_encode");
-    if (bw_outboard(&mode, len ? blob : none, len, obao, obao_len, &used, root)) stop("bw_outboard");
+    if (bw_outboard(&mode, len ? blob : none, len, obao, obao_len, &used, root))
+        stop("bw_outboard");
     for (int i = 0; i < BW_HASH_LEN; i++) printf("%02x", root[i]);
     puts("");
     return 0;

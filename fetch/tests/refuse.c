@@ -1,5 +1,5 @@
-/* Linked into bw-fetch with -Wl,--wrap=malloc,--wrap=calloc,--wrap=realloc: refuses a request for memory of the program, of the
- * library or of libcurl.
+/* Linked into bw-fetch with -Wl,--wrap=malloc,--wrap=calloc,--wrap=realloc: refuses a request for
+ * memory of the program, of the library or of libcurl.
  *
  *     BW_REFUSE=N        the Nth request is refused
  *     BW_REFUSE=N+       it is, and all after it
@@ -7,7 +7,8 @@
  *     BW_REFUSE=https    none is, but libcurl knows no https
  *     BW_REFUSE=hang     none is, but a read of a file hangs.bao never ends
  *     BW_REFUSE=threads  none is, but no thread is allowed
- *     BW_REFUSE=flock    none is, but before a first lock the file BW_FROM is renamed to BW_TO, as by another run that ends then
+ *     BW_REFUSE=flock    none is, but before a first lock the file BW_FROM is renamed to BW_TO, as
+ * by another run that ends then
  *
  * Where that many were made, the last line on standard error is 'refused'. */
 #define _GNU_SOURCE
@@ -38,15 +39,18 @@ int __wrap_flock(int fd, int how);
 
 ssize_t __real_pread(int fd, void *at, size_t len, off_t from);
 ssize_t __wrap_pread(int fd, void *at, size_t len, off_t from);
-int __real_pthread_create(pthread_t *thread, const pthread_attr_t *with, void *(*run)(void *), void *of);
-int __wrap_pthread_create(pthread_t *thread, const pthread_attr_t *with, void *(*run)(void *), void *of);
+int __real_pthread_create(pthread_t *thread, const pthread_attr_t *with, void *(*run)(void *),
+                          void *of);
+int __wrap_pthread_create(pthread_t *thread, const pthread_attr_t *with, void *(*run)(void *),
+                          void *of);
 #undef curl_easy_setopt
 CURLcode __real_curl_easy_setopt(CURL *easy, CURLoption option, ...);
 CURLcode __wrap_curl_easy_setopt(CURL *easy, CURLoption option, ...);
 
 static pthread_mutex_t lock = PTHREAD_MUTEX_INITIALIZER;
 static long made = 0, number = -1;
-static bool all_after = false, refused = false, no_fsync = false, renames = false, no_https = false, hangs = false, no_threads = false;
+static bool all_after = false, refused = false, no_fsync = false, renames = false, no_https = false,
+            hangs = false, no_threads = false;
 
 static void say(void) {
     static const char text[] = "refused\n";
@@ -58,8 +62,11 @@ __attribute__((constructor)) static void begin(void) {
     if (!word) return;
     number = strtol(word, NULL, 10);
     all_after = strchr(word, '+') != NULL;
-    no_fsync = !strcmp(word, "fsync"), renames = !strcmp(word, "flock");
-    no_https = !strcmp(word, "https"), hangs = !strcmp(word, "hang"), no_threads = !strcmp(word, "threads");
+    no_fsync = !strcmp(word, "fsync");
+    renames = !strcmp(word, "flock");
+    no_https = !strcmp(word, "https");
+    hangs = !strcmp(word, "hang");
+    no_threads = !strcmp(word, "threads");
     atexit(say);
 }
 
@@ -72,17 +79,13 @@ static bool refuses(void) {
     return it;
 }
 
-void *__wrap_malloc(size_t len) {
-    return refuses() ? NULL : __real_malloc(len);
-}
+void *__wrap_malloc(size_t len) { return refuses() ? NULL : __real_malloc(len); }
 
 void *__wrap_calloc(size_t count, size_t len) {
     return refuses() ? NULL : __real_calloc(count, len);
 }
 
-void *__wrap_realloc(void *at, size_t len) {
-    return refuses() ? NULL : __real_realloc(at, len);
-}
+void *__wrap_realloc(void *at, size_t len) { return refuses() ? NULL : __real_realloc(at, len); }
 
 static char *copy(const char *text) {
     size_t len = strlen(text) + 1;
@@ -110,11 +113,13 @@ int __wrap_flock(int fd, int how) {
 ssize_t __wrap_pread(int fd, void *at, size_t len, off_t from) {
     char name[64], path[PATH_MAX] = "";
     snprintf(name, sizeof name, "/proc/self/fd/%d", fd);
-    while (hangs && readlink(name, path, sizeof path - 1) > 0 && strstr(path, "/hangs.bao")) pause();
+    while (hangs && readlink(name, path, sizeof path - 1) > 0 && strstr(path, "/hangs.bao"))
+        pause();
     return __real_pread(fd, at, len, from);
 }
 
-int __wrap_pthread_create(pthread_t *thread, const pthread_attr_t *with, void *(*run)(void *), void *of) {
+int __wrap_pthread_create(pthread_t *thread, const pthread_attr_t *with, void *(*run)(void *),
+                          void *of) {
     return no_threads ? EAGAIN : __real_pthread_create(thread, with, run, of);
 }
 

@@ -1,4 +1,5 @@
-/* Stands below the kit's three functions over malloc, and refuses one allocation, or all from one on.
+/* Stands below the kit's three functions over malloc, and refuses one allocation, or all from one
+   on.
 
    AT    which one of them in the process, counted from 1
    ON    if it is there, all from that one on

@@ -1,15 +1,14 @@
 /* Stands before calls of the C library, and has one of them fail, or all from one on.
 
-   CALL     the call that fails: malloc (and realloc), open, statx, read, pread, write, fsync, rename, close or pthread_create
-   AT       which one of them in the process, counted from 1
-   HOW      a number of errno, or what happens in place of a failure:
-            short (half of the bytes, and one at least, are moved), none (no byte is, as at an end),
-            less, more (a file is said to have half of its bytes, or twice as many), killed (the process is, before the call)
-   ON       if it is there, all such calls from that one on
-   CLOCK    moves (each time that is asked for is a second after the one before) or stands (all are the same)
-   MET      the file to which a line is added for each call that was met: at which byte a file stood, or -, and its path,
-            or what else it was for
-   READ     a file of 8 bytes, a number to which the bytes are added that read and pread move */
+   CALL     the call that fails: malloc (and realloc), open, statx, read, pread, write, fsync,
+   rename, close or pthread_create AT       which one of them in the process, counted from 1 HOW a
+   number of errno, or what happens in place of a failure: short (half of the bytes, and one at
+   least, are moved), none (no byte is, as at an end), less, more (a file is said to have half of
+   its bytes, or twice as many), killed (the process is, before the call) ON       if it is there,
+   all such calls from that one on CLOCK    moves (each time that is asked for is a second after the
+   one before) or stands (all are the same) MET      the file to which a line is added for each call
+   that was met: at which byte a file stood, or -, and its path, or what else it was for READ     a
+   file of 8 bytes, a number to which the bytes are added that read and pread move */
 #define _GNU_SOURCE
 #include <dlfcn.h>
 #include <errno.h>
@@ -58,7 +57,8 @@ static void tell(const char *place, off_t at) {
     char line[PATH_LEN + 32];
     const char *file = getenv("MET");
     if (!file) return;
-    int len = at < 0 ? snprintf(line, sizeof line, "- %s\n", place) : snprintf(line, sizeof line, "%lld %s\n", (long long)at, place);
+    int len = at < 0 ? snprintf(line, sizeof line, "- %s\n", place)
+                     : snprintf(line, sizeof line, "%lld %s\n", (long long)at, place);
     int fd = (int)syscall(SYS_openat, AT_FDCWD, file, O_WRONLY | O_CREAT | O_APPEND, 0666);
     syscall(SYS_write, fd, line, (size_t)len);
     syscall(SYS_close, fd);
@@ -121,8 +121,10 @@ int open(const char *path, int flags, ...) {
     return fd;
 }
 
-int statx(int fd, const char *restrict path, int flags, unsigned mask, struct statx *restrict said) {
-    if (!is_met("statx", *path ? path : path_of(fd))) return REAL(statx)(fd, path, flags, mask, said);
+int statx(int fd, const char *restrict path, int flags, unsigned mask,
+          struct statx *restrict said) {
+    if (!is_met("statx", *path ? path : path_of(fd)))
+        return REAL(statx)(fd, path, flags, mask, said);
     if (!is_how("less") && !is_how("more")) return failed();
     int answer = REAL(statx)(fd, path, flags, mask, said);
     said->stx_size = is_how("less") ? said->stx_size / 2 : said->stx_size * 2;
@@ -160,7 +162,9 @@ ssize_t __write(int fd, const void *from, size_t size) { return write(fd, from, 
 
 int fsync(int fd) { return is_met("fsync", path_of(fd)) ? failed() : REAL(fsync)(fd); }
 
-int rename(const char *from, const char *to) { return is_met("rename", to) ? failed() : REAL(rename)(from, to); }
+int rename(const char *from, const char *to) {
+    return is_met("rename", to) ? failed() : REAL(rename)(from, to);
+}
 
 /* The descriptor is closed all the same, as Linux does it. */
 int close(int fd) {
@@ -178,7 +182,8 @@ int clock_gettime(clockid_t clock, struct timespec *time) {
     return 0;
 }
 
-int pthread_create(pthread_t *thread, const pthread_attr_t *given, void *(*run)(void *), void *word) {
+int pthread_create(pthread_t *thread, const pthread_attr_t *given, void *(*run)(void *),
+                   void *word) {
     if (is_met("pthread_create", "thread")) return EAGAIN;
     return REAL(pthread_create)(thread, given, run, word);
 }
