@@ -32,9 +32,9 @@ WRITTEN = (OUT, LIST)
 DRAFT = re.compile(rf"(?:.*/)?({OUT}|{LIST})\.part\.gather[2-9]?")
 
 # The lines of --verbose and of a list that isn't written; the line of a FILE that was counted, and those that replace it where memory is missing.
-TOLD = re.compile(rb"bao_gather: (?:left out .*|missing: .*|nothing fits ROOT: .*|list: left as it is: .*|.*: not counted: no memory|.*: \d+ of \d+ groups of 64 KiB refused|.*: not a combined encoding of ROOT; .*)\n")
+TOLD = re.compile(rb"bao_gather: (?:left out .*|missing: .*|.*: only its first \d+ bytes were read|nothing fits ROOT: .*|list: left as it is: .*|.*: not counted: no memory|.*: \d+ of \d+ groups of 64 KiB refused|.*: not a combined encoding of ROOT; .*)\n")
 # The reason that the system gives for a FILE, in a line of its own or at the end of one.
-REASON = re.compile(rb"^bao_gather: [^:\n]*: [^:\n]* \(os error \d+\)\n|(?<=can't be read): [^:\n]* \(os error \d+\)", re.MULTILINE)
+REASON = re.compile(rb"^bao_gather: [^:\n]*: [^:\n]* \(os error \d+\)\n|(?:(?<=can't be read)|(?<=can't be copied)): [^:\n]* \(os error \d+\)", re.MULTILINE)
 UNLISTED = re.compile(rb"bao_gather: list: left as it is: memory\n")
 COUNTED = re.compile(rb"bao_gather: (.*): (?:\d+ of \d+ groups of 64 KiB refused|not a combined encoding of ROOT; .*)")
 FORMLESS = re.compile(rb"^bao_gather: (.*): not a combined encoding of ROOT; ", re.MULTILINE)

@@ -158,6 +158,16 @@ def gather_long(blob, *files, how=""):
     return gather(blob, *files, how=f"--long {how}")
 
 
+# An OUT that can't be replaced has no copy of a pipe beside it: of one that is held in memory the last 64 bytes are cut, of two chunks in two groups.
+CUT_PIPE = (f"gather --long --verbose @64M+1 {os.devnull} {STDIN}",)
+CUT_TOLD = [
+    f"{STDIN}: only its first {8 + 64 * (bao.chunks_of(BLOBS['64M']) - 1) + BLOBS['64M'] + 1} bytes were read",
+    counted(STDIN, 2, "64M+1"),
+    f"missing: bytes {64 * MIB - GROUP_LEN * bao.CHUNK_LEN} to {64 * MIB}",
+    f"missing: {GROUP_LEN * bao.CHUNK_LEN + 1} of {BLOBS['64M+1']} bytes, ranges: 1",
+    f"missing: the length isn't certified yet: {BLOBS['64M+1']} bytes are claimed",
+]
+
 # Blobs of any length, window by window.
 ANY_LENGTH = [
     Row("300 MiB and a byte out of three encodings, each with another third damaged", gather_long("300M+1", *(f"300M+1.enc{k}" for k in range(3))), WINDOW, like="300M+1"),
@@ -172,7 +182,17 @@ ANY_LENGTH = [
     Row("a byte more than a store has room for, of any length", gather_long("64M+1", "64M+1.bao"), WINDOW, like="64M+1"),
     Row("twenty holders with one damaged chunk in common, of any length", gather_long("64M", *TWENTY), WINDOW, UNFINISHED, read=FOUR_TIMES),
     Row("a damaged holder beside one of 1 TiB of zeros, of any length", gather_long("4M", "4M.torn", "zeros-1T"), WINDOW, UNFINISHED, read=LITTLE),
-    Row("an endless pipe beside a damaged holder, of any length", gather_long("4M", "4M.torn", STDIN), PIPES, UNFINISHED, piped=ZEROS_COME, read=OF_A_PIPE),
+    Row("300 MiB and a byte out of a pipe, of any length", gather_long("300M+1", STDIN), WINDOW, like="300M+1", piped=(STDIN, "300M+1.bao")),
+    Row(
+        "300 MiB and a byte out of a plain copy in a pipe, of any length",
+        gather_long("300M+1", STDIN, how="--outboard 300M+1.obao"),
+        BESIDE_PARENTS,
+        like="300M+1",
+        piped=(STDIN, "300M+1"),
+    ),
+    # The damaged holder certifies 4 MiB.
+    Row("an endless pipe beside a damaged holder, of any length", gather_long("4M", "4M.torn", STDIN), WINDOW, UNFINISHED, piped=ZEROS_COME, read=LITTLE),
+    Row("a pipe that is cut, of any length, with an OUT that can't be replaced", CUT_PIPE, PIPES, UNFINISHED, told=CUT_TOLD, piped=(STDIN, "64M+1.bao")),
     Row("64 MiB gathered over their encoding, of any length", (f"encode 64M {OUT}", *gather_long("64M", "64M.torn", OUT)), GATHERS, like="64M"),
 ]
 

@@ -9,6 +9,7 @@ whatever name: then all files stay as they were.
 import errno
 import itertools
 import os
+import resource
 import shutil
 import subprocess
 import tempfile
@@ -261,6 +262,32 @@ class Pipes(Laid):
             reader.join(HELD)
         is_right = got == [TASKS.get(words, b"")] and ran.returncode == (words in REFUSED)
         self.assertTrue(is_right, f"{ran.returncode}, {ran.stderr!r}, {[len(it) for it in got]} bytes")
+
+
+class Copies(Laid):
+    """With `--long` a pipe is copied beside OUT, where nothing is left of it."""
+
+    def ran(self, folder, out, text, **how):
+        words = ["gather", "--long", "--verbose", ROOT, out, "torn.bao", "/dev/stdin"]
+        return subprocess.run([PROGRAM, *words], cwd=folder, input=text, capture_output=True, timeout=HELD, **how)
+
+    def test_copied(self):
+        for out, status in (("out", 0), ("nowhere/out", 3)):
+            folder = self.laid(Row("", out))
+            before = found(folder)
+            ran = self.ran(folder, out, ENCODED)
+            wanted = before if status else {**before, out: (0o666 & ~UMASK, BLOB)}
+            self.holds((ran.returncode, found(folder)) == (status, wanted), f"{out}: {ran}")
+
+    def test_not_copied(self):
+        """The copy can't be written past some bytes: the pipe is left out."""
+        folder = self.laid(Row("", "out", {"out": KEPT}))
+        before = found(folder)
+        limit = lambda: resource.setrlimit(resource.RLIMIT_FSIZE, (1 << 16, 1 << 16))
+        ran = self.ran(folder, "out", ENCODED, preexec_fn=limit, restore_signals=False)
+        told = f"bao_gather: left out /dev/stdin: can't be copied: {os.strerror(errno.EFBIG)} (os error {errno.EFBIG})\n"
+        is_right = ran.returncode == 1 and told.encode() in ran.stderr and ran.stderr.endswith(b"bao_gather: 901 unfinished\n")
+        self.holds(is_right and found(folder) == before, f"{ran}, {sorted(found(folder))}")
 
 
 def refused(case, words, out, usage, make=None, stdout=None):
