@@ -254,8 +254,12 @@ fn take<D: Disk, P: Progress>(
     }
 }
 
-// Opens the first regular file once more. This reserves a file descriptor for OUT while the others are opened.
-fn spare<D: Disk>(disk: &D, paths: &[&str], kinds: &[bool]) -> Option<D::Input> {
+// Opens the first regular file once more, if there are files of this kind to open. This reserves a file descriptor for OUT
+// while they are opened.
+fn spare<D: Disk>(disk: &D, paths: &[&str], kinds: &[bool], regular: bool) -> Option<D::Input> {
+    if !kinds.contains(&regular) {
+        return None;
+    }
     for (path, is_regular) in paths.iter().zip(kinds) {
         if *is_regular {
             return disk.open(path).ok();
@@ -287,7 +291,7 @@ fn take_files<D: Disk, P: Progress>(
     ensures there { regular ≡ true → D.faultless disk.now → (i : ℕ) (path : Bor (List ℕ)) (bytes : List ℕ) → slice_get paths.now i ≡ Some path → is_regular path.now ≡ true
         → D.at disk.now path.now ≡ Stored bytes → (taken.new.starved ≡ true) ⊎ HasSound (shown_contents (given_contents D.Input.contents)) (shown_faultless (is_given_faultless D.Input.faultless)) taken.new.givens.items bytes }
 {
-    let _spare = spare(disk, paths, kinds);
+    let _spare = spare(disk, paths, kinds, regular);
     for (place, path) in paths.iter().enumerate() {
         if kinds[place] != regular {
             continue;
