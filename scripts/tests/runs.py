@@ -128,8 +128,10 @@ class Task:
         is_kept = words[0] in DECODES and "--outboard" not in words and ("/dev/stdin" in files or bool(pipes))
         own = OWN[words[0]] + (OWN["encode"] if "--encode" in words else []) + (["504"] if is_kept else [])
         self.memory = {f"bao_gather: {it} memory\n".encode() for it in own} | {PLAIN}
-        # The first regular FILE is opened once more, which keeps a descriptor for OUT, and what a FILE gives is read by position.
+        # The first regular FILE is opened once more before the regular ones are, and before the others, which keeps a descriptor for OUT. What a FILE gives is
+        # read by position.
         self.is_placed = words[0] == "gather"
+        self.spared = next((it for it in words[words.index(OUT) + 1 :] if it in files and it not in self.pipes and "/" not in it), None) if self.is_placed else None
         # Of several workers another may do what one has no memory for: what comes then depends on the system.
         is_shared = words[0] == "gather" and not re.search(r"--workers 1\b", " ".join(words))
         # These write first what is known only once all is read, and keep nothing: they read it again.
@@ -240,7 +242,9 @@ class Task:
         ends_early = is_in_order and fault.how == "none"
         is_end = lambda byte, file: fault.how == "none" and byte.isdigit() and int(byte) >= len(self.files[file])
         unformed = frozenset(self.unformed(fault, number, met))
-        gone = lambda file: file in self.files and file not in WRITTEN and file not in unformed
+        # Where the first open that failed was of another file, this one was read before.
+        spared = self.spared if fault.call == "open" and met and met[0][1] != self.spared else None
+        gone = lambda file: file in self.files and file not in WRITTEN and file not in unformed and file != spared
         changes = frozenset((file, int(byte) if ends_early else None) for byte, file in met if gone(file) and not is_end(byte, file))
         is_again = self.is_placed and fault.call == "open" and all(file in self.files and file not in WRITTEN for _, file in met)
         places = {file for _, file in met}
