@@ -6,13 +6,13 @@ use crate::appending::append_part;
 use crate::asking::ask;
 use crate::value::group_value;
 use crate::wanted::Wanted;
+use crate::window::Slot;
 use b3par::Source;
-use b3tree::Cv;
 use holders::ByteRange;
 use std::alloc::{AllocError, Global};
 
-// Takes a part of the blob from one source, of which `span` bytes from the part's place on are asked for, and the part's value, if it is a
-// group of which the slice has that.
+// Takes a part of the blob into a slot, from one source, of which `span` bytes from the part's place on are asked for, and the part's
+// value, if it is a group of which the slice has that.
 fn take_part<S: Source>(
     alloc: Global,
     wanted: &Wanted<'_>,
@@ -20,27 +20,25 @@ fn take_part<S: Source>(
     place: usize,
     part: ByteRange,
     span: u64,
-    room: &mut Vec<u8>,
-    value: &mut Option<Cv>,
-    into: &mut Vec<u8>,
+    slot: &mut Slot,
 ) -> Result<bool, AllocError>
     requires fitting { IsFitting wanted.now wanted.now.form }
     requires within { IsWithin wanted.now.form part.start }
     requires place { place < length sources.now }
     requires aligned { part.start % 1024 ≡ 0 }
     requires range { part.start + part.len < 2 ^ 64 }
-    ensures took { IfOk result (λ took. Takes took (IsFrom wanted.now S.contents S.faultless sources.now) (fixed_for wanted.now) part.start part.len into.old.items into.new.items) }
-    ensures value { IfOk result (λ took. took ≡ true → IfSome value.new (IsAddedValue wanted.now.mode part.start into.old.items into.new.items)) }
+    ensures took { IfOk result (λ took. Takes took (IsFrom wanted.now S.contents S.faultless sources.now) (fixed_for wanted.now) part.start part.len slot.old.bytes.items slot.new.bytes.items) }
+    ensures value { IfOk result (λ took. took ≡ true → IfSome slot.new.value (IsAddedValue wanted.now.mode part.start slot.old.bytes.items slot.new.bytes.items)) }
     ensures refused { IfOk result (λ took. took ≡ false → Refuses S.contents S.faultless wanted.now sources.now part.start part.len span place) }
 {
     let asked = ByteRange {
         start: part.start,
         len: span,
     };
-    match ask(alloc, wanted, &sources[place], asked, room)? {
+    match ask(alloc, wanted, &sources[place], asked, &mut slot.room)? {
         Some(piece) => {
-            *value = group_value(&piece, part);
-            append_part(&piece, part.start, part.len, into)
+            slot.value = group_value(&piece, part);
+            append_part(&piece, part.start, part.len, &mut slot.bytes)
         }
         None => Ok(false),
     }
@@ -60,34 +58,31 @@ fn in_turn(first: usize, count: usize, turn: usize) -> usize
     }
 }
 
-// Takes a part of the blob, and its value, from the first source in turn that has it: the one that had one last, and then the others, each
-// once.
+// Takes a part of the blob, and its value, into a slot, from the first source in turn that has it: the one that had one last, and then the
+// others, each once.
 pub(crate) fn take_any<S: Source>(
     alloc: Global,
     wanted: &Wanted<'_>,
     sources: &[S],
-    last: &mut usize,
     part: ByteRange,
     span: u64,
-    room: &mut Vec<u8>,
-    value: &mut Option<Cv>,
-    into: &mut Vec<u8>,
+    slot: &mut Slot,
 ) -> Result<bool, AllocError>
     requires aligned { part.start % 1024 ≡ 0 }
     requires range { part.start + part.len < 2 ^ 64 }
-    ensures took { IfOk result (λ took. Takes took (IsFrom wanted.now S.contents S.faultless sources.now) (fixed_for wanted.now) part.start part.len into.old.items into.new.items) }
-    ensures value { IfOk result (λ took. took ≡ true → IfSome value.new (IsAddedValue wanted.now.mode part.start into.old.items into.new.items)) }
+    ensures took { IfOk result (λ took. Takes took (IsFrom wanted.now S.contents S.faultless sources.now) (fixed_for wanted.now) part.start part.len slot.old.bytes.items slot.new.bytes.items) }
+    ensures value { IfOk result (λ took. took ≡ true → IfSome slot.new.value (IsAddedValue wanted.now.mode part.start slot.old.bytes.items slot.new.bytes.items)) }
     ensures refused { IfOk result (λ took. took ≡ false → AllRefuse S.contents S.faultless wanted.now sources.now part.start part.len span) }
 {
     if !wanted.is_fitting() || !wanted.begins_within(part.start) {
         return Ok(false);
     }
     let count = sources.len();
-    let first = (*last).min(count.saturating_sub(1));
+    let first = slot.last.min(count.saturating_sub(1));
     for turn in 0..count {
         let place = in_turn(first, count, turn);
-        if take_part(alloc, wanted, sources, place, part, span, room, value, into)? {
-            *last = place;
+        if take_part(alloc, wanted, sources, place, part, span, slot)? {
+            slot.last = place;
             return Ok(true);
         }
     }

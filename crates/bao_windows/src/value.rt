@@ -6,10 +6,8 @@ ghost use Rattle.bao_windows.specs.Windows.{IsValueIn};
 use crate::appending::CHUNK_BYTES;
 use b3tree::Cv;
 use bao_check::{Checked, GROUP_BYTES, GROUP_LEN};
+use bao_text::CV_LEN;
 use holders::ByteRange;
-
-// The length of a chaining value in bytes.
-const CV_LEN: usize = 32;
 
 // The chaining values of a parent's two children.
 #[tactic(auto, unfolding(bao_check::specs::Accepted::part_value))]

@@ -25,9 +25,9 @@ pub(crate) struct Slot {
     // The chaining value of the group, unless the blob ends with it.
     pub(crate) value: Option<Cv>,
     // What a source gave last.
-    room: Vec<u8>,
+    pub(crate) room: Vec<u8>,
     // The source that had a part last.
-    last: usize,
+    pub(crate) last: usize,
     // Why the group isn't whole.
     fault: Option<GatherFault>,
 }
@@ -105,17 +105,7 @@ fn fill_slot<S: Source>(
         start: at,
         len: GROUP_BYTES.min(total - at),
     };
-    let taken = take_group(
-        alloc,
-        wanted,
-        sources,
-        &mut slot.last,
-        part,
-        &mut slot.room,
-        &mut slot.value,
-        &mut slot.bytes,
-    );
-    slot.fault = fault_of(taken);
+    slot.fault = fault_of(take_group(alloc, wanted, sources, part, slot));
     slot.value = value_of(&wanted.mode, at, total, slot.value, slot.bytes.as_slice());
 }
 

@@ -22,8 +22,8 @@ chunks-preserved g c =
     let at : ℕ = c.args.part.start in
     let came : ℕ = c.chunks.came in
     let n : ℕ = c.min.result in
-    let mid : List ℕ = c.chunks.into.items in
-    let new : List ℕ = c.take_any.new.into.items in
+    let mid : List ℕ = c.chunks.slot.bytes.items in
+    let new : List ℕ = c.take_any.new.slot.bytes.items in
     let yes : c.in_ok-take_any.field-0 ≡ true = search rules in
     record {
       within = omega (arith, c.min.ensures, c.chunks-test.true);

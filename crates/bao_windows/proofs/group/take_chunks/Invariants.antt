@@ -6,7 +6,7 @@ abbrev pub invariant-chunks : goal.invariant-chunks
 invariant-chunks g l = record {
   within : l.came ≤ l.part.len;
   step : (l.came % 1024 ≡ 0) ⊎ (l.came ≡ l.part.len);
-  done : Adds (IsFrom l.wanted g.S.Source.contents g.S.Source.faultless l.sources) (fixed_for l.wanted) l.part.start l.came l.initial.into.items l.into.items;
+  done : Adds (IsFrom l.wanted g.S.Source.contents g.S.Source.faultless l.sources) (fixed_for l.wanted) l.part.start l.came l.initial.slot.bytes.items l.slot.bytes.items;
 }
 
 abbrev pub decreases-chunks : goal.decreases-chunks

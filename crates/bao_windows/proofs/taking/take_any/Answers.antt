@@ -8,8 +8,8 @@ pub loop-turn-preserved : goal.loop-turn-preserved
 loop-turn-preserved g c =
     let wanted = c.args.wanted.now in
     let sources = c.args.sources.now in
-    let mid : List ℕ = c.loop-turn.into.items in
-    let new : List ℕ = c.take_part.new.into.items in
+    let mid : List ℕ = c.loop-turn.slot.bytes.items in
+    let new : List ℕ = c.take_part.new.slot.bytes.items in
     let none : c.in_ok-take_part.field-0 ≡ false = c.if-branch.false in
     let kept : new ≡ mid =
     subst (λ (took : Bool). Takes took (IsFrom wanted g.S.Source.contents g.S.Source.faultless sources) (fixed_for wanted) c.args.part.start c.args.part.len mid new) none c.in_ok-take_part.ensures.took in

@@ -15,8 +15,8 @@ returns-in-Some-clause-value g c =
     let source = c.index-sources-place.result in
     if_ok c.append_part.result _ _
     (λ took takes. value_found g.S.Source.contents g.S.Source.faultless c.args.wanted.now sources c.args.place source c.args.part.start c.args.span c.in_ok-piece.field-0 c.requires.fitting
-    (there_at sources c.args.place source c.requires.place c.index-sources-place.is) c.in_ok-piece.ensures c.in-Some.piece took c.args.part.len _ _ c.group_value.result c.in-Some.is
-    c.group_value.ensures takes) c.append_part.ensures
+    (there_at sources c.args.place source c.requires.place c.index-sources-place.is) c.in_ok-piece.ensures c.in-Some.piece took c.args.part.len _ _ c.group_value-slot.result c.in-Some.is
+    c.group_value-slot.ensures takes) c.append_part.ensures
 
 pub returns-in-Some-clause-refused : goal.returns-in-Some-clause-refused
 returns-in-Some-clause-refused g c =
