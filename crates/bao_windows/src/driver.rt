@@ -63,6 +63,8 @@ fn write_window<R: Threads + Sync, S: Source + Sync, W: Write>(
             Err(fault) => Err(fault),
         };
     }
+    // The thread that writes needs a processor, too. Three workers keep up with it.
+    let workers = if workers > 3 { workers - 1 } else { workers };
     let (filled, put) = join_mut(
         rt,
         &mut || -> Result<(), GatherFault>
@@ -156,9 +158,9 @@ fn write_all<R: Threads + Sync, S: Source + Sync, W: Write>(
 /// each source at most once, until one has all of its chunks; with `Grain::Chunk` each chunk of a group that no
 /// source has as a whole is then asked for separately. Beside an outboard encoding, sources are asked for
 /// exactly the bytes of the chunks. A source whose read fails supplies nothing then. A byte is used only from a
-/// slice that is accepted under the root in the mode. A complete window is written by the calling thread while
-/// the next is filled, so the memory is that of two windows and of what the workers fetch, whatever the blob's
-/// length.
+/// slice that is accepted under the root in the mode. A complete window is written by the calling thread, in place
+/// of one of four or more workers, while the next is filled, so the memory is that of two windows and of what the
+/// workers fetch, whatever the blob's length.
 ///
 /// Refuses with 901 `Unfinished` if no source has the last chunk, or none has some group (or, if chunks are
 /// asked for, some chunk of it), or if the outboard encoding is of another root or mode; with 805 `TooLarge` if

@@ -18,6 +18,7 @@ fn take_chunks<S: Source>(
     sources: &[S],
     part: ByteRange,
     slot: &mut Slot,
+    room: &mut Vec<u8>,
 ) -> Result<bool, AllocError>
     requires aligned { part.start % 1024 ≡ 0 }
     requires range { part.start + part.len < 2 ^ 64 }
@@ -31,7 +32,7 @@ fn take_chunks<S: Source>(
             start: part.start + came,
             len: CHUNK_BYTES.min(part.len - came),
         };
-        if !take_any(alloc, wanted, sources, chunk, CHUNK_BYTES, slot)? {
+        if !take_any(alloc, wanted, sources, chunk, CHUNK_BYTES, slot, room)? {
             return Ok(false);
         }
         came += chunk.len;
@@ -49,6 +50,7 @@ pub(crate) fn take_group<S: Source>(
     sources: &[S],
     part: ByteRange,
     slot: &mut Slot,
+    room: &mut Vec<u8>,
 ) -> Result<bool, AllocError>
     requires aligned { part.start % 65536 ≡ 0 }
     requires some { 0 < part.len }
@@ -57,11 +59,11 @@ pub(crate) fn take_group<S: Source>(
     ensures value { IfOk result (λ took. took ≡ true → IfSome slot.new.value (IsAddedValue wanted.now.mode part.start slot.old.bytes.items slot.new.bytes.items)) }
     ensures lacks { IfOk result (λ took. took ≡ false → LacksGroup S.contents S.faultless wanted.now sources.now part.start part.len) }
 {
-    if take_any(alloc, wanted, sources, part, GROUP_BYTES, slot)? {
+    if take_any(alloc, wanted, sources, part, GROUP_BYTES, slot, room)? {
         return Ok(true);
     }
     match wanted.grain {
         Grain::Group => Ok(false),
-        Grain::Chunk => take_chunks(alloc, wanted, sources, part, slot),
+        Grain::Chunk => take_chunks(alloc, wanted, sources, part, slot, room),
     }
 }

@@ -21,6 +21,7 @@ fn take_part<S: Source>(
     part: ByteRange,
     span: u64,
     slot: &mut Slot,
+    room: &mut Vec<u8>,
 ) -> Result<bool, AllocError>
     requires fitting { IsFitting wanted.now wanted.now.form }
     requires within { IsWithin wanted.now.form part.start }
@@ -35,7 +36,7 @@ fn take_part<S: Source>(
         start: part.start,
         len: span,
     };
-    match ask(alloc, wanted, &sources[place], asked, &mut slot.room)? {
+    match ask(alloc, wanted, &sources[place], asked, room)? {
         Some(piece) => {
             slot.value = group_value(&piece, part);
             append_part(&piece, part.start, part.len, &mut slot.bytes)
@@ -67,6 +68,7 @@ pub(crate) fn take_any<S: Source>(
     part: ByteRange,
     span: u64,
     slot: &mut Slot,
+    room: &mut Vec<u8>,
 ) -> Result<bool, AllocError>
     requires aligned { part.start % 1024 ≡ 0 }
     requires range { part.start + part.len < 2 ^ 64 }
@@ -81,7 +83,7 @@ pub(crate) fn take_any<S: Source>(
     let first = slot.last.min(count.saturating_sub(1));
     for turn in 0..count {
         let place = in_turn(first, count, turn);
-        if take_part(alloc, wanted, sources, place, part, span, slot)? {
+        if take_part(alloc, wanted, sources, place, part, span, slot, room)? {
             slot.last = place;
             return Ok(true);
         }

@@ -24,8 +24,6 @@ pub(crate) struct Slot {
     pub(crate) bytes: Vec<u8>,
     // The chaining value of the group, unless the blob ends with it.
     pub(crate) value: Option<Cv>,
-    // What a source gave last.
-    pub(crate) room: Vec<u8>,
     // The source that had a part last.
     pub(crate) last: usize,
     // Why the group isn't whole.
@@ -36,14 +34,13 @@ pub(crate) struct Slot {
 pub(crate) fn new_window(alloc: Global, total: u64) -> Result<Vec<Slot>, AllocError>
     ensures { IfOk result (λ window. 0 < vec_len window) }
 {
-    let count = total.div_ceil(GROUP_BYTES).clamp(1, WINDOW_GROUPS as u64);
-    let count = count as usize;
+    let count = total.div_ceil(GROUP_BYTES).clamp(1, WINDOW_GROUPS as u64) as usize;
+    let len = GROUP_BYTES.min(total) as usize;
     let mut window = Vec::with_capacity(alloc, count)?;
     'slots: while window.len() < count {
         window.push(Slot {
-            bytes: Vec::new(alloc),
+            bytes: Vec::with_capacity(alloc, len)?,
             value: None,
-            room: Vec::new(alloc),
             last: 0,
             fault: None,
         })?;
@@ -105,7 +102,8 @@ fn fill_slot<S: Source>(
         start: at,
         len: GROUP_BYTES.min(total - at),
     };
-    slot.fault = fault_of(take_group(alloc, wanted, sources, part, slot));
+    let mut room = Vec::new(alloc);
+    slot.fault = fault_of(take_group(alloc, wanted, sources, part, slot, &mut room));
     slot.value = value_of(&wanted.mode, at, total, slot.value, slot.bytes.as_slice());
 }
 
