@@ -29,7 +29,7 @@ use bao_tasks::{
     Fate, Form, GatheredFault, Gathering, Grain, Lack, MissingParts, Notes, Span, Worth,
     gather_beside_on, gather_on, list_parts,
 };
-use bao_windows::GatherFault;
+use bao_windows::{GatherFault, Wanted};
 use std::io;
 use std::io::Write;
 use std::thread::Threads;
@@ -376,25 +376,25 @@ pub(crate) fn gather<
         return Err(Fault::Gather { fault, unlisted });
     };
     let how = Gathering {
+        wanted: Wanted {
+            root,
+            mode: *mode,
+            form: Form::Slices,
+            grain: grain_of(task.salvage),
+        },
         workers: task.workers,
         capacity: task.capacity,
         long: task.long,
         encode: task.encode,
         count: verbose,
         parts: parts_asked(verbose, task.missing),
-        grain: grain_of(task.salvage),
     };
     let kept = &mut notes;
     let gathered = match task.outboard {
         Some(outboard) => gather_beside_on(
-            rt, disk, mode, &root, how, outboard, files, task.out, kept, progress,
+            rt, disk, &how, outboard, files, task.out, kept, progress,
         ),
-        None => {
-            let form = Form::Slices;
-            gather_on(
-                rt, disk, mode, &root, &form, how, files, task.out, kept, progress,
-            )
-        }
+        None => gather_on(rt, disk, &how, files, task.out, kept, progress),
     };
     if verbose {
         tell(disk, task, &notes, &gathered, err);

@@ -53,7 +53,7 @@ module _ (Has More : List ℕ → Type 0) (wider : (text : List ℕ) → Has tex
     room = enough.room;
     some = elim enough.some [
       | inl whole ↦ inl (record { text = whole.text; has = wider whole.text whole.has; text_is = whole.text_is; few = whole.few })
-      | inr parts ↦ inr (together_wider form fixed how.grain blob parts)
+      | inr parts ↦ inr (together_wider form fixed how.wanted.grain blob parts)
     ];
   }
 
@@ -73,7 +73,7 @@ pub one_of : (Has : List ℕ → Type 0) (form : Form) (fixed : Fixed) (how : Ga
 one_of Has form fixed how blob enough = elim enough.some [
   | inl whole ↦ (whole.text, whole.has)
   | inr parts ↦
-      by_parts ((text : List ℕ) × Has text) form fixed how.grain blob Has parts (λ slices have. (have.end.text, have.end.has))
+      by_parts ((text : List ℕ) × Has text) form fixed how.wanted.grain blob Has parts (λ slices have. (have.end.text, have.end.has))
       (λ own have.
       let start : ℕ = 1024 * (chunk_count (length blob) - 1) in
       let last : HasBytes Has blob start (min 1024 (length blob - start)) = have.end start (min 1024 (length blob - start)) (refl, refl) in

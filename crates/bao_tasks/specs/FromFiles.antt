@@ -21,7 +21,7 @@ use Rattle.holders.specs.declared.grain.Grain.{Grain}
 use Rattle.holders.specs.declared.grain.Grain.TheVariants.{Chunk as ByChunk}
 use Rattle.holders.specs.declared.form.Form.TheVariants.{Slices, Bare}
 use Rattle.bao_windows.specs.Faults.{IsExcused}
-use Rattle.holders.specs.Blobs.{HasCollision}
+use Rattle.holders.specs.Blobs.{HasCollision, fixed_as}
 use Rattle.holders.specs.Lists.{IsFromSource}
 use Rattle.holders.specs.Parts.{IsOwn, IsOwnOutline}
 use Rattle.holders.specs.declared.fixed.Fixed.{Fixed}
@@ -69,6 +69,10 @@ IsReach long capacity IsCertified n = (n ≡ 1024 * capacity) ⊎ ((long ≡ tru
 abbrev pub IsFromFile : Form → Fixed → Bool → (List ℕ → FileState) → List (Bor (List ℕ)) → Piece → Type 0
 IsFromFile form fixed long at paths piece =
     (n : ℕ) × IsReach long fixed.capacity (IsCertifiedBy (wanted_as form fixed) at paths) n × IsFromSource form (file_bytes (most_bytes form n) at) never_fails paths piece
+
+-- the root and the mode of the blob that is gathered, and the capacity
+abbrev pub fixed_of : Gathering → Fixed
+fixed_of how = fixed_as how.wanted.root how.wanted.mode how.capacity
 
 -- a blob of n bytes fits: it may have any length, or it has at most as many chunks as the capacity
 abbrev pub HasRoom : Gathering → ℕ → Type 0
@@ -121,7 +125,7 @@ HaveTogether (Bare outline) fixed grain blob Has = IsOwnOutline fixed outline.no
 pub record AreEnough (form : Form) (fixed : Fixed) (how : Gathering) (blob : List ℕ) (Has : List ℕ → Type 0) : Type 0 where
   pub root : IsBlob fixed blob
   pub room : HasRoom how (length blob)
-  pub some : HasWhole Has form fixed blob ⊎ HaveTogether form fixed how.grain blob Has
+  pub some : HasWhole Has form fixed blob ⊎ HaveTogether form fixed how.wanted.grain blob Has
 
 -- one of these files, which isn't standard input, has these bytes
 abbrev pub IsInFile : (List ℕ → FileState) → List (Bor (List ℕ)) → List ℕ → Type 0

@@ -3,7 +3,6 @@ use Rattle.std.specs.Borrow.{Bor}
 use Rattle.std.specs.Prelude.{if◌then◌else◌, ◌≡◌, ◌≢◌, ◌⊎◌, ℕ, Bool, true, false, List, [], ◌∷◌, ◌++◌, length, IfOk, IfSome, IsErrOf, MatchResult, Option, None, Some, Result, Ok, Err, slice_get}
 use Rattle.std.specs.Io.KnownBytes.{Appends}
 use Rattle.b3tree.specs.declared.mode.Mode.{Mode}
-use Rattle.b3tree.specs.declared.values.Hash.{Hash}
 use Rattle.bao_files.specs.Disks.{FileState, IsStored}
 use Rattle.bao_windows.specs.declared.fault.GatherFault.{GatherFault}
 use Rattle.bao_windows.specs.declared.fault.GatherFault.TheVariants.{TooLarge, Unfinished, NotTheRoot, Starved}
@@ -13,7 +12,7 @@ use Rattle.bao_windows.specs.Written.{AreTooLong}
 use Rattle.bao_windows.specs.declared.wanted.Wanted.{Wanted}
 use Rattle.holders.specs.declared.form.Form.{Form}
 use Rattle.holders.specs.Forms.{AreSlices}
-use Rattle.holders.specs.Blobs.{HasCollision, fixed_as}
+use Rattle.holders.specs.Blobs.{HasCollision}
 use Rattle.holders.specs.Lists.{IsFromSource}
 use Rattle.holders.specs.declared.fixed.Fixed.{Fixed}
 use Rattle.holders.specs.declared.piece.Piece.{Piece}
@@ -23,7 +22,7 @@ use Rattle.bao_tasks.specs.declared.gathered_fault.GatheredFault.TheVariants.{Fi
 use Rattle.bao_tasks.specs.GatheredFaults.{IsOfFiles, IsQuietGathered, NamesFirst}
 use Rattle.bao_tasks.specs.declared.gathering.Gathering.{Gathering}
 use Rattle.bao_tasks.specs.Gathered.{HasRootAndFits, IsWrittenOut, gathered_text}
-use Rattle.bao_tasks.specs.FromFiles.{AreEnough, IsExcusedFile, IsExcusedGathering, IsReach, is_regular}
+use Rattle.bao_tasks.specs.FromFiles.{AreEnough, IsExcusedFile, IsExcusedGathering, IsReach, fixed_of, is_regular}
 
 -- for each of these files that is known to be stored, it is right whether it is regular
 abbrev pub AreKinds : (List ℕ → FileState) → List (Bor (List ℕ)) → List Bool → Type 0
@@ -105,9 +104,9 @@ pub record IsGatheredFrom (handed : Piece → Type 0) (form : Form) (fixed : Fix
   pub available : sure → (blob : List ℕ) → AreEnough form fixed how blob Has → IsWrittenOut handed fixed encode blob old new result
 
 -- the same out of these sources
-abbrev pub IsGathered : {S : Type 0} → (S → Option (List ℕ)) → (S → Type 0) → List S → Form → Hash → Mode → Gathering → Type 0 → Bool → Option (List ℕ) → Option (List ℕ) → Result ℕ GatheredFault → Type 0
-IsGathered contents faultless sources form root mode how =
-    IsGatheredFrom (IsFromSource form contents faultless sources) form (fixed_as root mode how.capacity) how (HasSound contents faultless sources)
+abbrev pub IsGathered : {S : Type 0} → (S → Option (List ℕ)) → (S → Type 0) → List S → Gathering → Type 0 → Bool → Option (List ℕ) → Option (List ℕ) → Result ℕ GatheredFault → Type 0
+IsGathered contents faultless sources how =
+    IsGatheredFrom (IsFromSource how.wanted.form contents faultless sources) how.wanted.form (fixed_of how) how (HasSound contents faultless sources)
 
 -- this blob, or its encoding, is in the draft that was made, and its length was returned; or the fault isn't the files'
 abbrev pub IsDrafted : {T : Type 0} → (T → Option (List ℕ)) → Gathering → Mode → List ℕ → Result (ℕ × T) GatheredFault → Type 0

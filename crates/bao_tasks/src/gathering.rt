@@ -9,16 +9,16 @@ ghost use Rattle.bao_windows.specs.Written.{AreTooLong};
 ghost use Rattle.bao_windows.specs.declared.fault.GatherFault.{GatherFault as Cause};
 ghost use Rattle.bao_windows.specs.declared.fault.GatherFault.TheVariants as GatherFault;
 ghost use Rattle.holders.specs.Forms.{AreSlices};
-ghost use Rattle.holders.specs.Blobs.{HasCollision, fixed_as};
+ghost use Rattle.holders.specs.Blobs.{HasCollision};
 ghost use Rattle.holders.specs.Lists.{IsFromSource};
 ghost use Rattle.holders.specs.Blobs.{IsBlob};
-ghost use Rattle.bao_tasks.specs.FromFiles.{AreEnough, CollidesBeside, CollidesBesideOutline, HasRoom, HaveBytes, IsExcusedGathering, IsFromFile, IsInFile, IsPutAt, IsRightAt, file_bytes, is_regular, taken_bytes};
+ghost use Rattle.bao_tasks.specs.FromFiles.{AreEnough, CollidesBeside, CollidesBesideOutline, HasRoom, HaveBytes, IsExcusedGathering, IsFromFile, IsInFile, IsPutAt, IsRightAt, file_bytes, fixed_of, is_regular, taken_bytes};
 ghost use Rattle.bao_windows.specs.Available.{CertifiesEnd};
 ghost use Rattle.bao_tasks.specs.TakenFiles.{IsReachOf, IsSourceOf, IsFaultAt, IsGathered, AreKinds, AreOfFiles, Follows, HasSound, IsDrafted, IsRightDraft, IsTried, is_open, open_fault};
 ghost use Rattle.bao_tasks.specs.GatheredFaults.{AreAbsent, IsFirstUnread, IsOfFiles, IsQuietGathered, LooksUnfinished, NamesBeside, NamesFirst, StopsBeside};
 ghost use Rattle.bao_tasks.specs.declared.missing.Lack.TheVariants as Lack;
 ghost use Rattle.bao_tasks.specs.Missing.{IsLackOf};
-ghost use Rattle.bao_tasks.specs.MissingInFiles.{IsLackBeside, IsLackIn, IsReachIn, wanted_for};
+ghost use Rattle.bao_tasks.specs.MissingInFiles.{IsLackBeside, IsLackIn, IsReachIn};
 ghost use Rattle.bao_tasks.specs.Gathered.{Fits, HasOutlineIn, HasRootAndFits, IsFaultOfOutline, gathered_text};
 ghost use Rattle.bao_tasks.specs.Givens.{given_contents, is_given_faultless, most_bytes, shown_contents, shown_faultless};
 ghost use Rattle.bao_tasks.specs.Worth.{IsWorthAs};
@@ -31,13 +31,13 @@ use crate::notes::Notes;
 use crate::worth::{Worth, worth_of};
 use crate::written::write_whole;
 use b3par::Source;
-use b3tree::{CHUNK_LEN, Hash, Mode, bytes_are};
+use b3tree::{CHUNK_LEN, bytes_are};
 use bao_check::check_outboard;
 use bao_decode::read_outboard_on;
 use bao_files::{Disk, FileFault, Progress, STANDARD_INPUT, Shown, encode_input};
 use bao_text::{Encoding, encoded_len};
-use bao_windows::{GatherFault, Wanted as Windows, WindowsFault, certified_length, write_windows};
-use holders::{Form, Grain};
+use bao_windows::{GatherFault, Wanted, WindowsFault, certified_length, write_windows};
+use holders::Form;
 use std::alloc::{AllocError, Global};
 use std::io::Write;
 use std::thread::Threads;
@@ -49,9 +49,11 @@ const MOST_UNCERTIFIED_LEN: u64 = 1 << 40;
 // The progress of shorter files isn't reported.
 const LEAST_SHOWN_LEN: u64 = 4 << 20;
 
-/// How a blob is gathered, and what is written and noted.
+/// What is gathered, how, and what is written and noted.
 #[derive(Clone, Copy, Debug)]
-pub struct Gathering {
+pub struct Gathering<'a> {
+    /// The blob, the form of the files, and the smallest range that they are asked for.
+    pub wanted: Wanted<'a>,
     /// How many workers gather, 1 to 64. A number outside counts as the nearest of these.
     pub workers: u32,
     /// The most chunks that the blob may have, unless it is `long`.
@@ -64,35 +66,6 @@ pub struct Gathering {
     pub count: bool,
     /// The most missing ranges to show if the blob stays unfinished. With 0 they aren't looked for.
     pub parts: usize,
-    /// The smallest unit that the files are asked for.
-    pub grain: Grain,
-}
-
-// What is gathered from files: the blob with this root in this mode, how, and in which form the files are.
-#[derive(Clone, Copy)]
-struct Wanted<'a> {
-    mode: &'a Mode,
-    root: &'a Hash,
-    how: Gathering,
-    form: &'a Form<'a>,
-}
-
-impl<'a> Wanted<'a> {
-    // The same for `write_windows`.
-    fn windows(&self) -> Windows<'a>
-        ensures root { result.root ≡ self.now.root.now }
-        ensures mode { result.mode ≡ self.now.mode.now }
-        ensures form { result.form ≡ self.now.form.now }
-        ensures grain { result.grain ≡ self.now.how.grain }
-        ensures all { result ≡ wanted_for self.now.root.now self.now.mode.now self.now.form.now self.now.how.grain }
-    {
-        Windows {
-            root: *self.root,
-            mode: *self.mode,
-            form: *self.form,
-            grain: self.how.grain,
-        }
-    }
 }
 
 // The files taken so far, the length in bytes of the longest, and whether memory was refused for one. Files that aren't
@@ -154,27 +127,26 @@ fn kinds_of<D: Disk>(
 }
 
 // Counts the worth of a file, if that is asked for and memory isn't refused.
-fn counted<I: Source>(alloc: Global, wanted: &Wanted<'_>, given: &Given<I>) -> Option<Worth>
-    ensures asked { IsSome result → IsTrue wanted.now.how.count }
-    ensures worth { IfSome result (IsWorthAs wanted.now.form.now wanted.now.mode.now wanted.now.root.now.0 (given_contents I.contents given.now) (is_given_faultless I.faultless given.now)) }
+fn counted<I: Source>(alloc: Global, how: &Gathering<'_>, given: &Given<I>) -> Option<Worth>
+    ensures asked { IsSome result → IsTrue how.now.count }
+    ensures worth { IfSome result (IsWorthAs how.now.wanted.form how.now.wanted.mode how.now.wanted.root.0 (given_contents I.contents given.now) (is_given_faultless I.faultless given.now)) }
 {
-    if !wanted.how.count {
+    if !how.count {
         return None;
     }
-    worth_of(alloc, &wanted.windows(), given).ok()
+    worth_of(alloc, &how.wanted, given).ok()
 }
 
 // How long the blob may be for its longest encoding, or copy, to be read to the end from a file that is copied: as long as
 // one of the files taken certifies.
 fn reach<S: Source + Drop, P: Progress>(
     alloc: Global,
-    wanted: &Wanted<'_>,
+    how: &Gathering<'_>,
     taken: &Taken<'_, S, P>,
 ) -> u64
-    ensures { (result ≡ 2 ^ 40) ⊎ ((place : ℕ) × CertifiesEnd (shown_contents S.contents) (shown_faultless S.faultless) (wanted_for wanted.now.root.now wanted.now.mode.now wanted.now.form.now wanted.now.how.grain) taken.now.givens.items place result) }
+    ensures { (result ≡ 2 ^ 40) ⊎ ((place : ℕ) × CertifiesEnd (shown_contents S.contents) (shown_faultless S.faultless) how.now.wanted taken.now.givens.items place result) }
 {
-    let windows = wanted.windows();
-    if let Ok(len) = certified_length(alloc, &windows, taken.givens.as_slice()) {
+    if let Ok(len) = certified_length(alloc, &how.wanted, taken.givens.as_slice()) {
         return len;
     }
     MOST_UNCERTIFIED_LEN
@@ -185,27 +157,28 @@ fn reach<S: Source + Drop, P: Progress>(
 fn opened<'a, D: Disk, P: Progress>(
     alloc: Global,
     disk: &D,
-    wanted: &Wanted<'_>,
+    how: &Gathering<'_>,
     path: &'a str,
     regular: bool,
     taken: &Taken<'a, Given<D::Input>, P>,
 ) -> Result<Opened<D::Input>, FileFault<'a>>
     ensures source { IfOk result (λ made. IsSourceOf (given_contents D.Input.contents) (is_given_faultless D.Input.faultless) (D.faultless disk.now)
-        (IsReachOf (shown_contents (given_contents D.Input.contents)) (shown_faultless (is_given_faultless D.Input.faultless)) (wanted_for wanted.now.root.now wanted.now.mode.now wanted.now.form.now wanted.now.how.grain) wanted.now.how.long wanted.now.how.capacity taken.now.givens.items)
-        (λ n. taken_bytes regular (most_bytes wanted.now.form.now n) (D.at disk.now path.now)) made.given) }
+        (IsReachOf (shown_contents (given_contents D.Input.contents)) (shown_faultless (is_given_faultless D.Input.faultless)) how.now.wanted how.now.long how.now.capacity taken.now.givens.items)
+        (λ n. taken_bytes regular (most_bytes how.now.wanted.form n) (D.at disk.now path.now)) made.given) }
     ensures found { OnOk result (D.at disk.now path.now ≢ Absent) }
     ensures there { IfErr result (λ fault. regular ≡ true → D.faultless disk.now → IsStored (D.at disk.now path.now) → fault ≡ FileFault.Memory) }
 {
     if regular {
         return placed(disk, path);
     }
-    let Gathering { capacity, long, .. } = wanted.how;
     let input = disk.open(path)?;
-    if long && let Some(draft) = spool(disk, taken.beside) {
-        let most = most_bytes(wanted.form, reach(alloc, wanted, taken));
+    if how.long
+        && let Some(draft) = spool(disk, taken.beside)
+    {
+        let most = most_bytes(&how.wanted.form, reach(alloc, how, taken));
         return spooled(disk, input, draft, most, path, taken.beside);
     }
-    let most = most_bytes(wanted.form, CHUNK_LEN as u64 * u64::from(capacity));
+    let most = most_bytes(&how.wanted.form, CHUNK_LEN as u64 * u64::from(how.capacity));
     held(alloc, input, most, path)
 }
 
@@ -213,7 +186,7 @@ fn opened<'a, D: Disk, P: Progress>(
 fn take<D: Disk, P: Progress>(
     alloc: Global,
     disk: &D,
-    wanted: &Wanted<'_>,
+    how: &Gathering<'_>,
     path: &str,
     regular: bool,
     taken: &mut Taken<'_, Given<D::Input>, P>,
@@ -222,17 +195,17 @@ fn take<D: Disk, P: Progress>(
     ensures absent { D.at disk.now path.now ≡ Absent → taken.new.givens.items ≡ taken.old.givens.items }
     ensures taken { (taken.new.givens.items ≡ taken.old.givens.items)
         ⊎ Follows (shown_contents (given_contents D.Input.contents)) (shown_faultless (is_given_faultless D.Input.faultless)) (D.faultless disk.now)
-        (IsReachOf (shown_contents (given_contents D.Input.contents)) (shown_faultless (is_given_faultless D.Input.faultless)) (wanted_for wanted.now.root.now wanted.now.mode.now wanted.now.form.now wanted.now.how.grain) wanted.now.how.long wanted.now.how.capacity taken.old.givens.items)
-        (λ n. taken_bytes regular (most_bytes wanted.now.form.now n) (D.at disk.now path.now)) taken.old.givens.items taken.new.givens.items }
+        (IsReachOf (shown_contents (given_contents D.Input.contents)) (shown_faultless (is_given_faultless D.Input.faultless)) how.now.wanted how.now.long how.now.capacity taken.old.givens.items)
+        (λ n. taken_bytes regular (most_bytes how.now.wanted.form n) (D.at disk.now path.now)) taken.old.givens.items taken.new.givens.items }
     ensures there { regular ≡ true → D.faultless disk.now → IsStored (D.at disk.now path.now) → (taken.new.starved ≡ true)
         ⊎ Follows (shown_contents (given_contents D.Input.contents)) (shown_faultless (is_given_faultless D.Input.faultless)) (D.faultless disk.now)
-        (IsReachOf (shown_contents (given_contents D.Input.contents)) (shown_faultless (is_given_faultless D.Input.faultless)) (wanted_for wanted.now.root.now wanted.now.mode.now wanted.now.form.now wanted.now.how.grain) wanted.now.how.long wanted.now.how.capacity taken.old.givens.items)
-        (λ n. taken_bytes regular (most_bytes wanted.now.form.now n) (D.at disk.now path.now)) taken.old.givens.items taken.new.givens.items }
+        (IsReachOf (shown_contents (given_contents D.Input.contents)) (shown_faultless (is_given_faultless D.Input.faultless)) how.now.wanted how.now.long how.now.capacity taken.old.givens.items)
+        (λ n. taken_bytes regular (most_bytes how.now.wanted.form n) (D.at disk.now path.now)) taken.old.givens.items taken.new.givens.items }
 {
-    match opened(alloc, disk, wanted, path, regular, taken) {
+    match opened(alloc, disk, how, path, regular, taken) {
         Ok(file) => {
             let Opened { given, len, is_cut } = file;
-            let worth = counted(alloc, wanted, &given);
+            let worth = counted(alloc, how, &given);
             taken.longest = taken.longest.max(len);
             match taken.givens.push(Shown::over(given, None, taken.progress)) {
                 Ok(()) => Fate::Taken {
@@ -272,7 +245,7 @@ fn spare<D: Disk>(disk: &D, paths: &[&str], kinds: &[bool], regular: bool) -> Op
 fn take_files<D: Disk, P: Progress>(
     alloc: Global,
     disk: &D,
-    wanted: &Wanted<'_>,
+    how: &Gathering<'_>,
     paths: &[&str],
     kinds: &[bool],
     regular: bool,
@@ -284,9 +257,9 @@ fn take_files<D: Disk, P: Progress>(
     ensures starved { taken.old.starved ≡ true → taken.new.starved ≡ true }
     ensures absent { AreAbsent (D.at disk.now) paths.now → taken.new.givens.items ≡ taken.old.givens.items }
     ensures files { AreOfFiles (shown_contents (given_contents D.Input.contents)) (shown_faultless (is_given_faultless D.Input.faultless)) (D.faultless disk.now)
-        (IsReachIn (wanted_for wanted.now.root.now wanted.now.mode.now wanted.now.form.now wanted.now.how.grain) wanted.now.how.long wanted.now.how.capacity (D.at disk.now) paths.now) (λ n. file_bytes (most_bytes wanted.now.form.now n) (D.at disk.now)) paths.now taken.old.givens.items
+        (IsReachIn how.now.wanted how.now.long how.now.capacity (D.at disk.now) paths.now) (λ n. file_bytes (most_bytes how.now.wanted.form n) (D.at disk.now)) paths.now taken.old.givens.items
         → AreOfFiles (shown_contents (given_contents D.Input.contents)) (shown_faultless (is_given_faultless D.Input.faultless)) (D.faultless disk.now)
-        (IsReachIn (wanted_for wanted.now.root.now wanted.now.mode.now wanted.now.form.now wanted.now.how.grain) wanted.now.how.long wanted.now.how.capacity (D.at disk.now) paths.now) (λ n. file_bytes (most_bytes wanted.now.form.now n) (D.at disk.now)) paths.now taken.new.givens.items }
+        (IsReachIn how.now.wanted how.now.long how.now.capacity (D.at disk.now) paths.now) (λ n. file_bytes (most_bytes how.now.wanted.form n) (D.at disk.now)) paths.now taken.new.givens.items }
     ensures kept { (bytes : List ℕ) → HasSound (shown_contents (given_contents D.Input.contents)) (shown_faultless (is_given_faultless D.Input.faultless)) taken.old.givens.items bytes → HasSound (shown_contents (given_contents D.Input.contents)) (shown_faultless (is_given_faultless D.Input.faultless)) taken.new.givens.items bytes }
     ensures there { regular ≡ true → D.faultless disk.now → (i : ℕ) (path : Bor (List ℕ)) (bytes : List ℕ) → slice_get paths.now i ≡ Some path → is_regular path.now ≡ true
         → D.at disk.now path.now ≡ Stored bytes → (taken.new.starved ≡ true) ⊎ HasSound (shown_contents (given_contents D.Input.contents)) (shown_faultless (is_given_faultless D.Input.faultless)) taken.new.givens.items bytes }
@@ -296,7 +269,7 @@ fn take_files<D: Disk, P: Progress>(
         if kinds[place] != regular {
             continue;
         }
-        let fate = take(alloc, disk, wanted, path, regular, taken);
+        let fate = take(alloc, disk, how, path, regular, taken);
         note(fates, place, fate);
     }
 }
@@ -352,25 +325,24 @@ fn cause_of<'a>(
 // Looks for what none of the files taken has, if that is asked for and is why the blob stayed unfinished.
 fn lack_left<S: Source + Drop, P: Progress>(
     alloc: Global,
-    wanted: &Wanted<'_>,
+    how: &Gathering<'_>,
     met: Option<GatherFault>,
     taken: &Taken<'_, S, P>,
 ) -> Lack
     ensures unasked { ((met ≡ Some GatherFault.Unfinished) × (taken.now.starved ≡ false)) ⊎ (result ≡ Lack.Unasked) }
-    ensures lack { met ≡ Some GatherFault.Unfinished → taken.now.starved ≡ false → ((wanted.now.how.parts ≡ 0) × (result ≡ Lack.Unasked))
-        ⊎ IsLackOf (shown_contents S.contents) (shown_faultless S.faultless) (wanted_for wanted.now.root.now wanted.now.mode.now wanted.now.form.now wanted.now.how.grain) taken.now.givens.items wanted.now.how.parts result }
+    ensures lack { met ≡ Some GatherFault.Unfinished → taken.now.starved ≡ false → ((how.now.parts ≡ 0) × (result ≡ Lack.Unasked))
+        ⊎ IsLackOf (shown_contents S.contents) (shown_faultless S.faultless) how.now.wanted taken.now.givens.items how.now.parts result }
 {
     match met {
-        Some(GatherFault::Unfinished) if wanted.how.parts > 0 && !taken.starved => {
-            let windows = wanted.windows();
-            lack_of(alloc, &windows, taken.givens.as_slice(), wanted.how.parts)
+        Some(GatherFault::Unfinished) if how.parts > 0 && !taken.starved => {
+            lack_of(alloc, &how.wanted, taken.givens.as_slice(), how.parts)
         }
         _ => Lack::Unasked,
     }
 }
 
 // How many chunks a blob may have that is gathered window by window.
-fn most_chunks(how: &Gathering) -> u64
+fn most_chunks(how: &Gathering<'_>) -> u64
     ensures fits { (n : ℕ) → chunk_count n ≤ result → Fits how.now.long how.now.capacity n }
     ensures room { (n : ℕ) → n < 2 ^ 64 → HasRoom how.now n → chunk_count n ≤ result }
     ensures most { how.now.capacity ≤ result }
@@ -388,18 +360,16 @@ fn gather_into<
     W: Write,
 >(
     rt: &R,
-    wanted: &Wanted<'_>,
+    how: &Gathering<'_>,
     taken: &Taken<'_, S, P>,
     path: &'a str,
     out: &mut W,
 ) -> Result<u64, GatheredFault<'a>>
-    ensures gathered { IsGathered (shown_contents S.contents) (shown_faultless S.faultless) taken.now.givens.items wanted.now.form.now wanted.now.root.now wanted.now.mode.now wanted.now.how ⊤ false (W.contents out.old) (W.contents out.new) result }
+    ensures gathered { IsGathered (shown_contents S.contents) (shown_faultless S.faultless) taken.now.givens.items how.now ⊤ false (W.contents out.old) (W.contents out.new) result }
     ensures fault { IfErr result (IsFaultAt path.entry) }
 {
-    let how = wanted.how;
     let givens = taken.givens.as_slice();
-    let windows = wanted.windows();
-    match write_windows(rt, &windows, how.workers, most_chunks(&how), givens, out) {
+    match write_windows(rt, &how.wanted, how.workers, most_chunks(how), givens, out) {
         Ok(count) => Ok(count),
         Err(WindowsFault::Gather(fault)) => Err(GatheredFault::Gather(fault)),
         Err(WindowsFault::Write) => Err(GatheredFault::File(FileFault::Write(path))),
@@ -416,12 +386,12 @@ fn encode_draft<
 >(
     rt: &R,
     disk: &D,
-    wanted: &Wanted<'_>,
+    how: &Gathering<'_>,
     taken: &Taken<'_, S, P>,
     path: &'a str,
     out: &mut D::Draft,
 ) -> Result<u64, GatheredFault<'a>>
-    ensures gathered { IsGathered (shown_contents S.contents) (shown_faultless S.faultless) taken.now.givens.items wanted.now.form.now wanted.now.root.now wanted.now.mode.now wanted.now.how (IsKnown (D.at disk.now path.now)) true (D.Draft.contents out.old) (D.Draft.contents out.new) result }
+    ensures gathered { IsGathered (shown_contents S.contents) (shown_faultless S.faultless) taken.now.givens.items how.now (IsKnown (D.at disk.now path.now)) true (D.Draft.contents out.old) (D.Draft.contents out.new) result }
     ensures fault { IfErr result (IsFaultAt path.entry) }
 {
     let Ok(mut draft) = disk.draft(path) else {
@@ -431,11 +401,20 @@ fn encode_draft<
     if !disk.is_replaced(&draft) {
         return Err(GatheredFault::File(FileFault::Write(path)));
     }
-    let count = gather_into(rt, wanted, taken, path, &mut draft)?;
+    let count = gather_into(rt, how, taken, path, &mut draft)?;
     let mut blob = disk.read_back(draft, path)?;
     let combined = Encoding::Combined;
-    match encode_input(rt, wanted.mode, combined, &mut blob, count, path, out, path) {
-        Ok(hash) if hash == *wanted.root => Ok(count),
+    match encode_input(
+        rt,
+        &how.wanted.mode,
+        combined,
+        &mut blob,
+        count,
+        path,
+        out,
+        path,
+    ) {
+        Ok(hash) if hash == how.wanted.root => Ok(count),
         // Somebody else has changed the draft, or it can't be read.
         Ok(_) | Err(FileFault::Read(_)) => Err(GatheredFault::File(FileFault::Write(path))),
         Err(fault) => Err(GatheredFault::File(fault)),
@@ -451,17 +430,17 @@ fn write_held<
     W: Write,
 >(
     rt: &R,
-    wanted: &Wanted<'_>,
+    how: &Gathering<'_>,
     taken: &Taken<'_, S, P>,
     path: &'a str,
     out: &mut W,
 ) -> Result<u64, GatheredFault<'a>>
-    ensures gathered { IsGathered (shown_contents S.contents) (shown_faultless S.faultless) taken.now.givens.items wanted.now.form.now wanted.now.root.now wanted.now.mode.now wanted.now.how ⊤ wanted.now.how.encode (W.contents out.old) (W.contents out.new) result }
+    ensures gathered { IsGathered (shown_contents S.contents) (shown_faultless S.faultless) taken.now.givens.items how.now ⊤ how.now.encode (W.contents out.old) (W.contents out.new) result }
     ensures fault { IfErr result (IsFaultAt path.entry) }
 {
     let alloc = rt.alloc();
     let mut blob = Vec::new(alloc);
-    let count = match gather_into(rt, wanted, taken, path, &mut blob) {
+    let count = match gather_into(rt, how, taken, path, &mut blob) {
         Ok(count) => count,
         // Writing to memory fails for want of it alone.
         Err(GatheredFault::File(_)) => return Err(GatheredFault::Gather(GatherFault::Memory)),
@@ -471,8 +450,8 @@ fn write_held<
     bytes_are(blob.as_slice());
     write_whole(
         alloc,
-        wanted.mode,
-        wanted.how.encode,
+        &how.wanted.mode,
+        how.encode,
         blob.as_slice(),
         path,
         out,
@@ -491,32 +470,31 @@ fn write_taken<
 >(
     rt: &R,
     disk: &D,
-    wanted: &Wanted<'_>,
+    how: &Gathering<'_>,
     taken: &Taken<'_, S, P>,
     path: &'a str,
     out: &mut D::Draft,
 ) -> Result<u64, GatheredFault<'a>>
-    ensures gathered { IsGathered (shown_contents S.contents) (shown_faultless S.faultless) taken.now.givens.items wanted.now.form.now wanted.now.root.now wanted.now.mode.now wanted.now.how (IsKnown (D.at disk.now path.now)) wanted.now.how.encode (D.Draft.contents out.old) (D.Draft.contents out.new) result }
+    ensures gathered { IsGathered (shown_contents S.contents) (shown_faultless S.faultless) taken.now.givens.items how.now (IsKnown (D.at disk.now path.now)) how.now.encode (D.Draft.contents out.old) (D.Draft.contents out.new) result }
     ensures fault { IfErr result (IsFaultAt path.entry) }
 {
-    let Gathering { encode, long, .. } = wanted.how;
     let is_replaced = disk.is_replaced(out);
-    if encode {
+    if how.encode {
         if is_replaced {
-            encode_draft(rt, disk, wanted, taken, path, out)
+            encode_draft(rt, disk, how, taken, path, out)
         } else {
-            write_held(rt, wanted, taken, path, out)
+            write_held(rt, how, taken, path, out)
         }
-    } else if long || is_replaced {
-        gather_into(rt, wanted, taken, path, out)
+    } else if how.long || is_replaced {
+        gather_into(rt, how, taken, path, out)
     } else {
-        write_held(rt, wanted, taken, path, out)
+        write_held(rt, how, taken, path, out)
     }
 }
 
 // Reports the number of bytes that are read if each range comes from one file: the length of the longest, but no more
 // than the longest encoding of a blob that fits has. Short files aren't reported.
-fn begin<P: Progress>(how: &Gathering, longest: u64, progress: &P) {
+fn begin<P: Progress>(how: &Gathering<'_>, longest: u64, progress: &P) {
     let len = if how.long {
         longest
     } else {
@@ -529,7 +507,7 @@ fn begin<P: Progress>(how: &Gathering, longest: u64, progress: &P) {
 
 // Returns whether all files have to be taken first. A `long` blob is written to an OUT that can't be replaced as it
 // is gathered, so there is only one attempt.
-fn is_too_early(how: &Gathering, first: bool, is_replaced: bool) -> bool
+fn is_too_early(how: &Gathering<'_>, first: bool, is_replaced: bool) -> bool
     ensures replaced { is_replaced ≡ true → result ≡ false }
     ensures again { first ≡ false → result ≡ false }
 {
@@ -547,42 +525,42 @@ fn attempt<
 >(
     rt: &R,
     disk: &D,
-    wanted: &Wanted<'_>,
+    how: &Gathering<'_>,
     first: bool,
     taken: &Taken<'_, S, P>,
     tried: &mut Tried,
     path: &'a str,
 ) -> Result<Option<(u64, D::Draft)>, GatheredFault<'a>>
-    ensures ok { IfOk result (λ found. IfSome found (λ made. (blob : List ℕ) × HasRootAndFits wanted.now.how wanted.now.mode.now wanted.now.root.now.0 blob × (made.0 ≡ length blob)
-        × (IsKnown (D.at disk.now path.now) → D.Draft.contents made.1 ≡ Some (gathered_text wanted.now.how.encode wanted.now.mode.now blob)))) }
+    ensures ok { IfOk result (λ found. IfSome found (λ made. (blob : List ℕ) × HasRootAndFits how.now how.now.wanted.mode how.now.wanted.root.0 blob × (made.0 ≡ length blob)
+        × (IsKnown (D.at disk.now path.now) → D.Draft.contents made.1 ≡ Some (gathered_text how.now.encode how.now.wanted.mode blob)))) }
     ensures fault { IfErr result (IsFaultAt path.entry) }
-    ensures right { IsKnown (D.at disk.now path.now) → (blob : List ℕ) → IsBlob (fixed_as wanted.now.root.now wanted.now.mode.now wanted.now.how.capacity) blob
-        → IsTried D.Draft.contents wanted.now.how wanted.now.mode.now blob result ⊎ HasCollision (IsFromSource wanted.now.form.now (shown_contents S.contents) (shown_faultless S.faultless) taken.now.givens.items) (fixed_as wanted.now.root.now wanted.now.mode.now wanted.now.how.capacity) blob }
+    ensures right { IsKnown (D.at disk.now path.now) → (blob : List ℕ) → IsBlob (fixed_of how.now) blob
+        → IsTried D.Draft.contents how.now how.now.wanted.mode blob result ⊎ HasCollision (IsFromSource how.now.wanted.form (shown_contents S.contents) (shown_faultless S.faultless) taken.now.givens.items) (fixed_of how.now) blob }
     ensures closed { IfErr result (λ fault. open_fault (Err fault) ≡ None) }
     ensures none { length taken.now.givens.items ≡ tried.old.count → MatchResult result (λ found. found ≡ None) (λ fault. fault ≡ GatheredFault.File FileFault.Memory) }
     ensures same { length taken.now.givens.items ≡ tried.old.count → tried.new ≡ tried.old }
     ensures unmet { result ≡ Ok None → (tried.old.count ≡ 0) ⊎ IsSome tried.old.met
         → (first ≡ false → length taken.now.givens.items ≡ tried.new.count) × ((tried.new.count ≡ 0) ⊎ IsSome tried.new.met) }
     ensures met { IfSome tried.old.met (λ fault. is_open fault ≡ true) → IfSome tried.new.met (λ fault. is_open fault ≡ true) }
-    ensures too_large { AreSlices wanted.now.form.now → tried.new.met ≡ Some GatherFault.TooLarge → (tried.old.met ≡ Some GatherFault.TooLarge)
-        ⊎ AreTooLong (IsFromSource wanted.now.form.now (shown_contents S.contents) (shown_faultless S.faultless) taken.now.givens.items) (fixed_as wanted.now.root.now wanted.now.mode.now wanted.now.how.capacity) wanted.now.how.capacity }
-    ensures left { result ≡ Ok None → IsKnown (D.at disk.now path.now) → (blob : List ℕ) → AreEnough wanted.now.form.now (fixed_as wanted.now.root.now wanted.now.mode.now wanted.now.how.capacity) wanted.now.how blob (HasSound (shown_contents S.contents) (shown_faultless S.faultless) taken.now.givens.items)
-        → (tried.old.count ≡ 0) ⊎ (tried.old.met ≡ Some GatherFault.Starved) → (tried.new.met ≡ Some GatherFault.Starved) ⊎ HasCollision (IsFromSource wanted.now.form.now (shown_contents S.contents) (shown_faultless S.faultless) taken.now.givens.items) (fixed_as wanted.now.root.now wanted.now.mode.now wanted.now.how.capacity) blob }
+    ensures too_large { AreSlices how.now.wanted.form → tried.new.met ≡ Some GatherFault.TooLarge → (tried.old.met ≡ Some GatherFault.TooLarge)
+        ⊎ AreTooLong (IsFromSource how.now.wanted.form (shown_contents S.contents) (shown_faultless S.faultless) taken.now.givens.items) (fixed_of how.now) how.now.capacity }
+    ensures left { result ≡ Ok None → IsKnown (D.at disk.now path.now) → (blob : List ℕ) → AreEnough how.now.wanted.form (fixed_of how.now) how.now blob (HasSound (shown_contents S.contents) (shown_faultless S.faultless) taken.now.givens.items)
+        → (tried.old.count ≡ 0) ⊎ (tried.old.met ≡ Some GatherFault.Starved) → (tried.new.met ≡ Some GatherFault.Starved) ⊎ HasCollision (IsFromSource how.now.wanted.form (shown_contents S.contents) (shown_faultless S.faultless) taken.now.givens.items) (fixed_of how.now) blob }
 {
     let Ok(mut out) = disk.draft(path) else {
         return Err(GatheredFault::File(FileFault::Memory));
     };
     let is_replaced = disk.is_replaced(&out);
     let count = taken.givens.len();
-    if is_too_early(&wanted.how, first, is_replaced) {
+    if is_too_early(how, first, is_replaced) {
         return Ok(None);
     }
     if count == tried.count {
         return Ok(None);
     }
     tried.count = count;
-    begin(&wanted.how, taken.longest, taken.progress);
-    let ended = write_taken(rt, disk, wanted, taken, path, &mut out);
+    begin(how, taken.longest, taken.progress);
+    let ended = write_taken(rt, disk, how, taken, path, &mut out);
     taken.progress.end();
     tried.met = unfinished_by(&ended);
     if tried.met.is_some() {
@@ -598,28 +576,28 @@ fn attempt<
 fn drafted<'a, R: AllocGlobal + Threads + Sync, D: Disk, P: Progress + Sync>(
     rt: &R,
     disk: &D,
-    wanted: &Wanted<'_>,
+    how: &Gathering<'_>,
     files: &[&'a str],
     path: &'a str,
     notes: &mut Notes,
     progress: &P,
 ) -> Result<(u64, D::Draft), GatheredFault<'a>>
-    ensures ok { IfOk result (λ made. (blob : List ℕ) × HasRootAndFits wanted.now.how wanted.now.mode.now wanted.now.root.now.0 blob × (made.0 ≡ length blob)
-        × (IsKnown (D.at disk.now path.now) → D.Draft.contents made.1 ≡ Some (gathered_text wanted.now.how.encode wanted.now.mode.now blob))) }
+    ensures ok { IfOk result (λ made. (blob : List ℕ) × HasRootAndFits how.now how.now.wanted.mode how.now.wanted.root.0 blob × (made.0 ≡ length blob)
+        × (IsKnown (D.at disk.now path.now) → D.Draft.contents made.1 ≡ Some (gathered_text how.now.encode how.now.wanted.mode blob))) }
     ensures err { IfErr result IsQuietGathered }
     ensures files { IfErr result IsOfFiles }
     ensures paths { IfErr result (NamesFirst files.now path.entry) }
     ensures absent { AreAbsent (D.at disk.now) files.now → MatchResult result (λ _. ⊥) (IsFirstUnread files.now) }
     ensures unread { (file : Bor (List ℕ)) → IsErrOf result (GatheredFault.File (FileFault.Read file)) → D.faultless disk.now → (text : List ℕ) → IsInFile (D.at disk.now) files.now text → ⊥ }
-    ensures right { D.faultless disk.now → IsKnown (D.at disk.now path.now) → (blob : List ℕ) → IsBlob (fixed_as wanted.now.root.now wanted.now.mode.now wanted.now.how.capacity) blob
-        → IsRightDraft D.Draft.contents wanted.now.how wanted.now.mode.now blob result ⊎ HasCollision (IsFromFile wanted.now.form.now (fixed_as wanted.now.root.now wanted.now.mode.now wanted.now.how.capacity) wanted.now.how.long (D.at disk.now) files.now) (fixed_as wanted.now.root.now wanted.now.mode.now wanted.now.how.capacity) blob }
-    ensures too_large { AreSlices wanted.now.form.now → D.faultless disk.now → IsErrOf result (GatheredFault.Gather GatherFault.TooLarge)
-        → AreTooLong (IsFromFile wanted.now.form.now (fixed_as wanted.now.root.now wanted.now.mode.now wanted.now.how.capacity) wanted.now.how.long (D.at disk.now) files.now) (fixed_as wanted.now.root.now wanted.now.mode.now wanted.now.how.capacity) wanted.now.how.capacity }
-    ensures available { D.faultless disk.now → IsKnown (D.at disk.now path.now) → (blob : List ℕ) → AreEnough wanted.now.form.now (fixed_as wanted.now.root.now wanted.now.mode.now wanted.now.how.capacity) wanted.now.how blob (IsInFile (D.at disk.now) files.now)
-        → IsDrafted D.Draft.contents wanted.now.how wanted.now.mode.now blob result ⊎ HasCollision (IsFromFile wanted.now.form.now (fixed_as wanted.now.root.now wanted.now.mode.now wanted.now.how.capacity) wanted.now.how.long (D.at disk.now) files.now) (fixed_as wanted.now.root.now wanted.now.mode.now wanted.now.how.capacity) blob }
+    ensures right { D.faultless disk.now → IsKnown (D.at disk.now path.now) → (blob : List ℕ) → IsBlob (fixed_of how.now) blob
+        → IsRightDraft D.Draft.contents how.now how.now.wanted.mode blob result ⊎ HasCollision (IsFromFile how.now.wanted.form (fixed_of how.now) how.now.long (D.at disk.now) files.now) (fixed_of how.now) blob }
+    ensures too_large { AreSlices how.now.wanted.form → D.faultless disk.now → IsErrOf result (GatheredFault.Gather GatherFault.TooLarge)
+        → AreTooLong (IsFromFile how.now.wanted.form (fixed_of how.now) how.now.long (D.at disk.now) files.now) (fixed_of how.now) how.now.capacity }
+    ensures available { D.faultless disk.now → IsKnown (D.at disk.now path.now) → (blob : List ℕ) → AreEnough how.now.wanted.form (fixed_of how.now) how.now blob (IsInFile (D.at disk.now) files.now)
+        → IsDrafted D.Draft.contents how.now how.now.wanted.mode blob result ⊎ HasCollision (IsFromFile how.now.wanted.form (fixed_of how.now) how.now.long (D.at disk.now) files.now) (fixed_of how.now) blob }
     ensures looked { LooksUnfinished result notes.old.lack notes.new.lack }
     ensures listed { IsErrOf result (GatheredFault.Gather GatherFault.Unfinished) → D.faultless disk.now
-        → IsLackIn (wanted_for wanted.now.root.now wanted.now.mode.now wanted.now.form.now wanted.now.how.grain) wanted.now.how.long wanted.now.how.capacity wanted.now.how.parts (D.at disk.now) files.now notes.new.lack }
+        → IsLackIn how.now.wanted how.now.long how.now.capacity how.now.parts (D.at disk.now) files.now notes.new.lack }
 {
     let alloc = rt.alloc();
     let Ok(kinds) = kinds_of(alloc, disk, files, notes.fates.as_mut_slice()) else {
@@ -638,20 +616,20 @@ fn drafted<'a, R: AllocGlobal + Threads + Sync, D: Disk, P: Progress + Sync>(
         met: None,
     };
     let fates = notes.fates.as_mut_slice();
-    take_files(alloc, disk, wanted, files, kinds, true, &mut taken, fates);
-    match attempt(rt, disk, wanted, true, &taken, &mut tried, path) {
+    take_files(alloc, disk, how, files, kinds, true, &mut taken, fates);
+    match attempt(rt, disk, how, true, &taken, &mut tried, path) {
         Ok(None) => {}
         Ok(Some(made)) => return Ok(made),
         Err(fault) => return Err(fault),
     }
     let fates = notes.fates.as_mut_slice();
-    take_files(alloc, disk, wanted, files, kinds, false, &mut taken, fates);
-    match attempt(rt, disk, wanted, false, &taken, &mut tried, path) {
+    take_files(alloc, disk, how, files, kinds, false, &mut taken, fates);
+    match attempt(rt, disk, how, false, &taken, &mut tried, path) {
         Ok(None) => {}
         Ok(Some(made)) => return Ok(made),
         Err(fault) => return Err(fault),
     }
-    notes.lack = lack_left(alloc, wanted, tried.met, &taken);
+    notes.lack = lack_left(alloc, how, tried.met, &taken);
     Err(cause_of(taken.starved, tried.met, files, path))
 }
 
@@ -710,47 +688,39 @@ fn drafted<'a, R: AllocGlobal + Threads + Sync, D: Disk, P: Progress + Sync>(
 pub fn gather_on<'a, R: AllocGlobal + Threads + Sync, D: Disk, P: Progress + Sync>(
     rt: &R,
     disk: &mut D,
-    mode: &Mode,
-    root: &Hash,
-    form: &Form<'_>,
-    how: Gathering,
+    how: &Gathering<'_>,
     files: &[&'a str],
     path: &'a str,
     notes: &mut Notes,
     progress: &P,
 ) -> Result<u64, GatheredFault<'a>>
-    ensures done { IfOk result (λ count. (blob : List ℕ) × HasRootAndFits how mode.now root.now.0 blob × (count ≡ length blob)
-        × Puts (D.at disk.old) (D.at disk.new) path.now (Some (gathered_text how.encode mode.now blob))) }
+    ensures done { IfOk result (λ count. (blob : List ℕ) × HasRootAndFits how.now how.now.wanted.mode how.now.wanted.root.0 blob × (count ≡ length blob)
+        × Puts (D.at disk.old) (D.at disk.new) path.now (Some (gathered_text how.now.encode how.now.wanted.mode blob))) }
     ensures kept { OnErr result (KeepsFiles (D.at disk.old) (D.at disk.new)) }
     ensures err { IfErr result IsQuietGathered }
     ensures files { IfErr result IsOfFiles }
     ensures paths { IfErr result (NamesFirst files.now path.entry) }
     ensures absent { AreAbsent (D.at disk.old) files.now → MatchResult result (λ _. ⊥) (IsFirstUnread files.now) }
     ensures unread { (file : Bor (List ℕ)) → IsErrOf result (GatheredFault.File (FileFault.Read file)) → D.faultless disk.old → (text : List ℕ) → IsInFile (D.at disk.old) files.now text → ⊥ }
-    ensures right { D.faultless disk.old → IsKnown (D.at disk.old path.now) → (blob : List ℕ) → IsBlob (fixed_as root.now mode.now how.capacity) blob
-        → IsRightAt (D.at disk.old) (D.at disk.new) path.now how mode.now blob result
-        ⊎ HasCollision (IsFromFile form.now (fixed_as root.now mode.now how.capacity) how.long (D.at disk.old) files.now) (fixed_as root.now mode.now how.capacity) blob }
-    ensures too_large { AreSlices form.now → D.faultless disk.old → IsErrOf result (GatheredFault.Gather GatherFault.TooLarge)
-        → AreTooLong (IsFromFile form.now (fixed_as root.now mode.now how.capacity) how.long (D.at disk.old) files.now) (fixed_as root.now mode.now how.capacity) how.capacity }
-    ensures available { D.faultless disk.old → IsKnown (D.at disk.old path.now) → (blob : List ℕ) → AreEnough form.now (fixed_as root.now mode.now how.capacity) how blob (IsInFile (D.at disk.old) files.now)
-        → IsPutAt (D.at disk.old) (D.at disk.new) path.now how mode.now blob result
-        ⊎ HasCollision (IsFromFile form.now (fixed_as root.now mode.now how.capacity) how.long (D.at disk.old) files.now) (fixed_as root.now mode.now how.capacity) blob }
+    ensures right { D.faultless disk.old → IsKnown (D.at disk.old path.now) → (blob : List ℕ) → IsBlob (fixed_of how.now) blob
+        → IsRightAt (D.at disk.old) (D.at disk.new) path.now how.now how.now.wanted.mode blob result
+        ⊎ HasCollision (IsFromFile how.now.wanted.form (fixed_of how.now) how.now.long (D.at disk.old) files.now) (fixed_of how.now) blob }
+    ensures too_large { AreSlices how.now.wanted.form → D.faultless disk.old → IsErrOf result (GatheredFault.Gather GatherFault.TooLarge)
+        → AreTooLong (IsFromFile how.now.wanted.form (fixed_of how.now) how.now.long (D.at disk.old) files.now) (fixed_of how.now) how.now.capacity }
+    ensures available { D.faultless disk.old → IsKnown (D.at disk.old path.now) → (blob : List ℕ) → AreEnough how.now.wanted.form (fixed_of how.now) how.now blob (IsInFile (D.at disk.old) files.now)
+        → IsPutAt (D.at disk.old) (D.at disk.new) path.now how.now how.now.wanted.mode blob result
+        ⊎ HasCollision (IsFromFile how.now.wanted.form (fixed_of how.now) how.now.long (D.at disk.old) files.now) (fixed_of how.now) blob }
     ensures looked { LooksUnfinished result notes.old.lack notes.new.lack }
     ensures listed { IsErrOf result (GatheredFault.Gather GatherFault.Unfinished) → D.faultless disk.old
-        → IsLackIn (wanted_for root.now mode.now form.now how.grain) how.long how.capacity how.parts (D.at disk.old) files.now notes.new.lack }
+        → IsLackIn how.now.wanted how.now.long how.now.capacity how.now.parts (D.at disk.old) files.now notes.new.lack }
 {
-    let wanted = Wanted {
-        mode,
-        root,
-        how,
-        form,
-    };
-    let (count, out) = drafted(rt, disk, &wanted, files, path, notes, progress)?;
+    let (count, out) = drafted(rt, disk, how, files, path, notes, progress)?;
     disk.finish(out, path)?;
     Ok(count)
 }
 
-/// Gathers the blob as [`gather_on`] does, from plain copies beside the outboard encoding in the file at `outboard`.
+/// Gathers the blob as [`gather_on`] does, from plain copies beside the outboard encoding in the file at `outboard`,
+/// which takes the place of the form in `how`.
 ///
 /// The outboard encoding is read, as far as it matters, and checked under this root in this mode before any copy is
 /// looked at. Copies may be complete, cut, changed, or any bytes.
@@ -770,48 +740,49 @@ pub fn gather_on<'a, R: AllocGlobal + Threads + Sync, D: Disk, P: Progress + Syn
 pub fn gather_beside_on<'a, R: AllocGlobal + Threads + Sync, D: Disk, P: Progress + Sync>(
     rt: &R,
     disk: &mut D,
-    mode: &Mode,
-    root: &Hash,
-    how: Gathering,
+    how: &Gathering<'_>,
     outboard: &'a str,
     files: &[&'a str],
     path: &'a str,
     notes: &mut Notes,
     progress: &P,
 ) -> Result<u64, GatheredFault<'a>>
-    ensures done { IfOk result (λ count. (blob : List ℕ) × HasRootAndFits how mode.now root.now.0 blob × (count ≡ length blob)
-        × Puts (D.at disk.old) (D.at disk.new) path.now (Some (gathered_text how.encode mode.now blob))) }
-    ensures outline { OnOk result (HasOutlineIn (D.at disk.old outboard.now) mode.now root.now.0) }
+    ensures done { IfOk result (λ count. (blob : List ℕ) × HasRootAndFits how.now how.now.wanted.mode how.now.wanted.root.0 blob × (count ≡ length blob)
+        × Puts (D.at disk.old) (D.at disk.new) path.now (Some (gathered_text how.now.encode how.now.wanted.mode blob))) }
+    ensures outline { OnOk result (HasOutlineIn (D.at disk.old outboard.now) how.now.wanted.mode how.now.wanted.root.0) }
     ensures kept { OnErr result (KeepsFiles (D.at disk.old) (D.at disk.new)) }
-    ensures outboard { IfErr result (IsFaultOfOutline (D.at disk.old outboard.now) mode.now root.now.0) }
+    ensures outboard { IfErr result (IsFaultOfOutline (D.at disk.old outboard.now) how.now.wanted.mode how.now.wanted.root.0) }
     ensures err { IfErr result IsQuietGathered }
     ensures paths { IfErr result (NamesBeside outboard.entry files.now path.entry) }
     ensures absent { AreAbsent (D.at disk.old) files.now → MatchResult result (λ _. ⊥) (λ fault. StopsBeside outboard.entry fault ⊎ IsFirstUnread files.now fault) }
     ensures unread { (file : Bor (List ℕ)) → IsErrOf result (GatheredFault.File (FileFault.Read file)) → D.faultless disk.old → (text : List ℕ) → IsInFile (D.at disk.old) files.now text → file ≡ outboard.entry }
-    ensures right { D.faultless disk.old → IsKnown (D.at disk.old path.now) → (blob : List ℕ) → IsBlob (fixed_as root.now mode.now how.capacity) blob
-        → IsRightAt (D.at disk.old) (D.at disk.new) path.now how mode.now blob result
-        ⊎ CollidesBesideOutline (fixed_as root.now mode.now how.capacity) how.long (D.at disk.old) outboard.now files.now blob }
-    ensures available { D.faultless disk.old → IsKnown (D.at disk.old path.now) → (blob : List ℕ) → IsBlob (fixed_as root.now mode.now how.capacity) blob
-        → HasRoom how (length blob) → 0 < length blob → length blob < 2 ^ 64 → D.at disk.old outboard.now ≡ Stored (outboard_text mode.now blob)
-        → IsInFile (D.at disk.old) files.now blob ⊎ HaveBytes (IsInFile (D.at disk.old) files.now) how.grain blob
-        → IsPutAt (D.at disk.old) (D.at disk.new) path.now how mode.now blob result
-        ⊎ CollidesBeside (fixed_as root.now mode.now how.capacity) how.long (D.at disk.old) files.now blob }
+    ensures right { D.faultless disk.old → IsKnown (D.at disk.old path.now) → (blob : List ℕ) → IsBlob (fixed_of how.now) blob
+        → IsRightAt (D.at disk.old) (D.at disk.new) path.now how.now how.now.wanted.mode blob result
+        ⊎ CollidesBesideOutline (fixed_of how.now) how.now.long (D.at disk.old) outboard.now files.now blob }
+    ensures available { D.faultless disk.old → IsKnown (D.at disk.old path.now) → (blob : List ℕ) → IsBlob (fixed_of how.now) blob
+        → HasRoom how.now (length blob) → 0 < length blob → length blob < 2 ^ 64 → D.at disk.old outboard.now ≡ Stored (outboard_text how.now.wanted.mode blob)
+        → IsInFile (D.at disk.old) files.now blob ⊎ HaveBytes (IsInFile (D.at disk.old) files.now) how.now.wanted.grain blob
+        → IsPutAt (D.at disk.old) (D.at disk.new) path.now how.now how.now.wanted.mode blob result
+        ⊎ CollidesBeside (fixed_of how.now) how.now.long (D.at disk.old) files.now blob }
     ensures looked { LooksUnfinished result notes.old.lack notes.new.lack }
     ensures listed { IsErrOf result (GatheredFault.Gather GatherFault.Unfinished) → D.faultless disk.old
-        → IsLackBeside root.now mode.now how.grain how.long how.capacity how.parts (D.at disk.old) outboard.now files.now notes.new.lack }
+        → IsLackBeside how.now.wanted.root how.now.wanted.mode how.now.wanted.grain how.now.long how.now.capacity how.now.parts (D.at disk.old) outboard.now files.now notes.new.lack }
 {
+    let wanted = &how.wanted;
     // For the prover alone: the flags of a mode are apart from the tree's.
-    mode.is_keyed();
+    wanted.mode.is_keyed();
     let alloc = rt.alloc();
-    let text = read_outboard_on(alloc, disk, mode, root, outboard)?;
+    let text = read_outboard_on(alloc, disk, &wanted.mode, &wanted.root, outboard)?;
     // A law, so that the proof has what it says: nothing runs.
     bytes_are(text.as_slice());
-    let outline = match check_outboard(alloc, mode, root, text.as_slice()) {
+    let outline = match check_outboard(alloc, &wanted.mode, &wanted.root, text.as_slice()) {
         Ok(outline) => outline,
         Err(fault) => return Err(GatheredFault::Outboard(fault)),
     };
     let form = Form::Bare(&outline);
-    gather_on(
-        rt, disk, mode, root, &form, how, files, path, notes, progress,
-    )
+    let beside = Gathering {
+        wanted: Wanted { form, ..*wanted },
+        ..*how
+    };
+    gather_on(rt, disk, &beside, files, path, notes, progress)
 }

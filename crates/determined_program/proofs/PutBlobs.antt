@@ -2,11 +2,12 @@
 use Rattle.std.proofs.Common.{◌≡◌, ◌⊎◌, ◌≤◌, inl, inr, ℕ, Bool, List, length, Some, Result, Ok, Err, IfOk, IfErr, OnErr, refl, sym, ap, subst, ◌∙◌}
 use Rattle.b3tree.specs.declared.mode.Mode.{Mode}
 use Rattle.bao_check.specs.Accepted.{IsAccepted, outboard_nodes}
+use Rattle.holders.specs.Blobs.{fixed_as}
 use Rattle.bao_check.proofs.Laws.{first_fault-not_accepted}
 use Rattle.bao_decode.proofs.Openings.{stored_is}
 use Rattle.bao_files.specs.Disks.{FileState, KeepsFiles, Puts, Stored}
 use Rattle.bao_text.specs.Choice.{chunk_count}
-use Rattle.bao_tasks.specs.FromFiles.{HasRoom, IsExcusedGathering, IsPutAt, IsRightAt}
+use Rattle.bao_tasks.specs.FromFiles.{HasRoom, IsExcusedGathering, IsPutAt, IsRightAt, fixed_of}
 use Rattle.bao_tasks.specs.Gathered.{HasOutlineIn, HasRootAndFits, IsFaultOfOutline, gathered_text}
 use Rattle.bao_tasks.specs.declared.gathered_fault.GatheredFault.{GatheredFault}
 use Rattle.bao_tasks.specs.declared.gathered_fault.GatheredFault.TheVariants.{File, Outboard, Gather}
@@ -15,7 +16,7 @@ use Rattle.determined_texts.proofs.OneFault.{one_fault}
 use Rattle.determined_program.proofs.OnDisks.{keeps_same, puts_same}
 use Rattle.determined_texts.specs.Agreeing.{AgreeUnless}
 use Rattle.determined_program.specs.Files.{SameWhereKnown}
-use Rattle.determined_program.specs.Blobs.{PutCollision, SameOutboard, SamePut, SameRight}
+use Rattle.determined_program.specs.Blobs.{AreAlike, PutCollision, SameOutboard, SamePut, SameRight}
 use Rattle.determined_program.proofs.Blobs.{same_or_apart}
 
 -- what is at OUT where a blob was put
@@ -85,9 +86,12 @@ module _ (mode : Mode) (root : List ℕ) (before one other : List ℕ → FileSt
   enough_agree how also blob P (Err e) (Err f) encode (inl p) (inl q) = inl (inr (inl p))
 
 -- how many workers there are, and the grain, have no part in which file is enough
-pub room_as : (how also : Gathering) (n : ℕ) → how.long ≡ also.long → how.capacity ≡ also.capacity → HasRoom how n → HasRoom also n
-room_as how also n long capacity (inl any) = inl (sym long ∙ any)
-room_as how also n long capacity (inr fits) = inr (subst (λ (k : ℕ). chunk_count n ≤ k) capacity fits)
+pub room_as : (how also : Gathering) (n : ℕ) → AreAlike how also → HasRoom how n → HasRoom also n
+room_as how also n alike (inl any) = inl (sym alike.long ∙ any)
+room_as how also n alike (inr fits) = inr (subst (λ (k : ℕ). chunk_count n ≤ k) alike.capacity fits)
+
+pub fixed_as_also : (how also : Gathering) → AreAlike how also → fixed_of how ≡ fixed_of also
+fixed_as_also how also alike = λ i. fixed_as (alike.root i) (alike.mode i) (alike.capacity i)
 
 -- an outboard encoding is accepted, or has one first fault
 module _ (state : FileState) (mode : Mode) (root text : List ℕ) (there : state ≡ Stored text) where

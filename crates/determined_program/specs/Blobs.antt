@@ -7,10 +7,19 @@ use Rattle.bao_files.specs.declared.fault.FileFault.TheVariants.{Memory}
 use Rattle.bao_tasks.specs.declared.gathered_fault.GatheredFault.{GatheredFault}
 use Rattle.b3tree.specs.Valid.{AreBytes}
 use Rattle.bao_tasks.specs.declared.gathered_fault.GatheredFault.TheVariants.{File, Outboard, Gather}
+use Rattle.bao_tasks.specs.declared.gathering.Gathering.{Gathering}
 use Rattle.bao_tasks.specs.Gathered.{gathered_text}
 use Rattle.bao_windows.specs.declared.fault.GatherFault.TheVariants.{NotTheRoot}
 use Rattle.determined_texts.specs.Agreeing.{AgreeBy}
 use Rattle.determined_program.specs.Files.{SameWhereKnown}
+
+-- Both gather one blob, with one capacity, and write the same of it. Their workers, their grain and what they note may differ.
+pub record AreAlike (how other : Gathering) : Type 0 where
+  pub root : how.wanted.root ≡ other.wanted.root
+  pub mode : how.wanted.mode ≡ other.wanted.mode
+  pub encode : how.encode ≡ other.encode
+  pub long : how.long ≡ other.long
+  pub capacity : how.capacity ≡ other.capacity
 
 -- The two blobs that were put at the path, or whose encodings were, are different, and have one hash: a collision.
 pub record PutCollision (mode : Mode) (root : List ℕ) (encode : Bool) (before one other : List ℕ → FileState) (path : List ℕ) (m n : ℕ) : Type 0 where

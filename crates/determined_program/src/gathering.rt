@@ -4,18 +4,17 @@
 
 ghost use Rattle.std.specs.Prelude.{◌≡◌, ◌⊎◌, ◌^◌, ◌<◌, ℕ, List, length};
 ghost use Rattle.bao_files.specs.Disks.{IsKnown, Stored};
-ghost use Rattle.bao_tasks.specs.FromFiles.{AreEnough, CollidesBeside, CollidesBesideOutline, HasRoom, HaveBytes, IsExcusedGathering, IsFromFile, IsInFile};
+ghost use Rattle.bao_tasks.specs.FromFiles.{AreEnough, CollidesBeside, CollidesBesideOutline, HasRoom, HaveBytes, IsExcusedGathering, IsFromFile, IsInFile, fixed_of};
 ghost use Rattle.bao_tasks.specs.GatheredFaults.{AreAbsent};
 ghost use Rattle.bao_text.specs.Texts.{outboard_text};
-ghost use Rattle.holders.specs.Blobs.{HasCollision, fixed_as};
+ghost use Rattle.holders.specs.Blobs.{HasCollision};
 ghost use Rattle.holders.specs.Blobs.{IsBlob};
 ghost use Rattle.determined_texts.specs.Agreeing.{AgreeUnless};
 ghost use Rattle.determined_program.specs.Files.{SameWhereKnown};
-ghost use Rattle.determined_program.specs.Blobs.{AreSameFaults, SameOutboard, SamePut, SameRight};
+ghost use Rattle.determined_program.specs.Blobs.{AreAlike, AreSameFaults, SameOutboard, SamePut, SameRight};
 
-use b3tree::{Hash, Mode};
 use bao_files::{Disk, Progress};
-use bao_tasks::{Form, GatheredFault, Gathering, Notes, gather_beside_on, gather_on};
+use bao_tasks::{GatheredFault, Gathering, Notes, gather_beside_on, gather_on};
 use std::thread::Threads;
 
 // The same out of the same known files. Where both put a blob, it is one, or the two are a collision. On disks without faults, where it is known what
@@ -32,11 +31,8 @@ pub fn gather_on_determined<
     rt: &R,
     ours: &mut D,
     theirs: &mut E,
-    mode: &Mode,
-    root: &Hash,
-    form: &Form<'_>,
-    how: Gathering,
-    other_how: Gathering,
+    how: &Gathering<'_>,
+    other_how: &Gathering<'_>,
     files: &[&'a str],
     path: &'a str,
     notes: &mut Notes,
@@ -47,36 +43,22 @@ pub fn gather_on_determined<
     Result<u64, GatheredFault<'a>>,
 )
     requires same { (at : List ℕ) → D.at ours.old at ≡ E.at theirs.old at }
-    requires encode { how.encode ≡ other_how.encode }
-    requires long { how.long ≡ other_how.long }
-    requires capacity { how.capacity ≡ other_how.capacity }
-    ensures put { SamePut mode.now root.now.0 how.encode (D.at ours.old) (D.at ours.new) (E.at theirs.new) path.now result.0 result.1 }
+    requires alike { AreAlike how.now other_how.now }
+    requires form { how.now.wanted.form ≡ other_how.now.wanted.form }
+    ensures put { SamePut how.now.wanted.mode how.now.wanted.root.0 how.now.encode (D.at ours.old) (D.at ours.new) (E.at theirs.new) path.now result.0 result.1 }
     ensures absent { AreAbsent (D.at ours.old) files.now → AreSameFaults result.0 result.1 }
-    ensures right { D.faultless ours.old → E.faultless theirs.old → IsKnown (D.at ours.old path.now) → (blob : List ℕ) → IsBlob (fixed_as root.now mode.now how.capacity) blob
+    ensures right { D.faultless ours.old → E.faultless theirs.old → IsKnown (D.at ours.old path.now) → (blob : List ℕ) → IsBlob (fixed_of how.now) blob
         → SameRight (D.at ours.old) (D.at ours.new) (E.at theirs.new) result.0 result.1
-        ⊎ HasCollision (IsFromFile form.now (fixed_as root.now mode.now how.capacity) how.long (D.at ours.old) files.now) (fixed_as root.now mode.now how.capacity) blob }
+        ⊎ HasCollision (IsFromFile how.now.wanted.form (fixed_of how.now) how.now.long (D.at ours.old) files.now) (fixed_of how.now) blob }
     ensures enough { D.faultless ours.old → E.faultless theirs.old → IsKnown (D.at ours.old path.now) → (blob : List ℕ)
-        → AreEnough form.now (fixed_as root.now mode.now how.capacity) how blob (IsInFile (D.at ours.old) files.now)
-        → AreEnough form.now (fixed_as root.now mode.now how.capacity) other_how blob (IsInFile (D.at ours.old) files.now)
+        → AreEnough how.now.wanted.form (fixed_of how.now) how.now blob (IsInFile (D.at ours.old) files.now)
+        → AreEnough how.now.wanted.form (fixed_of how.now) other_how.now blob (IsInFile (D.at ours.old) files.now)
         → AgreeUnless (λ m n. (m ≡ n) × SameWhereKnown (D.at ours.old) (D.at ours.new) (E.at theirs.new)) IsExcusedGathering IsExcusedGathering result.0 result.1
-        ⊎ HasCollision (IsFromFile form.now (fixed_as root.now mode.now how.capacity) how.long (D.at ours.old) files.now) (fixed_as root.now mode.now how.capacity) blob }
+        ⊎ HasCollision (IsFromFile how.now.wanted.form (fixed_of how.now) how.now.long (D.at ours.old) files.now) (fixed_of how.now) blob }
 {
     (
-        gather_on(
-            rt, ours, mode, root, form, how, files, path, notes, progress,
-        ),
-        gather_on(
-            rt,
-            theirs,
-            mode,
-            root,
-            form,
-            other_how,
-            files,
-            path,
-            other_notes,
-            progress,
-        ),
+        gather_on(rt, ours, how, files, path, notes, progress),
+        gather_on(rt, theirs, other_how, files, path, other_notes, progress),
     )
 }
 
@@ -91,10 +73,8 @@ pub fn gather_beside_on_determined<
     rt: &R,
     ours: &mut D,
     theirs: &mut E,
-    mode: &Mode,
-    root: &Hash,
-    how: Gathering,
-    other_how: Gathering,
+    how: &Gathering<'_>,
+    other_how: &Gathering<'_>,
     outboard: &'a str,
     files: &[&'a str],
     path: &'a str,
@@ -106,31 +86,25 @@ pub fn gather_beside_on_determined<
     Result<u64, GatheredFault<'a>>,
 )
     requires same { (at : List ℕ) → D.at ours.old at ≡ E.at theirs.old at }
-    requires encode { how.encode ≡ other_how.encode }
-    requires long { how.long ≡ other_how.long }
-    requires capacity { how.capacity ≡ other_how.capacity }
-    ensures put { SamePut mode.now root.now.0 how.encode (D.at ours.old) (D.at ours.new) (E.at theirs.new) path.now result.0 result.1 }
+    requires alike { AreAlike how.now other_how.now }
+    ensures put { SamePut how.now.wanted.mode how.now.wanted.root.0 how.now.encode (D.at ours.old) (D.at ours.new) (E.at theirs.new) path.now result.0 result.1 }
     ensures outboard { (text : List ℕ) → D.at ours.old outboard.now ≡ Stored text → SameOutboard result.0 result.1 }
-    ensures right { D.faultless ours.old → E.faultless theirs.old → IsKnown (D.at ours.old path.now) → (blob : List ℕ) → IsBlob (fixed_as root.now mode.now how.capacity) blob
+    ensures right { D.faultless ours.old → E.faultless theirs.old → IsKnown (D.at ours.old path.now) → (blob : List ℕ) → IsBlob (fixed_of how.now) blob
         → SameRight (D.at ours.old) (D.at ours.new) (E.at theirs.new) result.0 result.1
-        ⊎ CollidesBesideOutline (fixed_as root.now mode.now how.capacity) how.long (D.at ours.old) outboard.now files.now blob }
+        ⊎ CollidesBesideOutline (fixed_of how.now) how.now.long (D.at ours.old) outboard.now files.now blob }
     ensures enough { D.faultless ours.old → E.faultless theirs.old → IsKnown (D.at ours.old path.now) → (blob : List ℕ)
-        → IsBlob (fixed_as root.now mode.now how.capacity) blob → HasRoom how (length blob) → 0 < length blob → length blob < 2 ^ 64
-        → D.at ours.old outboard.now ≡ Stored (outboard_text mode.now blob)
-        → IsInFile (D.at ours.old) files.now blob ⊎ HaveBytes (IsInFile (D.at ours.old) files.now) how.grain blob
-        → IsInFile (D.at ours.old) files.now blob ⊎ HaveBytes (IsInFile (D.at ours.old) files.now) other_how.grain blob
+        → IsBlob (fixed_of how.now) blob → HasRoom how.now (length blob) → 0 < length blob → length blob < 2 ^ 64
+        → D.at ours.old outboard.now ≡ Stored (outboard_text how.now.wanted.mode blob)
+        → IsInFile (D.at ours.old) files.now blob ⊎ HaveBytes (IsInFile (D.at ours.old) files.now) how.now.wanted.grain blob
+        → IsInFile (D.at ours.old) files.now blob ⊎ HaveBytes (IsInFile (D.at ours.old) files.now) other_how.now.wanted.grain blob
         → AgreeUnless (λ m n. (m ≡ n) × SameWhereKnown (D.at ours.old) (D.at ours.new) (E.at theirs.new)) IsExcusedGathering IsExcusedGathering result.0 result.1
-        ⊎ CollidesBeside (fixed_as root.now mode.now how.capacity) how.long (D.at ours.old) files.now blob }
+        ⊎ CollidesBeside (fixed_of how.now) how.now.long (D.at ours.old) files.now blob }
 {
     (
-        gather_beside_on(
-            rt, ours, mode, root, how, outboard, files, path, notes, progress,
-        ),
+        gather_beside_on(rt, ours, how, outboard, files, path, notes, progress),
         gather_beside_on(
             rt,
             theirs,
-            mode,
-            root,
             other_how,
             outboard,
             files,

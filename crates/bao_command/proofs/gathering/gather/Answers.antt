@@ -1,4 +1,4 @@
-use Rattle.std.proofs.Common.{◌≡◌, ◌≢◌, ◌≤◌, ◌⊎◌, ℕ, List, [], Option, None, Some, length, Result, Ok, Err, Bor, IfErr, IfOk, IsErrAnd, IsSome, OnErr, OnOk, ◌-◌, ◌^◌, if◌then◌else◌, inl, inr, ap, arith, refl, subst, sym, ◌∙◌}
+use Rattle.std.proofs.Common.{◌≡◌, ◌≢◌, ◌≤◌, ◌⊎◌, ℕ, Bool, List, [], Option, None, Some, length, Result, Ok, Err, Bor, IfErr, IfOk, IsErrAnd, IsSome, OnErr, OnOk, ◌-◌, ◌^◌, if◌then◌else◌, inl, inr, ap, arith, refl, subst, sym, ◌∙◌}
 use Rattle.b3tree.specs.declared.mode.Mode.{Mode}
 use Rattle.bao_windows.specs.declared.fault.GatherFault.TheVariants as gather
 use Rattle.std.specs.Io.KnownBytes.{Appends}
@@ -25,6 +25,7 @@ use Rattle.bao_command.specs.Status.{gathered_status_of}
 use Rattle.bao_command.specs.Tasks.{IsBeside, IsOfFile, IsRight, LeavesFiles}
 use Rattle.bao_request.specs.declared.tasks.GatherTask.{GatherTask}
 use Rattle.bao_request.specs.declared.tasks.Task.TheVariants.{Gather as GatherOf}
+use Rattle.holders.specs.declared.form.Form.TheVariants.{Slices}
 use Rattle.holders.specs.declared.grain.Grain.{Grain}
 use Rattle.holders.specs.declared.grain.Grain.TheVariants.{Group as ByGroup, Chunk as ByChunk}
 use Rattle.hex.specs.Hex.{decode_of}
@@ -33,6 +34,18 @@ use Rattle.bao_command.proofs.Listing.{list_of_file, not_looked}
 use Rattle.bao_command.proofs.Telling.{file_refuses_none, no_refusal, no_usage, not_relisted, of_file_or, on_line, on_printed, told_prints}
 use Rattle.bao_command.proofs.gathering.gather.Goals as goal
 use Rattle.bao_command.proofs.gathering.gather.Goals.{in-None, in-Some}
+
+-- what the task asks for
+abbrev how_of : Root32 → Mode → GatherTask → Bool → ℕ → Grain → Gathering
+how_of root mode task count parts grain = record {
+  wanted = record { root = root; mode = mode; form = Slices; grain = grain };
+  workers = task.workers;
+  capacity = task.capacity;
+  long = task.long;
+  encode = task.encode;
+  count = count;
+  parts = parts;
+}
 
 -- a fault that isn't one of the files has another status than 1
 excused_status : (fault : GatheredFault) → IsExcusedGathering fault → gathered_status_of fault ≢ 1
@@ -133,8 +146,7 @@ pub returns-in-Ok-gathered-clause-blob : goal.returns-in-Ok-gathered-clause-blob
 returns-in-Ok-gathered-clause-blob g c =
     let mode = c.args.mode.now in
     let task = c.args.task.now in
-    let how : Gathering =
-    record { workers = task.workers; capacity = task.capacity; long = task.long; encode = task.encode; count = c.args.verbose; parts = c.parts_asked.result; grain = c.grain_of.result } in
+    let how : Gathering = how_of c.in_ok-root.root c.args.mode.now task c.args.verbose c.parts_asked.result c.grain_of.result in
     let at = g.D.Disk.at c.args.disk.now in
     let after = g.D.Disk.at c.list_nothing.new.disk in
     let out : List ℕ = task.out.now in
@@ -163,8 +175,7 @@ returns-in-Ok-gathered-clause-prints g c =
     let mode = c.args.mode.now in
     let key : List ℕ = c.in_ok-root.root.0 in
     let task = c.args.task.now in
-    let how : Gathering =
-    record { workers = task.workers; capacity = task.capacity; long = task.long; encode = task.encode; count = c.args.verbose; parts = c.parts_asked.result; grain = c.grain_of.result } in
+    let how : Gathering = how_of c.in_ok-root.root c.args.mode.now task c.args.verbose c.parts_asked.result c.grain_of.result in
     let at = g.D.Disk.at c.args.disk.now in
     let between = g.D.Disk.at c.match-task.disk in
     let out : List ℕ = task.out.now in
@@ -200,8 +211,7 @@ returns-in-Ok-gathered-clause-files g c =
     let mode = c.args.mode.now in
     let key : List ℕ = c.in_ok-root.root.0 in
     let task = c.args.task.now in
-    let how : Gathering =
-    record { workers = task.workers; capacity = task.capacity; long = task.long; encode = task.encode; count = c.args.verbose; parts = c.parts_asked.result; grain = c.grain_of.result } in
+    let how : Gathering = how_of c.in_ok-root.root c.args.mode.now task c.args.verbose c.parts_asked.result c.grain_of.result in
     let at = g.D.Disk.at c.args.disk.now in
     let between = g.D.Disk.at c.match-task.disk in
     let out : List ℕ = task.out.now in
@@ -233,8 +243,7 @@ returns-in_err-list_nothing-in-Ok-gathered-clause-files g c =
     let mode = c.args.mode.now in
     let key : List ℕ = c.in_ok-root.root.0 in
     let task = c.args.task.now in
-    let how : Gathering =
-    record { workers = task.workers; capacity = task.capacity; long = task.long; encode = task.encode; count = c.args.verbose; parts = c.parts_asked.result; grain = c.grain_of.result } in
+    let how : Gathering = how_of c.in_ok-root.root c.args.mode.now task c.args.verbose c.parts_asked.result c.grain_of.result in
     let at = g.D.Disk.at c.args.disk.now in
     let between = g.D.Disk.at c.match-task.disk in
     let out : List ℕ = task.out.now in
@@ -294,11 +303,10 @@ returns-clause-refused g c = λ one.
     let at = g.D.Disk.at c.args.disk.now in
     let mode = c.args.mode.now in
     let task = c.args.task.now in
-    let how : Gathering =
-    record { workers = task.workers; capacity = task.capacity; long = task.long; encode = task.encode; count = c.args.verbose; parts = c.parts_asked.result; grain = c.grain_of.result } in
+    let how : Gathering = how_of c.in_ok-root.root c.args.mode.now task c.args.verbose c.parts_asked.result c.grain_of.result in
     let out : List ℕ = task.out.now in
     let root = c.in_ok-root.root in
-    let refused : IsRefusedGathering (g.D.Disk.faultless c.args.disk.now) at mode how.grain how.long how.capacity task.outboard c.as_slice-files.result.now out root = elim c.match-task.branch [
+    let refused : IsRefusedGathering (g.D.Disk.faultless c.args.disk.now) at mode how.wanted.grain how.long how.capacity task.outboard c.as_slice-files.result.now out root = elim c.match-task.branch [
       | in-None w ↦ rw w.in-None.is (λ sure known blob is_blob place have.
           other_is at (g.D.Disk.at w.gather_on-gathered.new.disk) out how mode blob w.gather_on-gathered.result c.in-Err.fault (sym w.gathered-is ∙ c.in-Err.is) one
           (w.gather_on-gathered.ensures.available sure known blob
@@ -389,8 +397,7 @@ returns-clause-gaps g c =
     let between = g.D.Disk.at c.match-task.disk in
     let after = g.D.Disk.at c.relist-unlisted-in-Err.new.disk in
     let task = c.args.task.now in
-    let how : Gathering =
-    record { workers = task.workers; capacity = task.capacity; long = task.long; encode = task.encode; count = c.args.verbose; parts = c.parts_asked.result; grain = c.grain_of.result } in
+    let how : Gathering = how_of c.in_ok-root.root c.args.mode.now task c.args.verbose c.parts_asked.result c.grain_of.result in
     let list = task.missing in
     let root = c.in_ok-root.root in
     let lack = c.match-task.notes.lack in
@@ -413,15 +420,15 @@ returns-clause-gaps g c =
           (not_looked w.gather_beside_on-gathered.result fault c.in-Ok.notes.lack w.gather_beside_on-gathered.new.notes.lack (sym w.gathered-is ∙ c.in-Err.is) w.gather_beside_on-gathered.ensures.looked
           c.in-Ok.ensures.lack other)
     ] in
-    let right : fault ≡ Gather gather.Unfinished → g.D.Disk.faultless c.args.disk.now → IsLack root c.args.mode.now how.grain how.long how.capacity how.parts at task.outboard c.as_slice-files.result.now lack =
+    let right : fault ≡ Gather gather.Unfinished → g.D.Disk.faultless c.args.disk.now → IsLack root c.args.mode.now how.wanted.grain how.long how.capacity how.parts at task.outboard c.as_slice-files.result.now lack =
     λ is sure. elim c.match-task.branch [
       | in-None w ↦
           rw w.in-None.is
-          (subst (λ n. IsLack root c.args.mode.now how.grain how.long how.capacity how.parts at None c.as_slice-files.result.now n.lack) (sym w.notes-is)
+          (subst (λ n. IsLack root c.args.mode.now how.wanted.grain how.long how.capacity how.parts at None c.as_slice-files.result.now n.lack) (sym w.notes-is)
           (w.gather_on-gathered.ensures.listed (sym w.gathered-is ∙ c.in-Err.is ∙ ap (λ (f : GatheredFault). Err f) is) sure))
       | in-Some w ↦
           rw w.in-Some.is
-          (subst (λ n. IsLack root c.args.mode.now how.grain how.long how.capacity how.parts at (Some w.in-Some.outboard) c.as_slice-files.result.now n.lack) (sym w.notes-is)
+          (subst (λ n. IsLack root c.args.mode.now how.wanted.grain how.long how.capacity how.parts at (Some w.in-Some.outboard) c.as_slice-files.result.now n.lack) (sym w.notes-is)
           (w.gather_beside_on-gathered.ensures.listed (sym w.gathered-is ∙ c.in-Err.is ∙ ap (λ (f : GatheredFault). Err f) is) sure))
     ] in
     let exact : fault ≡ Gather gather.Unfinished → g.D.Disk.faultless c.args.disk.now

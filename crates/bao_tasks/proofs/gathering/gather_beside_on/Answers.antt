@@ -6,8 +6,7 @@ use Rattle.bao_decode.specs.Copies.{IsEnoughOf}
 use Rattle.bao_files.specs.Disks.{FileState}
 use Rattle.bao_windows.specs.declared.fault.GatherFault.TheVariants.{Unfinished}
 use Rattle.holders.specs.declared.form.Form.TheVariants.{Bare}
-use Rattle.holders.specs.Blobs.{fixed_as}
-use Rattle.bao_tasks.specs.FromFiles.{CollidesBeside, IsPutAt, IsRightAt}
+use Rattle.bao_tasks.specs.FromFiles.{CollidesBeside, IsPutAt, IsRightAt, fixed_of}
 use Rattle.holders.specs.declared.fixed.Fixed.{Fixed}
 use Rattle.bao_tasks.specs.Gathered.{HasOutlineIn}
 use Rattle.bao_tasks.proofs.Beside.{are_of, beside_of, outlined_of, outline_in, own_faultless, own_outline, where_ok}
@@ -72,33 +71,33 @@ pub returns-clause-outline : goal.returns-clause-outline
 returns-clause-outline g c =
     let state : FileState = g.D.Disk.at c.args.disk.now c.args.outboard.now in
     let text : List ℕ = c.as_slice-2.result.now in
-    let read : IsEnoughOf c.args.mode.now c.args.root.now.0 state text =
-    subst (λ (t : List ℕ). IsEnoughOf c.args.mode.now c.args.root.now.0 state t) (sym c.as_slice-2.ensures.value) c.in_ok-text.ensures.enough in
-    where_ok c.gather_on.result (HasOutlineIn state c.args.mode.now c.args.root.now.0)
-    (outline_in state c.args.mode.now c.args.root.now.0 text read (c.in-Ok.ensures.accepted.0 refl)
+    let read : IsEnoughOf c.args.how.now.wanted.mode c.args.how.now.wanted.root.0 state text =
+    subst (λ (t : List ℕ). IsEnoughOf c.args.how.now.wanted.mode c.args.how.now.wanted.root.0 state t) (sym c.as_slice-2.ensures.value) c.in_ok-text.ensures.enough in
+    where_ok c.gather_on.result (HasOutlineIn state c.args.how.now.wanted.mode c.args.how.now.wanted.root.0)
+    (outline_in state c.args.how.now.wanted.mode c.args.how.now.wanted.root.0 text read (c.in-Ok.ensures.accepted.0 refl)
     (subst AreBytes (c.as_slice.ensures.value ∙ sym c.as_slice-2.ensures.value) c.bytes_are.ensures))
 
 pub returns-in-Err-clause-available : goal.returns-in-Err-clause-available
 returns-in-Err-clause-available g c = λ surely known blob is room some few own copies.
     let state : FileState = g.D.Disk.at c.args.disk.now c.args.outboard.now in
     let text : List ℕ = c.as_slice-2.result.now in
-    let read : IsEnoughOf c.args.mode.now c.args.root.now.0 state text =
-    subst (λ (t : List ℕ). IsEnoughOf c.args.mode.now c.args.root.now.0 state t) (sym c.as_slice-2.ensures.value) c.in_ok-text.ensures.enough in
-    let fixed : Fixed = fixed_as c.args.root.now c.args.mode.now c.args.how.capacity in
+    let read : IsEnoughOf c.args.how.now.wanted.mode c.args.how.now.wanted.root.0 state text =
+    subst (λ (t : List ℕ). IsEnoughOf c.args.how.now.wanted.mode c.args.how.now.wanted.root.0 state t) (sym c.as_slice-2.ensures.value) c.in_ok-text.ensures.enough in
+    let fixed : Fixed = fixed_of c.args.how.now in
     inr
-    (absurd {A = CollidesBeside fixed c.args.how.long (g.D.Disk.at c.args.disk.now) c.args.files.now blob}
-    (own_faultless c.args.root.now c.args.mode.now c.args.how.capacity blob text state c.is_keyed.ensures is few read own c.in-Err.fault c.in-Err.ensures.fault))
+    (absurd {A = CollidesBeside fixed c.args.how.now.long (g.D.Disk.at c.args.disk.now) c.args.files.now blob}
+    (own_faultless c.args.how.now.wanted.root c.args.how.now.wanted.mode c.args.how.now.capacity blob text state c.is_keyed.ensures is few read own c.in-Err.fault c.in-Err.ensures.fault))
 
 pub returns-clause-available : goal.returns-clause-available
 returns-clause-available g c = λ surely known blob is room some few own copies.
     let state : FileState = g.D.Disk.at c.args.disk.now c.args.outboard.now in
     let text : List ℕ = c.as_slice-2.result.now in
-    let read : IsEnoughOf c.args.mode.now c.args.root.now.0 state text =
-    subst (λ (t : List ℕ). IsEnoughOf c.args.mode.now c.args.root.now.0 state t) (sym c.as_slice-2.ensures.value) c.in_ok-text.ensures.enough in
-    let outline = own_outline c.args.root.now c.args.mode.now c.args.how.capacity blob text state c.is_keyed.ensures is few read own c.in-Ok.outline c.in-Ok.ensures.outline
+    let read : IsEnoughOf c.args.how.now.wanted.mode c.args.how.now.wanted.root.0 state text =
+    subst (λ (t : List ℕ). IsEnoughOf c.args.how.now.wanted.mode c.args.how.now.wanted.root.0 state t) (sym c.as_slice-2.ensures.value) c.in_ok-text.ensures.enough in
+    let outline = own_outline c.args.how.now.wanted.root c.args.how.now.wanted.mode c.args.how.now.capacity blob text state c.is_keyed.ensures is few read own c.in-Ok.outline c.in-Ok.ensures.outline
     (c.in-Ok.ensures.accepted.0 refl) some in
-    beside_of (IsPutAt (g.D.Disk.at c.args.disk.now) (g.D.Disk.at c.gather_on.new.disk) c.args.path.now c.args.how c.args.mode.now blob c.gather_on.result)
-    (Bare (record { ref_ptr = (0, 0); now = c.in-Ok.outline })) (fixed_as c.args.root.now c.args.mode.now c.args.how.capacity) c.args.how.long (g.D.Disk.at c.args.disk.now) c.args.files.now blob
+    beside_of (IsPutAt (g.D.Disk.at c.args.disk.now) (g.D.Disk.at c.gather_on.new.disk) c.args.path.now c.args.how.now c.args.how.now.wanted.mode blob c.gather_on.result)
+    (Bare (record { ref_ptr = (0, 0); now = c.in-Ok.outline })) (fixed_of c.args.how.now) c.args.how.now.long (g.D.Disk.at c.args.disk.now) c.args.files.now blob
     outline
     (c.gather_on.ensures.available surely known blob
     (record {
@@ -111,10 +110,10 @@ pub returns-clause-right : goal.returns-clause-right
 returns-clause-right g c = λ surely known blob is.
     let at : List ℕ → FileState = g.D.Disk.at c.args.disk.now in
     let text : List ℕ = c.as_slice-2.result.now in
-    let read : IsEnoughOf c.args.mode.now c.args.root.now.0 (at c.args.outboard.now) text =
-    subst (λ (t : List ℕ). IsEnoughOf c.args.mode.now c.args.root.now.0 (at c.args.outboard.now) t) (sym c.as_slice-2.ensures.value) c.in_ok-text.ensures.enough in
-    outlined_of (IsRightAt at (g.D.Disk.at c.gather_on.new.disk) c.args.path.now c.args.how c.args.mode.now blob c.gather_on.result) c.in-Ok.outline c.args.root.now c.args.mode.now
-    c.args.how.capacity c.args.how.long at c.args.outboard.now c.args.files.now blob text (are_of (at c.args.outboard.now) c.args.mode.now c.args.root.now.0 text read (c.in-Ok.ensures.accepted.0 refl)
+    let read : IsEnoughOf c.args.how.now.wanted.mode c.args.how.now.wanted.root.0 (at c.args.outboard.now) text =
+    subst (λ (t : List ℕ). IsEnoughOf c.args.how.now.wanted.mode c.args.how.now.wanted.root.0 (at c.args.outboard.now) t) (sym c.as_slice-2.ensures.value) c.in_ok-text.ensures.enough in
+    outlined_of (IsRightAt at (g.D.Disk.at c.gather_on.new.disk) c.args.path.now c.args.how.now c.args.how.now.wanted.mode blob c.gather_on.result) c.in-Ok.outline c.args.how.now.wanted.root c.args.how.now.wanted.mode
+    c.args.how.now.capacity c.args.how.now.long at c.args.outboard.now c.args.files.now blob text (are_of (at c.args.outboard.now) c.args.how.now.wanted.mode c.args.how.now.wanted.root.0 text read (c.in-Ok.ensures.accepted.0 refl)
     (subst AreBytes (c.as_slice.ensures.value ∙ sym c.as_slice-2.ensures.value) c.bytes_are.ensures))
     c.in-Ok.ensures.outline (c.gather_on.ensures.right surely known blob is)
 
@@ -127,12 +126,12 @@ pub returns-clause-listed : goal.returns-clause-listed
 returns-clause-listed g c = λ is surely.
     let state : FileState = g.D.Disk.at c.args.disk.now c.args.outboard.now in
     let text : List ℕ = c.as_slice-2.result.now in
-    let read : IsEnoughOf c.args.mode.now c.args.root.now.0 state text =
-    subst (λ (t : List ℕ). IsEnoughOf c.args.mode.now c.args.root.now.0 state t) (sym c.as_slice-2.ensures.value) c.in_ok-text.ensures.enough in
+    let read : IsEnoughOf c.args.how.now.wanted.mode c.args.how.now.wanted.root.0 state text =
+    subst (λ (t : List ℕ). IsEnoughOf c.args.how.now.wanted.mode c.args.how.now.wanted.root.0 state t) (sym c.as_slice-2.ensures.value) c.in_ok-text.ensures.enough in
     let accepted = c.in-Ok.ensures.accepted.0 refl in
     record {
       text = text;
-      of = are_of state c.args.mode.now c.args.root.now.0 text read accepted (subst AreBytes (c.as_slice.ensures.value ∙ sym c.as_slice-2.ensures.value) c.bytes_are.ensures);
+      of = are_of state c.args.how.now.wanted.mode c.args.how.now.wanted.root.0 text read accepted (subst AreBytes (c.as_slice.ensures.value ∙ sym c.as_slice-2.ensures.value) c.bytes_are.ensures);
       accepted = accepted;
       form = Bare (record { ref_ptr = (0, 0); now = c.in-Ok.outline });
       outline = c.in-Ok.ensures.outline;

@@ -66,7 +66,7 @@ pub returns-in_err-finish-clause-available : goal.returns-in_err-finish-clause-a
 returns-in_err-finish-clause-available g c = λ surely known blob enough.
     let exit = err_from_is_err_and c.from_residual-in_err-finish.result c.from_residual-in_err-finish.ensures.1 in
     inl
-    (put_failed (g.D.Disk.at c.args.disk.now) (g.D.Disk.at c.finish.new.self) c.args.path.now c.args.how c.args.mode.now blob c.args.path c.from_residual-in_err-finish.result exit.0
+    (put_failed (g.D.Disk.at c.args.disk.now) (g.D.Disk.at c.finish.new.self) c.args.path.now c.args.how.now c.args.how.now.wanted.mode blob c.args.path c.from_residual-in_err-finish.result exit.0
     c.in_err-finish.field-0.0 exit.1 exit.2 c.in_err-finish.ensures.fault)
 
 pub returns-in_err-count-clause-available : goal.returns-in_err-count-clause-available

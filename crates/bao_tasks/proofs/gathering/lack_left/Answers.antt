@@ -1,5 +1,4 @@
 use Rattle.std.proofs.Common.{List, inr, subst}
-use Rattle.bao_windows.specs.declared.wanted.Wanted.{Wanted}
 use Rattle.bao_tasks.specs.Givens.{shown_contents, shown_faultless}
 use Rattle.bao_tasks.specs.Missing.{IsLackOf}
 use Rattle.bao_files.specs.declared.shown.Shown.{Shown}
@@ -9,8 +8,7 @@ pub returns-in-Some-Unfinished-clause-lack : goal.returns-in-Some-Unfinished-cla
 returns-in-Some-Unfinished-clause-lack g c = λ met starved.
     let contents = shown_contents {P = g.row.P.Denot} g.S.Source.contents in
     let faultless = shown_faultless {P = g.row.P.Denot} g.S.Source.faultless in
-    let parts = c.args.wanted.now.how.parts in
+    let how = c.args.how.now in
     inr
-    (subst (λ (wanted : Wanted). IsLackOf contents faultless wanted c.args.taken.now.givens.items parts c.lack_of.result) c.windows-windows.ensures.all
-    (subst (λ (sources : List (Shown g.row.S.Denot g.row.P.Denot)). IsLackOf contents faultless c.windows-windows.result sources parts c.lack_of.result) c.as_slice.ensures.value
-    c.lack_of.ensures))
+    (subst (λ (sources : List (Shown g.row.S.Denot g.row.P.Denot)). IsLackOf contents faultless how.wanted sources how.parts c.lack_of.result) c.as_slice.ensures.value
+    c.lack_of.ensures)

@@ -1,32 +1,32 @@
 use Rattle.std.specs.Borrow.{Bor}
 use Rattle.std.proofs.Common.{◌≡◌, ◌⊎◌, ℕ, List, IfOk, MatchResult, OnErr, Result, Ok, Err, Some, slice_get, ap, subst, sym, ◌∙◌, inl, inr}
 use Rattle.std.proofs.lemmas.Option.{none-some, same_Some}
-use Rattle.b3tree.specs.declared.mode.Mode.{Mode}
-use Rattle.b3tree.specs.declared.values.Hash.{Hash}
+use Rattle.holders.specs.declared.fixed.Fixed.{Fixed}
 use Rattle.bao_files.specs.Disks.{FileState, IsKnown, KeepsFiles}
-use Rattle.holders.specs.Blobs.{HasCollision, fixed_as}
+use Rattle.holders.specs.Blobs.{HasCollision}
 use Rattle.holders.specs.Blobs.{IsBlob}
-use Rattle.bao_tasks.specs.FromFiles.{AreEnough, IsFromFile, IsInFile, IsPutAt, IsRightAt}
+use Rattle.bao_tasks.specs.FromFiles.{AreEnough, IsFromFile, IsInFile, IsPutAt, IsRightAt, fixed_of}
 use Rattle.bao_files.specs.declared.fault.FileFault.TheVariants.{Memory, Read}
 use Rattle.bao_tasks.specs.declared.gathered_fault.GatheredFault.{GatheredFault}
 use Rattle.bao_tasks.specs.declared.gathered_fault.GatheredFault.TheVariants.{File}
 use Rattle.bao_tasks.specs.GatheredFaults.{IsFirstUnread}
 use Rattle.determined_program.specs.Blobs.{AreSameFaults}
-use Rattle.determined_program.proofs.PutBlobs.{HasPut, enough_agree, puts_agree, rights_agree}
+use Rattle.determined_program.proofs.PutBlobs.{HasPut, enough_agree, fixed_as_also, puts_agree, rights_agree}
 use Rattle.determined_program.proofs.gathering.gather_on_determined.Goals as goal
 
 pub returns-clause-put : goal.returns-clause-put
 returns-clause-put g c =
-    let mode : Mode = c.args.mode.now in
-    let root : Hash = c.args.root.now in
+    let how = c.args.how.now in
+    let also = c.args.other_how.now in
+    let alike = c.requires.alike in
     let ours : List ℕ → FileState = g.D.Disk.at c.args.ours.now in
     let one : List ℕ → FileState = g.D.Disk.at c.gather_on.new.disk in
     let other : List ℕ → FileState = g.E.Disk.at c.gather_on-2.new.disk in
     let same : ours ≡ g.E.Disk.at c.args.theirs.now = λ i at. c.requires.same at i in
     let path : List ℕ = c.args.path.now in
     let s = c.gather_on-2.result in
-    puts_agree mode root.0 ours one other path c.args.how c.args.other_how c.gather_on.result s c.requires.encode c.gather_on.ensures.done
-    (subst (λ (at : List ℕ → FileState). IfOk s (HasPut mode root.0 path c.args.other_how at other)) (sym same) c.gather_on-2.ensures.done)
+    puts_agree how.wanted.mode how.wanted.root.0 ours one other path how also c.gather_on.result s alike.encode c.gather_on.ensures.done
+    (subst (λ (T : Type 0). T) (λ i. IfOk s (HasPut (sym alike.mode i) (sym alike.root i).0 path also (sym same i) other)) c.gather_on-2.ensures.done)
     c.gather_on.ensures.kept (subst (λ (at : List ℕ → FileState). OnErr s (KeepsFiles at other)) (sym same) c.gather_on-2.ensures.kept)
 
 same_first : (files : List (Bor (List ℕ))) (e f : GatheredFault) → IsFirstUnread files e → IsFirstUnread files f → (e ≡ File Memory) ⊎ (f ≡ File Memory) ⊎ (e ≡ f)
@@ -50,42 +50,42 @@ returns-clause-absent g c = λ none.
 
 pub returns-clause-right : goal.returns-clause-right
 returns-clause-right g c = λ surely also_surely known blob is.
-    let mode : Mode = c.args.mode.now in
-    let root : Hash = c.args.root.now in
+    let how = c.args.how.now in
+    let also = c.args.other_how.now in
+    let alike = c.requires.alike in
     let ours : List ℕ → FileState = g.D.Disk.at c.args.ours.now in
     let theirs : List ℕ → FileState = g.E.Disk.at c.args.theirs.now in
     let one : List ℕ → FileState = g.D.Disk.at c.gather_on.new.disk in
     let other : List ℕ → FileState = g.E.Disk.at c.gather_on-2.new.disk in
     let same : ours ≡ theirs = λ i at. c.requires.same at i in
     let path : List ℕ = c.args.path.now in
-    let how = c.args.how in
-    let also = c.args.other_how in
+    let fixed : fixed_of how ≡ fixed_of also = fixed_as_also how also alike in
     let s = c.gather_on-2.result in
     let theirs_right = c.gather_on-2.ensures.right also_surely (subst IsKnown (c.requires.same path) known) blob
-    (subst (λ (k : ℕ). IsBlob (fixed_as root mode k) blob) c.requires.capacity is) in
-    rights_agree mode root.0 ours one other path how also blob (HasCollision (IsFromFile c.args.form.now (fixed_as root mode how.capacity) how.long ours c.args.files.now) (fixed_as root mode how.capacity) blob)
-    c.gather_on.result s c.requires.encode (c.gather_on.ensures.right surely known blob is)
+    (subst (λ (f : Fixed). IsBlob f blob) fixed is) in
+    rights_agree how.wanted.mode how.wanted.root.0 ours one other path how also blob (HasCollision (IsFromFile how.wanted.form (fixed_of how) how.long ours c.args.files.now) (fixed_of how) blob)
+    c.gather_on.result s alike.encode (c.gather_on.ensures.right surely known blob is)
     (subst (λ (T : Type 0). T)
-    (λ i. IsRightAt (sym same i) other path also mode blob s
-    ⊎ HasCollision (IsFromFile c.args.form.now (fixed_as root mode (sym c.requires.capacity i)) (sym c.requires.long i) (sym same i) c.args.files.now) (fixed_as root mode (sym c.requires.capacity i)) blob) theirs_right)
+    (λ i. IsRightAt (sym same i) other path also (sym alike.mode i) blob s
+    ⊎ HasCollision (IsFromFile (sym c.requires.form i) (sym fixed i) (sym alike.long i) (sym same i) c.args.files.now) (sym fixed i) blob) theirs_right)
 
 pub returns-clause-enough : goal.returns-clause-enough
 returns-clause-enough g c = λ surely also_surely known blob is also_is.
-    let mode : Mode = c.args.mode.now in
-    let root : Hash = c.args.root.now in
+    let how = c.args.how.now in
+    let also = c.args.other_how.now in
+    let alike = c.requires.alike in
     let ours : List ℕ → FileState = g.D.Disk.at c.args.ours.now in
     let theirs : List ℕ → FileState = g.E.Disk.at c.args.theirs.now in
     let one : List ℕ → FileState = g.D.Disk.at c.gather_on.new.disk in
     let other : List ℕ → FileState = g.E.Disk.at c.gather_on-2.new.disk in
     let same : ours ≡ theirs = λ i at. c.requires.same at i in
     let path : List ℕ = c.args.path.now in
-    let how = c.args.how in
-    let also = c.args.other_how in
+    let fixed : fixed_of how ≡ fixed_of also = fixed_as_also how also alike in
     let s = c.gather_on-2.result in
     let theirs_put = c.gather_on-2.ensures.available also_surely (subst IsKnown (c.requires.same path) known) blob
-    (subst (λ (T : Type 0). T) (λ i. AreEnough c.args.form.now (fixed_as root mode (c.requires.capacity i)) also blob (IsInFile (same i) c.args.files.now)) also_is) in
-    enough_agree mode root.0 ours one other path how also blob (HasCollision (IsFromFile c.args.form.now (fixed_as root mode how.capacity) how.long ours c.args.files.now) (fixed_as root mode how.capacity) blob)
-    c.gather_on.result s c.requires.encode (c.gather_on.ensures.available surely known blob is)
+    (subst (λ (T : Type 0). T) (λ i. AreEnough (c.requires.form i) (fixed i) also blob (IsInFile (same i) c.args.files.now)) also_is) in
+    enough_agree how.wanted.mode how.wanted.root.0 ours one other path how also blob (HasCollision (IsFromFile how.wanted.form (fixed_of how) how.long ours c.args.files.now) (fixed_of how) blob)
+    c.gather_on.result s alike.encode (c.gather_on.ensures.available surely known blob is)
     (subst (λ (T : Type 0). T)
-    (λ i. IsPutAt (sym same i) other path also mode blob s
-    ⊎ HasCollision (IsFromFile c.args.form.now (fixed_as root mode (sym c.requires.capacity i)) (sym c.requires.long i) (sym same i) c.args.files.now) (fixed_as root mode (sym c.requires.capacity i)) blob) theirs_put)
+    (λ i. IsPutAt (sym same i) other path also (sym alike.mode i) blob s
+    ⊎ HasCollision (IsFromFile (sym c.requires.form i) (sym fixed i) (sym alike.long i) (sym same i) c.args.files.now) (sym fixed i) blob) theirs_put)
