@@ -11,3 +11,4 @@ pub mod Offsets
 pub mod Left
 pub mod Audited
 pub mod Pushed
+pub mod WholeEncodings

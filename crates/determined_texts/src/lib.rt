@@ -9,5 +9,6 @@ mod outboards;
 mod pieces;
 mod streams;
 mod tree;
+mod whole;
 mod words;
 mod writing;
