@@ -2,7 +2,6 @@
 use Rattle.std.specs.Borrow.{Bor}
 use Rattle.std.proofs.Common.{◌≡◌, ◌≢◌, ℕ, List, [], Option, None, Some, IsSomeAnd, codes, inl, inr, arith, sym}
 use Rattle.clap.specs.Words.{Text, fault_of}
-use Rattle.bao_check.specs.declared.fault.CheckFault.TheVariants as check
 use Rattle.bao_decode.specs.declared.decode_fault.DecodeFault.{DecodeFault}
 use Rattle.bao_decode.specs.declared.decode_fault.DecodeFault.TheVariants as decode
 use Rattle.bao_files.specs.Disks.{FileState, IsKnown}

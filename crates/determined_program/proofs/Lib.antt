@@ -36,3 +36,6 @@ pub mod Below
 pub mod CommandOutcomes
 pub mod Good
 pub mod CommandVerdicts
+pub mod PlainWords
+pub mod PlainRequests
+pub mod ManualRuns

@@ -7,3 +7,4 @@ pub mod Replays
 pub mod Lacks
 pub mod Commands
 pub mod Outcomes
+pub mod Manual

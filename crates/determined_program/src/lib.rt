@@ -9,6 +9,7 @@ mod decoding;
 mod gathering;
 mod lacks;
 mod lists;
+mod manual;
 mod printing;
 mod reading;
 mod replaying;

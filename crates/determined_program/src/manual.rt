@@ -1,0 +1,123 @@
+// What the manual says of a command without options, word by word, over files in memory.
+
+ghost use Rattle.std.specs.Prelude.{◌≡◌, ◌≢◌, ◌⊎◌, ℕ, ◌^◌, ◌<◌, ◌≤◌, List, [], ◌∷◌, length, map, string_bytes, codes, Ok, Some};
+ghost use Rattle.std.specs.Io.KnownBytes.{Appends, Keeps};
+ghost use Rattle.hex.specs.Hex.{decode_of};
+ghost use Rattle.b3tree.specs.Hashing.{hash};
+ghost use Rattle.b3tree.specs.Modes.{plain};
+ghost use Rattle.bao_text.specs.Choice.{chunk_count};
+ghost use Rattle.bao_text.specs.Texts.{combined_text};
+ghost use Rattle.holders.specs.Blobs.{HasCollision, IsBlob, fixed_as};
+ghost use Rattle.bao_files.specs.Disks.{KeepsFiles, Puts, Stored};
+ghost use Rattle.bao_files.specs.HeldFiles.{held_at};
+ghost use Rattle.bao_files.specs.Printed.{IsDigits, digits_line, ok_line};
+ghost use Rattle.bao_command.specs.Tasks.{IsNoOutput};
+ghost use Rattle.determined_program.specs.Manual.{Asks, IsAmongThem, IsCutFromOne, IsDoneOrNot, IsEncodingOf, whole_text, writer_name};
+
+use b3tree::{Hash, Mode, bytes_are};
+use bao_command::command;
+use bao_files::{MemoryFiles, Progress};
+use std::io::Write;
+use std::thread::Threads;
+
+// `hash FILE` prints the hash of FILE, and changes nothing.
+pub fn hash_is<R: AllocGlobal + Threads + Sync, O: Write, E: Write, P: Progress + Sync>(
+    rt: &R,
+    disk: &mut MemoryFiles,
+    words: &[String],
+    file: &str,
+    out: &mut O,
+    err: &mut E,
+    progress: &P,
+) -> u8
+    requires { Asks (map string_bytes words.now) (codes "hash") (file.now ∷ []) }
+    ensures done { result ≡ 0 → (bytes : List ℕ) × (held_at disk.old.files file.now ≡ Stored bytes) × Appends (O.contents out.old) (O.contents out.new) (digits_line (hash plain bytes)) }
+    ensures files { KeepsFiles (held_at disk.old.files) (held_at disk.new.files) }
+    ensures status { IsDoneOrNot result }
+{
+    command(rt, disk, words, out, err, progress)
+}
+
+// `encode FILE OUT` puts the combined encoding of FILE at OUT and prints FILE's hash, and so does `outboard FILE OUT` with the outboard encoding. If it isn't
+// done, OUT is as it was, or has the encoding.
+pub fn encode_is<R: AllocGlobal + Threads + Sync, O: Write, E: Write, P: Progress + Sync>(
+    rt: &R,
+    disk: &mut MemoryFiles,
+    words: &[String],
+    outboard: bool,
+    file: &str,
+    path: &str,
+    out: &mut O,
+    err: &mut E,
+    progress: &P,
+) -> u8
+    requires asked { Asks (map string_bytes words.now) (writer_name outboard) (file.now ∷ path.now ∷ []) }
+    requires apart { IsNoOutput path.now × (path.now ≢ file.now) }
+    ensures done { result ≡ 0 → (blob : List ℕ) × (held_at disk.old.files file.now ≡ Stored blob)
+        × Puts (held_at disk.old.files) (held_at disk.new.files) path.now (Some (whole_text outboard blob)) × Appends (O.contents out.old) (O.contents out.new) (digits_line (hash plain blob)) }
+    ensures files { KeepsFiles (held_at disk.old.files) (held_at disk.new.files) ⊎ ((blob : List ℕ) × (held_at disk.old.files file.now ≡ Stored blob)
+        × Puts (held_at disk.old.files) (held_at disk.new.files) path.now (Some (whole_text outboard blob))) }
+    ensures status { IsDoneOrNot result }
+{
+    command(rt, disk, words, out, err, progress)
+}
+
+// `decode ROOT FILE OUT` puts at OUT the blob of which FILE is the combined encoding and ROOT the hash, and prints how many bytes it has. If there is
+// none, that is refused, and nothing changes. If it isn't done, OUT is as it was, or has the blob.
+pub fn decode_is<R: AllocGlobal + Threads + Sync, O: Write, E: Write, P: Progress + Sync>(
+    rt: &R,
+    disk: &mut MemoryFiles,
+    words: &[String],
+    digits: &str,
+    root: &Hash,
+    file: &str,
+    path: &str,
+    out: &mut O,
+    err: &mut E,
+    progress: &P,
+) -> u8
+    requires asked { Asks (map string_bytes words.now) (codes "decode") (digits.now ∷ file.now ∷ path.now ∷ []) }
+    requires root { IsDigits digits.now × (decode_of digits.now ≡ Ok root.now.0) }
+    requires apart { IsNoOutput path.now × (path.now ≢ file.now) }
+    ensures done { result ≡ 0 → (blob : List ℕ) × IsEncodingOf (held_at disk.old.files) file.now root.now.0 blob
+        × Puts (held_at disk.old.files) (held_at disk.new.files) path.now (Some blob) × Appends (O.contents out.old) (O.contents out.new) (ok_line (length blob)) }
+    ensures refused { result ≡ 1 → (blob : List ℕ) → length (combined_text plain blob) < 2 ^ 63 → ¬ IsEncodingOf (held_at disk.old.files) file.now root.now.0 blob }
+    ensures kept { result ≡ 1 → KeepsFiles (held_at disk.old.files) (held_at disk.new.files) × Keeps (O.contents out.old) (O.contents out.new) }
+    ensures files { KeepsFiles (held_at disk.old.files) (held_at disk.new.files) ⊎ ((blob : List ℕ) × IsEncodingOf (held_at disk.old.files) file.now root.now.0 blob
+        × Puts (held_at disk.old.files) (held_at disk.new.files) path.now (Some blob)) }
+    ensures status { IsDoneOrNot result ⊎ (result ≡ 1) }
+{
+    // Laws, so that the proof has what they say: nothing runs.
+    Mode::hash().is_keyed();
+    bytes_are(&root.0);
+    command(rt, disk, words, out, err, progress)
+}
+
+// `gather ROOT OUT FILE..` puts at OUT a blob with the hash ROOT, whatever the FILEs are, and prints how many bytes it has. If it isn't done, OUT is as it
+// was, or has such a blob. It isn't refused where one FILE is the combined encoding of such a blob of at most 64 MiB, whatever the others are; or else two
+// different inputs with one chaining value are exhibited, one of the blob and one of a slice that is cut out of a FILE and accepted under ROOT.
+pub fn gather_is<R: AllocGlobal + Threads + Sync, O: Write, E: Write, P: Progress + Sync>(
+    rt: &R,
+    disk: &mut MemoryFiles,
+    words: &[String],
+    digits: &str,
+    root: &Hash,
+    path: &str,
+    files: &[&str],
+    out: &mut O,
+    err: &mut E,
+    progress: &P,
+) -> u8
+    requires asked { Asks (map string_bytes words.now) (codes "gather") (digits.now ∷ path.now ∷ map (λ file. file.now) files.now) }
+    requires few { (0 < length files.now) × (length files.now ≤ 64) }
+    requires root { decode_of digits.now ≡ Ok root.now.0 }
+    ensures done { result ≡ 0 → (blob : List ℕ) × (hash plain blob ≡ root.now.0)
+        × Puts (held_at disk.old.files) (held_at disk.new.files) path.now (Some blob) × Appends (O.contents out.old) (O.contents out.new) (ok_line (length blob)) }
+    ensures files { KeepsFiles (held_at disk.old.files) (held_at disk.new.files) ⊎ ((blob : List ℕ) × (hash plain blob ≡ root.now.0)
+        × Puts (held_at disk.old.files) (held_at disk.new.files) path.now (Some blob)) }
+    ensures enough { result ≡ 1 → (blob : List ℕ) → IsBlob (fixed_as root.now plain 65536) blob → chunk_count (length blob) ≤ 65536
+        → IsAmongThem (held_at disk.old.files) (map (λ file. file.now) files.now) blob
+        → HasCollision (IsCutFromOne (held_at disk.old.files) (map (λ file. file.now) files.now)) (fixed_as root.now plain 65536) blob }
+{
+    command(rt, disk, words, out, err, progress)
+}
