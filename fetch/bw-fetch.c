@@ -168,9 +168,5 @@ int main(int argc, char **argv) {
     for (uint64_t wake; turn_all(&wake);) hub_wait(&all, wake);
     fflush(stdout);
     if (!hub_free(&all)) _exit(worst);
-    free(text);
-    free(given.named);
-    curl_slist_free_all(given.set.headers);
-    curl_slist_free_all(given.set.plain);
     return worst;
 }

@@ -38,7 +38,7 @@ static void told(leg *of, leg_end as) {
  * of the mirror's. */
 exchange *exchange_new(fetch *f, peer *from, booking *of) {
     const size_t image_len = f->out.is_pipe ? UNIT_LEN : 0;
-    exchange *e = malloc(sizeof *e + BYTES_MOST + HEAD_LEN + GROUP_SLICE_MOST + image_len);
+    exchange *e = malloc(sizeof *e + BYTES_MOST + HEAD_LEN + image_len);
     if (!e && of) {
         f->no_memory = true;
         fetch_close(f, of, BW_ENDED_OVER, 0);
@@ -49,8 +49,7 @@ exchange *exchange_new(fetch *f, peer *from, booking *of) {
     e->leg = (leg){.tell = told, .with = e};
     e->flow = (leg){.tell = told, .with = e, .streams = true};
     e->head = e->bytes + BYTES_MOST;
-    e->slice = e->head + HEAD_LEN;
-    e->image = f->out.is_pipe ? e->slice + GROUP_SLICE_MOST : NULL;
+    e->image = f->out.is_pipe ? e->head + HEAD_LEN : NULL;
     f->exchanges = e;
     f->live++;
     from->busy++;
@@ -285,7 +284,7 @@ static void take_group(exchange *e, unsigned g) {
         if (has_line)
             fetch_must(f, bw_plan_kept(&f->parents, e->by->holder, group, e->kept[g], &none));
         if (has_line) e->by->good++;
-        e->from->good++;
+        e->from->good += !e->refused[g];
     }
     e->refuted[g] |= e->refused[g];
     if (e->refused[g] && !is_own) {
@@ -460,6 +459,7 @@ static bool ask_one(fetch *f, peer *m, uint64_t now) {
     booking of = booking_of(f, m);
     uint64_t until = fetch_book(f, &of, now);
     m->wait = until;
+    m->asked = now;
     m->seen = f->changes;
     if (!of.is_open) return false;
     exchange *e = exchange_new(f, m, &of);
@@ -489,8 +489,11 @@ void exchange_ask_all(fetch *f, uint64_t now) {
         if (m->at.kind == PLAIN && f->lacks_lines) continue; /* nobody waits for it */
         if (m->later > now) fetch_wait(f, m->later);
         const bool is_known = m->seen == f->changes && now < m->wait;
-        while (f->status == GOES_ON && !is_known && m->busy < m->at.most && m->later <= now &&
-               ask_one(f, m, now))
+        const bool is_put_off = !is_known && m->rank == LAST && f->live > m->busy &&
+                                now < m->asked + SHORT_WAIT; /* while others are asked */
+        if (is_put_off) fetch_wait(f, m->asked + SHORT_WAIT);
+        while (f->status == GOES_ON && !is_known && !is_put_off && m->busy < m->at.most &&
+               m->later <= now && ask_one(f, m, now))
             continue;
         if (m->wait != UINT64_MAX && m->wait > now && m->busy < m->at.most) fetch_wait(f, m->wait);
     }

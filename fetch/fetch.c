@@ -157,9 +157,9 @@ bool fetch_has_left_out(fetch *f, const peer *it) {
     return it->is_holder && plan->at && !bw_plan_is_left_out(plan, it->holder, &out) && out;
 }
 
-/* Whether most of what it has is false, as far as is known, or others overtake it. */
+/* Whether more than a third of its groups are false, as far as is known, or others overtake it. */
 bool is_doubtful(const peer *it) {
-    const bool lies = it->bad >= BAD_ENOUGH && it->bad > it->good;
+    const bool lies = it->bad >= BAD_ENOUGH && 2 * it->bad > it->good;
     return lies || (it->lost >= LOST_ENOUGH && (uint64_t)it->lost * UNIT_GROUPS > it->good);
 }
 
@@ -237,7 +237,7 @@ static void begin_anew(fetch *f, uint64_t total) {
     free(f->known);
     f->known = calloc(f->unit_count, sizeof *f->known);
     if (!f->known || bw_plan_new(total, &of_chunks, &f->chunks) ||
-        bw_plan_new(total, &of_parents, &f->parents) ||
+        (f->lines && bw_plan_new(total, &of_parents, &f->parents)) ||
         (!f->out.is_pipe && bw_hasher_new(&f->set->mode, &f->hasher)))
         return fetch_stop(f, NO_MEMORY);
     if (!f->out.is_pipe) f->drained = 0;
@@ -248,7 +248,9 @@ static void begin_anew(fetch *f, uint64_t total) {
 
 static void limit(fetch *f) {
     const uint64_t end = (f->drained + WINDOW_UNITS) * UNIT_CHUNKS;
-    if (f->out.is_pipe) fetch_must(f, bw_plan_limit(&f->chunks, end));
+    if (!f->out.is_pipe) return;
+    fetch_must(f, bw_plan_limit(&f->chunks, end));
+    f->changes++;
 }
 
 /* A length is certified, or believed: makes the plans and, where there is none yet, OUT.part.fetch.
@@ -294,7 +296,8 @@ void fetch_keep(fetch *f, size_t holder, uint64_t group, uint64_t mask, const ui
         certify(f);
     for (; taken && f->out.is_pipe; taken >>= 1, at += BW_CHUNK_LEN, bytes += BW_CHUNK_LEN)
         if (taken & 1 && at < f->total)
-            out_put(&f->out, at, bytes, least(f->total - at, BW_CHUNK_LEN));
+            out_put(&f->out, at, &(struct iovec){(void *)bytes, least(f->total - at, BW_CHUNK_LEN)},
+                    1);
 }
 
 /* --- Hashed in order, as it stands in OUT.part.fetch or is passed on: this decides on status 0 */
@@ -338,7 +341,6 @@ static void was_drained(job *of) {
     if (f->drain_status == OTHER_ROOT) say(OTHER_ROOT, "what was written hasn't the root");
     if (f->drain_status != GOES_ON) return fetch_stop(f, f->drain_status);
     f->drained++;
-    f->changes++;
     f->moved_at = now_ms();
     limit(f);
 }
@@ -349,7 +351,7 @@ static void drain_turn(fetch *f) {
     if (finishes && !end_all(f)) return; /* a job may still write behind the blob */
     f->is_draining = true;
     f->drain = (job){.run = run_drain, .done = was_drained, .with = f};
-    pool_post(&f->hub->pool, f->out.is_pipe ? TO_READ : TO_COMPUTE, &f->drain);
+    pool_post(f->out.is_pipe ? &f->hub->reading : &f->hub->computing, &f->drain);
 }
 
 /* --- What an earlier run left is verified in place, before anybody is asked */

@@ -14,16 +14,16 @@
 
 #include <stdatomic.h>
 #include <sys/stat.h>
+#include <sys/uio.h>
 
 enum {
     UNIT_LEN = 1 << 20,
     UNIT_CHUNKS = UNIT_LEN / BW_CHUNK_LEN,
     UNIT_PARENTS = BW_NODES_MAX(UNIT_CHUNKS) - UNIT_CHUNKS,
     GROUP_LEN = BW_GROUP_CHUNKS * BW_CHUNK_LEN,
-    GROUP_NODES_MOST = BW_NODES_MAX(BW_GROUP_CHUNKS),
-    GROUP_SLICE_MOST =
-        BW_LENGTH_LEN + GROUP_LEN + (GROUP_NODES_MOST - BW_GROUP_CHUNKS) * BW_PARENT_LEN,
     UNIT_GROUPS = UNIT_LEN / GROUP_LEN,
+    GROUP_NODES = BW_NODES_MAX(BW_GROUP_CHUNKS),
+    GROUP_TEXT = BW_LENGTH_LEN + GROUP_LEN + (GROUP_NODES - BW_GROUP_CHUNKS) * BW_PARENT_LEN,
     WINDOW_UNITS = 16,  /* of a pipe */
     IN_MOST = 16,       /* mirrors, and outboard encodings, that are asked at a time */
     OVERTAKE_MS = 1000, /* what doesn't come so long is asked of another */
@@ -75,14 +75,15 @@ typedef struct run {
 
 /* A parent above units. Once it is known to be true it stays so. */
 typedef struct known {
-    atomic_int state;
+    atomic_uchar state;
     uint8_t text[BW_PARENT_LEN];
 } known;
 
-/* The nodes of a slice of chunks of one group, in their order. */
+/* The nodes of a slice of chunks of one group, in their order, and where each was found. */
 typedef struct slice {
     size_t count;
-    bw_placed nodes[GROUP_NODES_MOST];
+    bw_placed nodes[GROUP_NODES];
+    const uint8_t *found[GROUP_NODES];
 } slice;
 
 /* Where the nodes of a slice are taken from: known parents first, then what came of a file of some
@@ -96,9 +97,6 @@ typedef struct origin {
 /* How many there are in a blob of `total` bytes: one where it is empty. */
 static inline uint64_t chunks_of(uint64_t total) {
     return total ? (total - 1) / BW_CHUNK_LEN + 1 : 1;
-}
-static inline uint64_t groups_of(uint64_t total) {
-    return (chunks_of(total) - 1) / BW_GROUP_CHUNKS + 1;
 }
 static inline uint64_t units_of(uint64_t total) { return (chunks_of(total) - 1) / UNIT_CHUNKS + 1; }
 static inline uint64_t end_of(run it) { return it.first + it.count; }
@@ -115,7 +113,9 @@ bool slice_of(slice *it, uint64_t total, uint64_t start, uint64_t len);
 bool know(known *all, const bw_placed *it, const uint8_t *text);
 bool pieces_add(pieces *out, known *above, kind of, uint64_t total, uint64_t start, uint64_t len);
 const uint8_t *pieces_find(const pieces *in, uint64_t at, size_t len);
-size_t slice_put(const origin *from, uint64_t total, uint64_t start, uint64_t len, uint8_t *out);
+bool slice_find(slice *it, const origin *from, uint64_t total, uint64_t start, uint64_t len);
+size_t slice_put(const slice *it, uint64_t total, uint8_t *out);
+int slice_chunks(const slice *it, struct iovec out[BW_GROUP_CHUNKS]);
 
 /* --- out.c: OUT while it comes together: OUT.part.fetch beside it, which is renamed at the end, or
  * for a pipe a window of the blob in memory. The file has the blob, with holes; after it the
@@ -145,12 +145,12 @@ int out_resume(output *it);
 int out_open(output *it, uint64_t total);
 int out_certify(output *it);
 uint64_t out_data(const output *it, uint64_t from);
-bool out_put(output *it, uint64_t from, const uint8_t *bytes, size_t len);
+bool out_put(output *it, uint64_t from, const struct iovec *of, int count);
 bool out_get(const output *it, uint64_t from, uint8_t *bytes, size_t len);
 void out_write_back(const output *it, uint64_t from, uint64_t len);
 bool out_pass(output *it, const uint8_t *bytes, size_t len);
 bool out_finish(output *it);
-void out_learn(const output *it, known *above, uint64_t start, uint64_t len, const uint8_t *text);
+void out_learn(const output *it, known *above, const slice *of);
 
 /* --- A fetch */
 
@@ -172,7 +172,7 @@ typedef struct peer {
     uint32_t rank;
     unsigned busy;        /* exchanges with it */
     uint64_t later, wait; /* it isn't asked before; and, by a plan, not before something changes */
-    uint64_t seen;        /* how many changes there were when that was said */
+    uint64_t asked, seen; /* when that was said, and how many changes there were */
     bool is_tried;        /* its file was streamed for a length of `tried` */
     uint64_t tried, claimed; /* claimed: the length that it, or an outboard encoding, claims */
     uint64_t good, bad;      /* groups that were taken, and refused */
@@ -222,10 +222,10 @@ typedef struct exchange {
     uint64_t refuted[UNIT_GROUPS]; /* what was refused of the unit until now */
     uint64_t wrong, wrong_of_line, wrong_parent;
     uint8_t chunk[BW_CHUNK_LEN];
-    size_t chunk_len, slice_len;
+    size_t chunk_len;
     job job;
-    /* what the file begins with; what certifies; a pipe's bytes that were verified: */
-    uint8_t *head, *slice, *image;
+    /* what the file begins with; a pipe's bytes that were verified: */
+    uint8_t *head, *image;
     uint8_t bytes[]; /* what comes, and room for these */
 } exchange;
 

@@ -2,25 +2,26 @@
 
 #include <stdarg.h>
 
-/* How many bytes were moved, before a fault, which errno tells, or the file's end: it is 0 then. */
-size_t read_at(int fd, uint64_t at, void *bytes, size_t len) {
+static size_t move(bool writes, int fd, uint64_t at, char *bytes, size_t len) {
     size_t done = 0;
     errno = 0;
     for (ssize_t n = 1; done < len && n; done += n > 0 ? (size_t)n : 0) {
-        n = pread(fd, (char *)bytes + done, len - done, (off_t)(at + done));
+        const off_t from = (off_t)(at + done);
+        n = writes ? pwrite(fd, bytes + done, len - done, from)
+                   : pread(fd, bytes + done, len - done, from);
         if (n < 0 && errno != EINTR) break;
         errno = 0;
     }
     return done;
 }
 
+/* How many bytes were moved, before a fault, which errno tells, or the file's end: it is 0 then. */
+size_t read_at(int fd, uint64_t at, void *bytes, size_t len) {
+    return move(false, fd, at, bytes, len);
+}
+
 size_t write_at(int fd, uint64_t at, const void *bytes, size_t len) {
-    size_t done = 0;
-    for (ssize_t n = 1; done < len && n; done += n > 0 ? (size_t)n : 0) {
-        n = pwrite(fd, (const char *)bytes + done, len - done, (off_t)(at + done));
-        if (n < 0 && errno != EINTR) break;
-    }
-    return done;
+    return move(true, fd, at, (void *)bytes, len);
 }
 
 bool source_new(source *it, const char *url, kind as, unsigned most) {
@@ -101,5 +102,5 @@ void leg_read(leg *it) {
     it->has_news = false;
     it->fd = it->of->fd;
     it->job = (job){.run = read_pieces, .done = was_read, .with = it};
-    pool_post(&it->hub->pool, TO_READ, &it->job);
+    pool_post(&it->hub->reading, &it->job);
 }

@@ -8,7 +8,7 @@
 
 /* NEAR: gaps of so many bytes are asked for as well, by one range */
 enum { NEAR = 65536, BUFFER_LEN = 131072, HOPS_MOST = 5, RATE_LEAST = 1024 };
-enum { DAY = 86400, POLL_MS = 200, LIMITED_MS = 20 };
+enum { DAY = 86400, POLL_MS = 200, LIMITED_MS = 20, READERS_MOST = 64, COMPUTERS_MOST = 16 };
 
 /* --- What libcurl calls; `with` is NULL once the request is left alone */
 
@@ -116,29 +116,26 @@ static size_t near_ones(const piece *list, size_t count) {
 
 /* Picks the pieces of the next request, and writes its ranges. How many bytes are asked for. */
 static uint64_t write_ranges(leg *it) {
-    const piece *of = it->wanted->list, *end = of + it->wanted->count;
-    size_t some = 0, used = 0;
+    const piece *of = it->wanted->list;
+    size_t some = 0;
+    uint64_t sum = 0;
+    char *text = it->range;
     it->count = it->wanted->count;
     if (it->streams) return pieces_lacking(of, it->count);
-    while (piece_is_whole(&it->wanted->list[it->first])) it->first++;
+    while (piece_is_whole(&of[it->first])) it->first++;
     of += it->first;
     it->count -= it->first;
-    for (const piece *p = of; p < end; p++) some += !piece_is_whole(p);
+    for (size_t i = 0; i < it->count; i++) some += !piece_is_whole(&of[i]);
     it->several = some > 1 && !it->of->one_range && !it->of->no_ranges;
-    if (!it->several) {
-        it->count = near_ones(of, it->count);
-        const uint64_t from = of->at + of->have,
-                       last = of[it->count - 1].at + of[it->count - 1].len - 1;
-        snprintf(it->range, sizeof it->range, "%" PRIu64 "-%" PRIu64, from, last);
-        return last + 1 - from;
-    }
-    for (const piece *p = of; p < end; p++) {
+    if (!it->several) it->count = near_ones(of, it->count);
+    for (const piece *p = of, *last; p < of + it->count; p = last + 1) {
+        last = it->several ? p : &of[it->count - 1];
         if (piece_is_whole(p)) continue;
-        used +=
-            (size_t)snprintf(it->range + used, sizeof it->range - used, "%s%" PRIu64 "-%" PRIu64,
-                             used ? "," : "", p->at + p->have, p->at + p->len - 1);
+        const uint64_t from = p->at + p->have, end = last->at + last->len;
+        text += sprintf(text, "%s%" PRIu64 "-%" PRIu64, sum ? "," : "", from, end - 1);
+        sum += end - from;
     }
-    return pieces_lacking(of, it->count);
+    return sum;
 }
 
 /* Where it is asked, or was. */
@@ -342,13 +339,16 @@ void leg_free(leg *it) {
 bool hub_new(hub *it, const settings *set) {
     *it = (hub){.set = set, .began = now_ms()};
     if (curl_global_init(CURL_GLOBAL_DEFAULT) || !(it->multi = curl_multi_init())) return false;
-    pool_new(&it->pool, it->multi);
+    const long cores = sysconf(_SC_NPROCESSORS_ONLN);
+    pool_new(&it->computing, cores < 1 ? 1 : (unsigned)least((uint64_t)cores, COMPUTERS_MOST),
+             it->multi);
+    pool_new(&it->reading, READERS_MOST, it->multi);
     return true;
 }
 
 /* Whether all is freed; else a thread or name server hangs, and the process has to end as it is. */
 bool hub_free(hub *it) {
-    if (!pool_end(&it->pool) || it->ghosts) return false;
+    if (!pool_end(&it->reading) || !pool_end(&it->computing) || it->ghosts) return false;
     curl_multi_cleanup(it->multi);
     curl_global_cleanup();
     return true;
@@ -416,5 +416,6 @@ void hub_wait(hub *it, uint64_t until) {
     take_messages(it);
     const uint64_t then = now_ms();
     for (leg *at = it->legs; at;) at = look_at(at, then) ? it->legs : at->next;
-    pool_collect(&it->pool);
+    pool_collect(&it->computing);
+    pool_collect(&it->reading);
 }

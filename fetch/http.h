@@ -29,27 +29,17 @@ typedef struct job {
     void *with;
 } job;
 
-/* What reads others' files may hang for ever, and keeps no processor from work. */
-enum { TO_COMPUTE, TO_READ, LANES };
-
-typedef struct lane {
-    struct pool *pool;
-    job *first, **end;
-    unsigned threads, idle, most;
-    pthread_cond_t wake;
-} lane;
-
 typedef struct pool {
     pthread_mutex_t lock;
-    pthread_cond_t gone;
-    lane lanes[LANES];
-    job *done;
+    pthread_cond_t wake, gone;
+    job *first, **end, *done;
+    unsigned threads, idle, most;
     bool quit;
     CURLM *wakes; /* what the thread that decides waits by */
 } pool;
 
-void pool_new(pool *it, CURLM *wakes);
-void pool_post(pool *it, unsigned to, job *what);
+void pool_new(pool *it, unsigned most, CURLM *wakes);
+void pool_post(pool *it, job *what);
 void pool_collect(pool *it);
 bool pool_end(pool *it);
 uint64_t now_ms(void);
@@ -139,7 +129,7 @@ typedef struct source {
 typedef struct hub {
     const settings *set;
     CURLM *multi;
-    pool pool;
+    pool computing, reading; /* a read may hang for ever, and keeps no processor from work */
     struct leg *legs;
     unsigned ghosts; /* requests that are left to end by themselves */
     uint64_t began, bytes;

@@ -212,11 +212,13 @@ static void keep_last(exchange *e) {
     fetch *f = e->fetch;
     const uint64_t last = chunks_of(f->total) - 1, group = last / BW_GROUP_CHUNKS;
     const uint8_t *of_group = e->image ? e->image + group % UNIT_GROUPS * GROUP_LEN : NULL;
-    out_learn(&f->out, f->known, last * BW_CHUNK_LEN, BW_CHUNK_LEN, e->slice);
+    const origin from = {NULL, e->from->at.kind, &e->seen, &e->parents};
+    static slice of;
+    if (slice_find(&of, &from, f->total, last * BW_CHUNK_LEN, 1)) out_learn(&f->out, f->known, &of);
     if (f->out.is_pipe && last / UNIT_CHUNKS >= WINDOW_UNITS) return;
     if (f->out.is_pipe)
         memcpy(e->image + last % UNIT_CHUNKS * BW_CHUNK_LEN, e->chunk, e->chunk_len);
-    else if (!out_put(&f->out, last * BW_CHUNK_LEN, e->chunk, e->chunk_len))
+    else if (!out_put(&f->out, last * BW_CHUNK_LEN, &(struct iovec){e->chunk, e->chunk_len}, 1))
         return fetch_stop(f, FILE_FAULT);
     fetch_keep(f, e->from->holder, group, mask_in(group, (run){last, 1}), of_group);
 }

@@ -3,8 +3,6 @@
 #include <ctype.h>
 #include <getopt.h>
 
-enum { LETTERLESS = 256 };
-
 static const double DAYS = 1e7, MAX_MOST = INT64_MAX / 2 - 511, RATE_MOST = INT64_MAX / 2000;
 
 options given = {.connections = 2,
@@ -211,13 +209,13 @@ static int take_all(int argc, char **argv) {
     for (int i = 0; i < ROWS; i++) {
         const bool has_word = strchr(rows[i].name, ' ');
         snprintf(names[i], sizeof names[i], "%.*s", (int)strcspn(rows[i].name, " "), rows[i].name);
-        all[i] = (struct option){names[i], has_word, NULL, LETTERLESS + i};
+        all[i] =
+            (struct option){names[i], has_word, NULL, rows[i].letter ? rows[i].letter : -2 - i};
     }
-    for (int found; (found = getopt_long(argc, argv, "c:H:46qvh", all, NULL)) != -1;) {
-        const row *it = found < LETTERLESS ? rows : &rows[found - LETTERLESS];
-        while (found < LETTERLESS && it < rows + ROWS && it->letter != found) it++;
-        if (it == rows + ROWS) return usage("an option isn't known, or lacks its word");
-        const int status = take(it, optarg);
+    for (int found, i; (found = getopt_long(argc, argv, "c:H:46qvh", all, NULL)) != -1;) {
+        for (i = 0; i < ROWS && all[i].val != found; i++) continue;
+        if (i == ROWS) return usage("an option isn't known, or lacks its word");
+        const int status = take(&rows[i], optarg);
         if (status) return status;
         if (is_help) print_help();
         const int version = BW_VERSION;

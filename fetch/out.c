@@ -70,14 +70,13 @@ bool out_is_right(const output *it, const bw_mode *mode, uint64_t *len) {
     static uint8_t bytes[DRAIN_LEN];
     bw_hasher hasher = BW_EMPTY;
     const int fd = it->is_there ? open(it->path, O_RDONLY | O_CLOEXEC | O_NONBLOCK) : -1;
-    ssize_t n = -1;
-    *len = 0;
     bool ok = fd >= 0 && !bw_hasher_new(mode, &hasher);
-    while (ok && (n = read(fd, bytes, sizeof bytes)) > 0) {
-        ok = !bw_hasher_update(&hasher, bytes, (size_t)n);
-        *len += (uint64_t)n;
+    *len = 0;
+    for (size_t n = 1; ok && n; *len += n) {
+        n = read_at(fd, *len, bytes, sizeof bytes);
+        ok = !errno && !bw_hasher_update(&hasher, bytes, n);
     }
-    ok = ok && !n && out_has_root(it, &hasher);
+    ok = ok && out_has_root(it, &hasher);
     bw_free(&hasher);
     if (fd >= 0) close(fd);
     return ok;
@@ -190,11 +189,20 @@ static bool give_way(output *it) {
     return !ftruncate(it->fd, (off_t)it->total);
 }
 
-/* Bytes of the blob, to their place and from it. A pipe's lie within the window. */
-bool out_put(output *it, uint64_t from, const uint8_t *bytes, size_t len) {
-    if (it->is_pipe) return memcpy(it->window + from % it->window_len, bytes, len);
+static bool put(output *it, uint64_t from, const void *bytes, size_t len) {
     return write_at(it->fd, from, bytes, len) == len ||
            (give_way(it) && write_at(it->fd, from, bytes, len) == len) || !file_fault(it->part);
+}
+
+/* Bytes of the blob, to their place and from it. A pipe's are one range, within the window. */
+bool out_put(output *it, uint64_t from, const struct iovec *of, int count) {
+    size_t len = 0;
+    if (it->is_pipe) return memcpy(it->window + from % it->window_len, of->iov_base, of->iov_len);
+    for (int i = 0; i < count; i++) len += of[i].iov_len;
+    bool ok = pwritev(it->fd, of, count, (off_t)from) == (ssize_t)len;
+    for (int i = 0; i < count && !ok; from += of[i++].iov_len)
+        if (!put(it, from, of[i].iov_base, of[i].iov_len)) return false;
+    return true;
 }
 
 bool out_get(const output *it, uint64_t from, uint8_t *bytes, size_t len) {
@@ -249,21 +257,19 @@ static void put_parents(const output *it, uint64_t at, const uint8_t *bytes, siz
 
 /* Keeps the parents of an accepted slice that weren't known. A pipe keeps only those above units,
  * as does a file where there is no room for others: that ends no fetch. */
-void out_learn(const output *it, known *above, uint64_t start, uint64_t len, const uint8_t *text) {
-    static _Thread_local uint8_t bytes[GROUP_NODES_MOST * BW_PARENT_LEN];
+void out_learn(const output *it, known *above, const slice *of) {
+    static _Thread_local uint8_t bytes[GROUP_NODES * BW_PARENT_LEN];
     uint64_t at = 0;
     size_t used = 0; /* of those that follow each other, which are written at once */
-    slice of;
-    if (!slice_of(&of, it->total, start, len)) return;
-    text += BW_LENGTH_LEN;
-    for (const bw_placed *node = of.nodes; node < of.nodes + of.count; text += node++->size) {
-        if (node->kind != BW_NODE_PARENT || !know(above, node, text)) continue;
+    for (size_t i = 0; i < of->count; i++) {
+        const bw_placed *node = &of->nodes[i];
+        if (node->kind != BW_NODE_PARENT || !know(above, node, of->found[i])) continue;
         if (node->outboard_at != at + used) {
             put_parents(it, at, bytes, used);
             at = node->outboard_at;
             used = 0;
         }
-        memcpy(bytes + used, text, BW_PARENT_LEN);
+        memcpy(bytes + used, of->found[i], BW_PARENT_LEN);
         used += BW_PARENT_LEN;
     }
     put_parents(it, at, bytes, used);

@@ -3,8 +3,6 @@
 #include <signal.h>
 #include <time.h>
 
-enum { READERS_MOST = 64, COMPUTERS_MOST = 16 };
-
 /* Milliseconds of a clock that doesn't go back. */
 uint64_t now_ms(void) {
     struct timespec t;
@@ -12,18 +10,11 @@ uint64_t now_ms(void) {
     return (uint64_t)t.tv_sec * 1000 + (uint64_t)t.tv_nsec / 1000000;
 }
 
-void pool_new(pool *it, CURLM *wakes) {
-    const long cores = sysconf(_SC_NPROCESSORS_ONLN);
-    *it = (pool){.wakes = wakes};
-    it->lanes[TO_COMPUTE].most = cores < 1 ? 1 : (unsigned)least((uint64_t)cores, COMPUTERS_MOST);
-    it->lanes[TO_READ].most = READERS_MOST;
+void pool_new(pool *it, unsigned most, CURLM *wakes) {
+    *it = (pool){.most = most, .wakes = wakes, .end = &it->first};
     pthread_mutex_init(&it->lock, NULL);
+    pthread_cond_init(&it->wake, NULL);
     pthread_cond_init(&it->gone, NULL);
-    for (lane *of = it->lanes; of < it->lanes + LANES; of++) {
-        of->pool = it;
-        of->end = &of->first;
-        pthread_cond_init(&of->wake, NULL);
-    }
 }
 
 static void finish(pool *it, job *what) {
@@ -35,53 +26,51 @@ static void finish(pool *it, job *what) {
 }
 
 static void *serve(void *with) {
-    lane *of = with;
-    pool *it = of->pool;
+    pool *it = with;
     pthread_mutex_lock(&it->lock);
     while (!it->quit) {
-        job *what = of->first;
+        job *what = it->first;
         if (!what) {
-            of->idle++;
-            pthread_cond_wait(&of->wake, &it->lock);
-            of->idle--;
+            it->idle++;
+            pthread_cond_wait(&it->wake, &it->lock);
+            it->idle--;
             continue;
         }
-        of->first = what->next;
-        if (!of->first) of->end = &of->first;
+        it->first = what->next;
+        if (!it->first) it->end = &it->first;
         pthread_mutex_unlock(&it->lock);
         what->run(what);
         finish(it, what);
         pthread_mutex_lock(&it->lock);
     }
-    of->threads--;
+    it->threads--;
     pthread_cond_signal(&it->gone);
     pthread_mutex_unlock(&it->lock);
     return NULL;
 }
 
 /* One more thread, with all signals left to the thread that decides. Under the lock. */
-static void grow(lane *of) {
+static void grow(pool *it) {
     pthread_t thread;
     sigset_t all, before;
     sigfillset(&all);
     pthread_sigmask(SIG_SETMASK, &all, &before);
-    if (!pthread_create(&thread, NULL, serve, of)) {
+    if (!pthread_create(&thread, NULL, serve, it)) {
         pthread_detach(thread);
-        of->threads++;
+        it->threads++;
     }
     pthread_sigmask(SIG_SETMASK, &before, NULL);
 }
 
-void pool_post(pool *it, unsigned to, job *what) {
-    lane *of = &it->lanes[to];
+void pool_post(pool *it, job *what) {
     what->next = NULL;
     pthread_mutex_lock(&it->lock);
-    if (!of->idle && of->threads < of->most) grow(of);
-    const bool has_thread = of->threads;
+    if (!it->idle && it->threads < it->most) grow(it);
+    const bool has_thread = it->threads;
     if (has_thread) {
-        *of->end = what;
-        of->end = &what->next;
-        pthread_cond_signal(&of->wake);
+        *it->end = what;
+        it->end = &what->next;
+        pthread_cond_signal(&it->wake);
     }
     pthread_mutex_unlock(&it->lock);
     if (has_thread) return;
@@ -109,8 +98,8 @@ bool pool_end(pool *it) {
     until.tv_sec++;
     pthread_mutex_lock(&it->lock);
     it->quit = true;
-    for (lane *of = it->lanes; of < it->lanes + LANES; of++) pthread_cond_broadcast(&of->wake);
-    while (!r && it->lanes[TO_COMPUTE].threads + it->lanes[TO_READ].threads)
+    pthread_cond_broadcast(&it->wake);
+    while (!r && it->threads)
         r = pthread_cond_clockwait(&it->gone, &it->lock, CLOCK_MONOTONIC, &until);
     pthread_mutex_unlock(&it->lock);
     return !r;

@@ -31,7 +31,7 @@ uint64_t mask_in(uint64_t group, run it) {
 
 /* Whether there is such a slice: a blob whose combined encoding has 2^64 bytes has none. */
 bool slice_of(slice *it, uint64_t total, uint64_t start, uint64_t len) {
-    return !bw_slice_nodes(total, start, len, it->nodes, GROUP_NODES_MOST, &it->count);
+    return !bw_slice_nodes(total, start, len, it->nodes, GROUP_NODES, &it->count);
 }
 
 /* --- Parents above units, which any thread may get to know */
@@ -49,7 +49,7 @@ static const uint8_t *known_text(known *all, const bw_placed *it) {
 /* Whether a parent that was verified is new, or below units. */
 bool know(known *all, const bw_placed *it, const uint8_t *text) {
     known *at = known_at(all, it);
-    int state = UNKNOWN;
+    unsigned char state = UNKNOWN;
     if (!at) return true;
     if (!atomic_compare_exchange_strong(&at->state, &state, GETS_KNOWN)) return false;
     memcpy(at->text, text, BW_PARENT_LEN);
@@ -107,16 +107,34 @@ static const uint8_t *find_node(const origin *from, const bw_placed *it) {
     return found;
 }
 
-/* Puts a slice of a group into GROUP_SLICE_MOST bytes. Its length, or 0 where a node is lacking. */
-size_t slice_put(const origin *from, uint64_t total, uint64_t start, uint64_t len, uint8_t *out) {
-    slice of;
-    size_t used = BW_LENGTH_LEN;
-    if (!slice_of(&of, total, start, len)) return 0;
-    claim_length(out, total);
-    for (const bw_placed *it = of.nodes; it < of.nodes + of.count; used += it++->size) {
-        const uint8_t *bytes = it->size ? find_node(from, it) : out;
-        if (!bytes || used + it->size > GROUP_SLICE_MOST) return 0;
-        memcpy(out + used, bytes, it->size);
+/* Whether all nodes of a slice are there. */
+bool slice_find(slice *it, const origin *from, uint64_t total, uint64_t start, uint64_t len) {
+    bool all = slice_of(it, total, start, len);
+    for (size_t i = 0; all && i < it->count; i++) {
+        const bw_placed *node = &it->nodes[i];
+        it->found[i] = node->size ? find_node(from, node) : (const uint8_t *)"";
+        all = it->found[i];
     }
+    return all;
+}
+
+/* Writes the encoding of a slice that was found. Its length. */
+size_t slice_put(const slice *it, uint64_t total, uint8_t *out) {
+    size_t used = BW_LENGTH_LEN;
+    claim_length(out, total);
+    for (size_t i = 0; i < it->count; used += it->nodes[i++].size)
+        memcpy(out + used, it->found[i], it->nodes[i].size);
     return used;
+}
+
+/* Where the chunks of a slice were found. How many ranges of memory these are. */
+int slice_chunks(const slice *it, struct iovec out[BW_GROUP_CHUNKS]) {
+    struct iovec *last = NULL;
+    for (size_t i = 0; i < it->count; i++) {
+        const size_t len = it->nodes[i].size;
+        if (it->nodes[i].kind != BW_NODE_CHUNK) continue;
+        if (last && (uint8_t *)last->iov_base + last->iov_len == it->found[i]) last->iov_len += len;
+        else *(last = last ? last + 1 : out) = (struct iovec){(void *)it->found[i], len};
+    }
+    return last ? (int)(last + 1 - out) : 0;
 }

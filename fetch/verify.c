@@ -1,7 +1,8 @@
 /* The jobs that verify what came, and write it: in the pool's threads, on what an exchange has. */
 #include "fetch.h"
 
-static _Thread_local uint8_t text[GROUP_SLICE_MOST], chunks[GROUP_LEN];
+static _Thread_local uint8_t text[GROUP_TEXT];
+static _Thread_local slice nodes;
 
 typedef enum taken { NOT_THERE, TAKEN, REFUTED } taken;
 
@@ -11,25 +12,39 @@ static bw_slice slice_named(const fetch *f, uint64_t start, uint64_t len) {
     return it;
 }
 
-/* Verifies and keeps chunks of a group, out of what came. What is refused first is at *refused. */
-static taken take(exchange *e, run it, bw_placed *refused) {
+/* Puts a slice together of what came. Its length, or 0 where a node is lacking. */
+static size_t put(const exchange *e, known *above, uint64_t total, const bw_slice *named) {
+    const origin from = {above, e->from->at.kind, &e->seen, &e->parents};
+    const bool is_there = slice_find(&nodes, &from, total, named->start, named->len);
+    return is_there ? slice_put(&nodes, total, text) : 0;
+}
+
+/* Keeps chunks of a group that were verified. */
+static void keep(exchange *e, run of) {
     fetch *f = e->fetch;
-    const uint64_t start = it.first * BW_CHUNK_LEN, len = it.count * BW_CHUNK_LEN;
-    const uint64_t group = it.first / BW_GROUP_CHUNKS;
-    const origin from = {f->known, e->from->at.kind, &e->seen, &e->parents};
-    const bw_slice named = slice_named(f, start, len);
-    const size_t text_len = slice_put(&from, f->total, start, len, text);
-    uint64_t certified, at;
-    size_t used;
-    if (!text_len) return NOT_THERE;
-    if (bw_decode(&named, text, text_len, chunks, sizeof chunks, &used, &certified, &at))
-        return bw_node_at(f->total, start, len, at, refused) ? NOT_THERE : REFUTED;
-    out_learn(&f->out, f->known, start, len, text);
-    if (f->out.is_pipe) memcpy(e->image + start % UNIT_LEN, chunks, used);
-    else if (e->from != &f->own && !out_put(&f->out, start, chunks, used))
+    const uint64_t start = of.first * BW_CHUNK_LEN, group = of.first / BW_GROUP_CHUNKS;
+    struct iovec there[BW_GROUP_CHUNKS];
+    const int count = slice_chunks(&nodes, there);
+    uint8_t *image = f->out.is_pipe ? e->image + start % UNIT_LEN : NULL;
+    out_learn(&f->out, f->known, &nodes);
+    for (int i = 0; image && i < count; image += there[i++].iov_len)
+        memcpy(image, there[i].iov_base, there[i].iov_len);
+    if (!image && e->from != &f->own && !out_put(&f->out, start, there, count))
         e->failed_to_write = true;
-    e->kept[group % UNIT_GROUPS] |= mask_in(group, it);
+    e->kept[group % UNIT_GROUPS] |= mask_in(group, of);
     e->taken++;
+}
+
+/* Verifies chunks of a group, out of what came. What is refused first is at *refused. */
+static taken take(exchange *e, run it, bw_placed *refused) {
+    const fetch *f = e->fetch;
+    const bw_slice named = slice_named(f, it.first * BW_CHUNK_LEN, it.count * BW_CHUNK_LEN);
+    const size_t text_len = put(e, f->known, f->total, &named);
+    uint64_t at;
+    if (!text_len) return NOT_THERE;
+    if (bw_check(&named, text, text_len, &at))
+        return bw_node_at(f->total, named.start, named.len, at, refused) ? NOT_THERE : REFUTED;
+    keep(e, it);
     return TAKEN;
 }
 
@@ -47,14 +62,16 @@ static void blame(exchange *e, run of, const bw_placed *it) {
     e->wrong_parent = it->outboard_at;
 }
 
-/* What is refused is tried in halves, out of the same bytes, down to a chunk. */
+/* What is refused is tried in halves, out of the same bytes, down to a chunk. A half that has the
+ * refused node is false as well, and isn't hashed again. */
 static void salvage(exchange *e, run of, const bw_placed *refused) {
-    const uint64_t half = (of.count + 1) / 2;
+    const uint64_t half = (of.count + 1) / 2, first = refused->start / BW_CHUNK_LEN;
     const run halves[] = {{of.first, half}, {of.first + half, of.count - half}};
     if (of.count == 1) return blame(e, of, refused);
     for (int i = 0; i < 2; i++) {
         bw_placed it = *refused;
-        if (take(e, halves[i], &it) != TAKEN) salvage(e, halves[i], &it);
+        const bool has_it = run_in(halves[i], first, chunks_of(refused->len)).count;
+        if (has_it || take(e, halves[i], &it) != TAKEN) salvage(e, halves[i], &it);
     }
 }
 
@@ -74,17 +91,16 @@ static void run_unit(job *of) {
 static void run_proof(job *of) {
     exchange *e = of->with;
     const uint64_t last = (chunks_of(e->claimed) - 1) * BW_CHUNK_LEN;
-    const origin from = {NULL, e->from->at.kind, &e->seen, &e->parents};
     const bw_slice named = slice_named(e->fetch, last, BW_CHUNK_LEN);
+    const size_t text_len = put(e, NULL, e->claimed, &named);
     uint64_t certified = 0, at = 0;
     bw_placed refused = {0};
-    e->slice_len = slice_put(&from, e->claimed, last, BW_CHUNK_LEN, e->slice);
-    const bw_status r = !e->slice_len ? BW_SHORT
-                                      : bw_decode(&named, e->slice, e->slice_len, e->chunk,
-                                                  sizeof e->chunk, &e->chunk_len, &certified, &at);
-    e->is_certified = !r && certified == e->claimed;
+    e->is_certified = text_len &&
+                      !bw_decode(&named, text, text_len, e->chunk, sizeof e->chunk, &e->chunk_len,
+                                 &certified, &at) &&
+                      certified == e->claimed;
     e->is_refuted = !e->is_certified;
-    e->is_parent_false = r && e->slice_len &&
+    e->is_parent_false = text_len && !e->is_certified &&
                          !bw_node_at(e->claimed, last, BW_CHUNK_LEN, at, &refused) &&
                          refused.kind == BW_NODE_PARENT;
 }
@@ -100,5 +116,5 @@ void verify(exchange *e) {
     e->is_busy = true;
     e->seen = e->parts;
     e->job = (job){.run = e->step == UNIT ? run_unit : run_proof, .done = was_verified, .with = e};
-    pool_post(&e->fetch->hub->pool, TO_COMPUTE, &e->job);
+    pool_post(&e->fetch->hub->computing, &e->job);
 }
