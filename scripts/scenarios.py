@@ -1091,6 +1091,8 @@ class Programs:
         words = rest.split(" ")
         file = words[0]
         match name:
+            case "anew":
+                self.__init__()
             case "blob":
                 self.files[file] = blob_of(int(words[1]))
             case "bytes":

@@ -1,8 +1,9 @@
 """Runs the program on the commands of its scenarios, and compares what it prints and writes with their replies.
 
 crates/bao_gather/scenarios/replies.txt has a command a line, those of lines.txt, and indented below it the reply that scripts/scenarios.py computes from the
-definitions alone. Empty lines and lines that begin with '#' stand between them. A command is one of these, in a folder of its own:
+definitions alone. Empty lines and lines that begin with '#' stand between them. A command is one of these:
 
+    anew                    a scene begins: in a folder of its own, beside the others
     run WORD ..             runs the program on the words, where '$' stands for the digits that it printed last and '_' in a word for a space
     show FILE               the length of FILE, and the first digits of its plain hash, by the program
     blob FILE N             FILE gets the bytes i mod 251, N of them
@@ -21,7 +22,7 @@ import os
 import re
 import subprocess
 
-from cases import PROGRAM, ROOT, Case, changed
+from cases import PROGRAM, ROOT, Case, changed, each
 from scenarios import blob_of
 
 REPLIES = f"{ROOT}/crates/bao_gather/scenarios/replies.txt"
@@ -35,17 +36,19 @@ LARGE = re.compile(r"^blob \w+ [4-9]\d{6}$", re.M)
 LONGEST = 1200
 
 
-def commands():
-    """Returns each command with its reply, in lines."""
+def scenes():
+    """Returns each scene, under its first comment: its commands with their replies, in lines."""
     with open(REPLIES, encoding="utf-8") as it:
         groups = it.read().split("\n\n")
-    found = []
-    for line in "\n".join(it for it in groups if "BRIEF" not in os.environ or not LARGE.search(it)).splitlines():
-        if line.startswith("    "):
-            found[-1][1].append(line[4:])
-        elif line and not line.startswith("#"):
-            found.append((line, []))
-    return found
+    kept = "\n\n".join(it for it in groups if "BRIEF" not in os.environ or not LARGE.search(it))
+    for scene in kept.split("\n\nanew\n\n")[1:]:
+        commands = []
+        for line in scene.splitlines():
+            if line.startswith("    "):
+                commands[-1][1].append(line[4:])
+            elif line and not line.startswith("#"):
+                commands.append((line, []))
+        yield scene.splitlines()[0].removeprefix("# "), commands
 
 
 def lines_of(name, printed):
@@ -125,11 +128,12 @@ def steps_of(words):
     return " ".join(words).replace(";", "\n").encode()
 
 
+@each(scenes())
 class Scenarios(Case):
-    def test_replies(self):
+    def tried(self, commands):
         """Up to the first reply that differs: later commands build on it."""
         scene = Scene(self.folder())
-        for number, (line, wanted) in enumerate(commands(), 1):
+        for number, (line, wanted) in enumerate(commands, 1):
             said = scene.do(line)
             self.assertEqual(said, wanted, f"{PROGRAM}: command {number}, {line}: it says {said}, and not {wanted}")
             if line.startswith("run"):
