@@ -1,5 +1,6 @@
 pub mod SecondPass
 pub mod Results
+pub mod Halves
 pub mod Hashes
 pub mod Encodings
 pub mod Disks

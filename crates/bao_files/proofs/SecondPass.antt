@@ -30,7 +30,7 @@ use Rattle.bao_text.proofs.SubtreeText.{Parts, left_len-Parts, subtree_text-leaf
 use Rattle.bao_files.specs.declared.again.AgainFault.{AgainFault}
 use Rattle.bao_files.specs.declared.ahead.ReadAhead.{ReadAhead}
 use Rattle.bao_files.specs.Again.{Replaces, Sends, WritesAgain}
-use Rattle.bao_files.specs.Ahead.{IsPieceOf, IsRead, IsUnread}
+use Rattle.bao_files.specs.Ahead.{IsPieceOf, IsRead, IsUnread, all_of}
 use Rattle.bao_files.specs.Encoded.{AppendsPart}
 
 -- what a beginning of the first part is of both
@@ -260,7 +260,7 @@ chunk_whole total mode first s begins one =
 -- of a piece of which nothing was read, all is true that is noted
 pub read_none : (contents : Option (List ℕ)) (choice : Choice) (mode : Mode) (it : ReadAhead) → IsUnread it → IsRead contents choice mode it
 read_none contents choice mode it is =
-    subst (λ (value : Result (Option Cv) AgainFault). IfOk value (λ made. IfSome made (λ v. IsPieceOf contents choice mode it.first it.len v.0 it.text.items))) (sym is) tt
+    subst (λ (value : Result (Option Cv) AgainFault). IfOk value (λ made. IfSome made (λ v. IsPieceOf contents choice mode it.first it.len v.0 (all_of it.text)))) (sym is) tt
 
 -- nothing was written of a subtree
 pub unread : (contents : Option (List ℕ)) (total : ℕ) (mode : Mode) (first : ℕ) (parents before : List ℕ) (old : Option (List ℕ)) (result : Result Unit AgainFault) (fault : AgainFault)

@@ -1,5 +1,5 @@
 // A second pass over an input, whose parents the first one kept: its bytes are read again, each piece is verified by the value
-// that the kept parents have for it, and its combined encoding is written, while another thread reads on.
+// that the kept parents have for it, and its combined encoding is written, while other threads read on.
 
 ghost use Rattle.std.specs.Prelude.{◌≡◌, ℕ, ◌+◌, ◌-◌, ◌*◌, ◌^◌, ◌<◌, ◌≤◌, List, length, take, drop, OnErr, OnOk};
 ghost use Rattle.std.specs.Io.KnownBytes.{Appends};
@@ -103,7 +103,7 @@ fn write_subtree<R: Threads + Sync, S: Source + Sync, W: Write>(
         read_chunk(mode, source, asked, first, chunk)?;
         return send(chunk, out);
     }
-    if pieces.fetch(mode, choice, source, asked, first, n)? {
+    if pieces.fetch(rt, mode, choice, source, asked, first, n)? {
         return pieces.write(rt, mode, choice, source, out);
     }
     write_parts(rt, mode, choice, source, first, n, parents, pieces, out)
@@ -162,7 +162,7 @@ fn write_parts<R: Threads + Sync, S: Source + Sync, W: Write>(
 ///
 /// `text` is the outboard encoding of the first reading, and each buffer read must have the value that it has
 /// for it. So what is written is the encoding of bytes with the same hash, or the beginning of it. While one
-/// buffer is written, another thread reads the next; nothing was read into `pieces` before.
+/// buffer is written, other threads read the next; nothing was read into `pieces` before.
 pub(crate) fn write_again<R: Threads + Sync, S: Source + Sync, W: Write>(
     rt: &R,
     mode: &Mode,
