@@ -284,8 +284,8 @@ fn cut_slice<'a, D: Disk, O: Write, E: Write>(
 }
 
 // Decodes the file, and prints how many bytes were written. With `verbose`, reports where the file is damaged if it is refused.
-fn decode<'a, D: Disk, O: Write, E: Write, P: Progress>(
-    alloc: Global,
+fn decode<'a, R: AllocGlobal + Threads + Sync, D: Disk, O: Write, E: Write, P: Progress + Sync>(
+    rt: &R,
     disk: &mut D,
     mode: &Mode,
     digits: &str,
@@ -304,8 +304,8 @@ fn decode<'a, D: Disk, O: Write, E: Write, P: Progress>(
     ensures due { IfErr result (λ fault. IsOfFile fault ⊎ ((fault ≡ Fault.Root) × ¬ IsDigits digits.now) ⊎ ((cause : DecodeFault) × (fault ≡ Fault.Decode cause))) }
 {
     let root = root_of(digits)?;
-    match decode_on(alloc, disk, mode, &root, part, file, path, progress) {
-        Ok(count) => told(print_count(alloc, count, out)),
+    match decode_on(rt, disk, mode, &root, part, file, path, progress) {
+        Ok(count) => told(print_count(rt.alloc(), count, out)),
         Err(fault) => {
             match fault {
                 DecodeFault::Check(fault) if verbose => tell_encoding(disk, part, file, fault, err),
@@ -427,7 +427,7 @@ fn serve_task<'a, R: AllocGlobal + Threads + Sync, D: Disk, O: Write, E: Write, 
             file,
             out: path,
         } => decode(
-            alloc, disk, mode, root, part, verbose, file, path, out, err, progress,
+            rt, disk, mode, root, part, verbose, file, path, out, err, progress,
         ),
         Task::DecodeCopy {
             root,

@@ -1,5 +1,5 @@
 -- An encoding that is verified in blocks, and what is written of it.
-use Rattle.std.proofs.Common.{◌≡◌, ℕ, ◌+◌, ◌-◌, ◌^◌, ◌<◌, ◌≤◌, List, [], ◌∷◌, ◌++◌, length, take, drop, Option, Some, None, IfSome, inl, inr, refl, sym, ap, subst, ◌∙◌, arith, length-append, length-drop}
+use Rattle.std.proofs.Common.{◌≡◌, ℕ, ◌+◌, ◌-◌, ◌^◌, ◌<◌, ◌≤◌, List, [], ◌++◌, length, take, drop, Option, Some, None, IfSome, inl, inr, refl, sym, ap, subst, ◌∙◌, arith, length-append, length-drop}
 use Rattle.std.proofs.KnownBytes.{Appends-nil, Appends-trans}
 use Rattle.std.proofs.Math.Seq.{take-append-add}
 use Rattle.std.proofs.lemmas.Bool.{cases_lt}
@@ -49,17 +49,9 @@ node_stops (Some s) faultless task text fault h low given = node_known task text
 pub all_given : (s text : List ℕ) → text ≡ take (length text) s → length s ≤ length text → text ≡ s
 all_given s text given ends = given ∙ take_all (length text) s ends
 
-drop_none : (n : ℕ) (xs : List ℕ) → length xs ≡ 0 → drop n xs ≡ xs
-drop_none n [] none = drop_all n [] (omega arith)
-drop_none n (x ∷ xs) none = absurd (omega (arith, none))
-
 pub known_all : (contents : Option (List ℕ)) (text : List ℕ) (at : ℕ) → at ≡ length text → GivenAt contents 0 text → IfSome contents (λ s. length s ≤ at) → IfSome contents (λ s. text ≡ s)
 known_all None text at at_is given ends = tt
 known_all (Some s) text at at_is given ends = all_given s text given (omega (arith, ends, at_is))
-
--- nothing has nothing between two places
-nothing_between : (skip end : ℕ) (xs : List ℕ) → length xs ≡ 0 → drop skip (take end xs) ≡ xs
-nothing_between skip end xs none = ap (drop skip) (take_all end xs (omega (arith, none))) ∙ drop_none skip xs none
 
 -- bytes that end within a node
 pub short_stops : (contents : Option (List ℕ)) (faultless : Type 0) (task : CheckTask) (taken more : List ℕ) (at : ℕ) → at ≡ length taken → IsFaultAs task (taken ++ more) (Short (length taken))
@@ -170,58 +162,89 @@ module _ (mode : Mode) (root : List ℕ) (part : Part) where
       let first = decoded_first check text blob (drop (length text) s) it long in
       (first.0, ap (part_bytes part) (sym (rest_of s text given)) ∙ first.1)
 
-  -- the encoding's first bytes were taken, and what they have of the part was written
-  pub record IsBegun (contents : Option (List ℕ)) (total : ℕ) (check : Checking) (at done : ℕ) (old new : Option (List ℕ)) (text blob : List ℕ) : Type 0 where
+  -- the encoding's first bytes were taken, and what they have of the part was written, but for these bytes at its end, which wait for that
+  pub record IsBegun (contents : Option (List ℕ)) (total : ℕ) (check : Checking) (at : ℕ) (old new : Option (List ℕ)) (waiting text blob : List ℕ) : Type 0 where
     pub decodes : HasDecodedAs check own_task text blob
     pub at_is : at ≡ length text
     pub long : 8 ≤ length text
-    pub done_is : done ≡ length blob
     pub each : AreBytes text
     pub given : GivenAt contents 0 text
     pub claims : claimed text ≡ total
-    pub written : Appends old new (drop (skip_of total) (take (end_of total) blob))
+    pub front : List ℕ
+    pub written : Appends old new front
+    pub is : drop (skip_of total) (take (end_of total) blob) ≡ front ++ waiting
 
   pub begun_none : (contents : Option (List ℕ)) (total : ℕ) (check : Checking) (old : Option (List ℕ)) (header : List ℕ) → length header ≡ 8 → AreBytes header → GivenAt contents 0 header
-      → HasDecodedAs check own_task header [] → total ≡ claimed header → IsBegun contents total check 8 0 old old header []
-  begun_none contents total check old header size bytes given it is = record {
-    decodes = it;
-    at_is = sym size;
-    long = omega (arith, size);
-    done_is = refl;
-    each = bytes;
-    given = given;
-    claims = sym is;
-    written = subst (Appends old old) (sym (nothing_between (skip_of total) (end_of total) [] refl)) (Appends-nil old);
-  }
-
-  -- a block more
-  pub begun_more : (contents : Option (List ℕ)) (total : ℕ) (check after : Checking) (at done taken filled : ℕ) (old mid new : Option (List ℕ)) (text blob more piece : List ℕ)
-      → IsBegun contents total check at done old mid text blob → length more ≡ taken → length piece ≡ filled → AreBytes more → GivenAt contents at more → HasDecodedAs after own_task (text ++ more) (blob ++ piece)
-      → Appends mid new (positions done (skip_of total) (end_of total) piece) → IsBegun contents total after (at + taken) (done + filled) old new (text ++ more) (blob ++ piece)
-  begun_more contents total check after at done taken filled old mid new text blob more piece it size filled_is bytes given next wrote =
-      let place : Appends mid new (positions (length blob) (skip_of total) (end_of total) piece) =
-      subst (λ (n : ℕ). Appends mid new (positions n (skip_of total) (end_of total) piece)) it.done_is wrote in
+      → HasDecodedAs check own_task header [] → total ≡ claimed header → IsBegun contents total check 8 old old (positions 0 (skip_of total) (end_of total) []) header []
+  begun_none contents total check old header size bytes given it is =
+      let skip : skip_of total ≡ skip_of total - 0 = omega arith in
+      let end : end_of total ≡ end_of total - 0 = omega arith in
       record {
-        decodes = next;
-        at_is = omega (arith, it.at_is, size, length-append text more);
-        long = omega (arith, it.long, length-append text more);
-        done_is = omega (arith, it.done_is, filled_is, length-append blob piece);
-        each = AreBytes-append text more it.each bytes;
-        given = given_more contents text more at it.at_is it.given given;
-        claims = claimed-append text more it.long ∙ it.claims;
-        written = subst (Appends old new) (sym (between_more (skip_of total) (end_of total) blob piece))
-            (Appends-trans old mid new (drop (skip_of total) (take (end_of total) blob)) (positions (length blob) (skip_of total) (end_of total) piece) it.written place);
+        decodes = it;
+        at_is = sym size;
+        long = omega (arith, size);
+        each = bytes;
+        given = given;
+        claims = sym is;
+        front = [];
+        written = Appends-nil old;
+        is = λ i. drop (skip i) (take (end i) []);
       }
 
+  -- what was waiting was written, too
+  pub begun_sent : (contents : Option (List ℕ)) (total : ℕ) (check : Checking) (at : ℕ) (old mid new : Option (List ℕ)) (waiting text blob : List ℕ)
+      → IsBegun contents total check at old mid waiting text blob → Appends mid new waiting → IsBegun contents total check at old new [] text blob
+  begun_sent contents total check at old mid new waiting text blob it sent = record {
+    decodes = it.decodes;
+    at_is = it.at_is;
+    long = it.long;
+    each = it.each;
+    given = it.given;
+    claims = it.claims;
+    front = it.front ++ waiting;
+    written = Appends-trans old mid new it.front waiting it.written sent;
+    is = it.is ∙ sym (append-nil (it.front ++ waiting));
+  }
+
+  -- a block more, which waits
+  pub begun_more : (contents : Option (List ℕ)) (total : ℕ) (check after : Checking) (at done taken : ℕ) (old new : Option (List ℕ)) (text blob more piece : List ℕ)
+      → IsBegun contents total check at old new [] text blob → done ≡ length blob → length more ≡ taken → AreBytes more → GivenAt contents at more
+      → HasDecodedAs after own_task (text ++ more) (blob ++ piece)
+      → IsBegun contents total after (at + taken) old new (positions done (skip_of total) (end_of total) piece) (text ++ more) (blob ++ piece)
+  begun_more contents total check after at done taken old new text blob more piece it done_is size bytes given next = record {
+    decodes = next;
+    at_is = omega (arith, it.at_is, size, length-append text more);
+    long = omega (arith, it.long, length-append text more);
+    each = AreBytes-append text more it.each bytes;
+    given = given_more contents text more at it.at_is it.given given;
+    claims = claimed-append text more it.long ∙ it.claims;
+    front = it.front;
+    written = it.written;
+    is =
+        between_more (skip_of total) (end_of total) blob piece
+        ∙ (λ i. (it.is ∙ append-nil it.front) i ++ positions (sym done_is i) (skip_of total) (end_of total) piece);
+  }
+
+  -- the part, as far as it was written, and the rest
+  begun_parts : (s : List ℕ) (total : ℕ) (check : Checking) (at : ℕ) (old new : Option (List ℕ)) (waiting text blob : List ℕ) → (it : IsBegun (Some s) total check at old new waiting text blob)
+      → (more : List ℕ) × (part_bytes part s ≡ it.front ++ (waiting ++ more))
+  begun_parts s total check at old new waiting text blob it =
+      let known = decoded_known check s text blob it.decodes it.long it.given in (
+        known.0,
+        known.1
+            ∙ ap (λ (n : ℕ). drop (skip_of n) (take (end_of n) blob) ++ known.0) it.claims
+            ∙ ap (λ (x : List ℕ). x ++ known.0) it.is
+            ∙ append_assoc it.front waiting known.0,
+      )
+
   -- a beginning was written
-  begun_beginning : (s : List ℕ) (total : ℕ) (check : Checking) (at done : ℕ) (old new : Option (List ℕ)) (text blob : List ℕ) → IsBegun (Some s) total check at done old new text blob
+  begun_beginning : (s : List ℕ) (total : ℕ) (check : Checking) (at : ℕ) (old new : Option (List ℕ)) (waiting text blob : List ℕ) → IsBegun (Some s) total check at old new waiting text blob
       → AppendsBeginning old new (part_bytes part s)
-  begun_beginning s total check at done old new text blob it =
-      let known = decoded_known check s text blob it.decodes it.long it.given in
-      let wrote : List ℕ = drop (skip_of total) (take (end_of total) blob) in
-      let all : part_bytes part s ≡ wrote ++ known.0 = known.1 ∙ ap (λ (n : ℕ). drop (skip_of n) (take (end_of n) blob) ++ known.0) it.claims in
-      let front : take (length wrote) (part_bytes part s) ≡ wrote = ap (take (length wrote)) all ∙ take_at wrote known.0 (length wrote) refl in
-      (length wrote, subst (Appends old new) (sym front) it.written)
+  begun_beginning s total check at old new waiting text blob it =
+      let parts = begun_parts s total check at old new waiting text blob it in
+      let front : take (length it.front) (part_bytes part s) ≡ it.front =
+      ap (take (length it.front)) parts.1 ∙ take_at it.front (waiting ++ parts.0) (length it.front) refl in
+      (length it.front, subst (Appends old new) (sym front) it.written)
 
   -- where the length was refused
   pub length_stops : (contents : Option (List ℕ)) (faultless : Type 0) (old : Option (List ℕ)) (fault : PassFault) → IfSome contents (λ s. StopsAs own_task faultless s fault)
@@ -232,40 +255,30 @@ module _ (mode : Mode) (root : List ℕ) (part : Part) where
   length_stops (Some s) faultless old Output stops = absurd stops
 
   -- where a block was
-  pub begun_stops : (contents : Option (List ℕ)) (faultless : Type 0) (total : ℕ) (check : Checking) (at done : ℕ) (old new : Option (List ℕ)) (text blob : List ℕ) (fault : PassFault)
-      → IsBegun contents total check at done old new text blob → IfSome contents (λ s. StopsAs own_task faultless s fault)
+  pub begun_stops : (contents : Option (List ℕ)) (faultless : Type 0) (total : ℕ) (check : Checking) (at : ℕ) (old new : Option (List ℕ)) (waiting text blob : List ℕ) (fault : PassFault)
+      → IsBegun contents total check at old new waiting text blob → IfSome contents (λ s. StopsAs own_task faultless s fault)
       → IfSome contents (λ s. TextStops own_task faultless part s old new fault)
-  begun_stops None faultless total check at done old new text blob fault it stops = tt
-  begun_stops (Some s) faultless total check at done old new text blob (Check fault) it stops = (stops, begun_beginning s total check at done old new text blob it)
-  begun_stops (Some s) faultless total check at done old new text blob Input it stops = (stops, begun_beginning s total check at done old new text blob it)
-  begun_stops (Some s) faultless total check at done old new text blob Output it stops = absurd stops
+  begun_stops None faultless total check at old new waiting text blob fault it stops = tt
+  begun_stops (Some s) faultless total check at old new waiting text blob (Check fault) it stops = (stops, begun_beginning s total check at old new waiting text blob it)
+  begun_stops (Some s) faultless total check at old new waiting text blob Input it stops = (stops, begun_beginning s total check at old new waiting text blob it)
+  begun_stops (Some s) faultless total check at old new waiting text blob Output it stops = absurd stops
 
   -- and where a write failed
-  pub begun_output : (contents : Option (List ℕ)) (faultless : Type 0) (total : ℕ) (check after : Checking) (at done : ℕ) (old mid new : Option (List ℕ)) (text blob more piece : List ℕ)
-      (fault : WriteFault) → IsBegun contents total check at done old mid text blob → GivenAt contents at more → HasDecodedAs after own_task (text ++ more) (blob ++ piece)
-      → WroteOnly mid new (positions done (skip_of total) (end_of total) piece) fault → IfSome contents (λ s. TextStops own_task faultless part s old new Output)
-  begun_output None faultless total check after at done old mid new text blob more piece fault it given next wrote = tt
-  begun_output (Some s) faultless total check after at done old mid new text blob more piece fault it given next wrote =
-      let long : 8 ≤ length (text ++ more) = omega (arith, it.long, length-append text more) in
-      let known = decoded_known after s (text ++ more) (blob ++ piece) next long (given_more (Some s) text more at it.at_is it.given given) in
-      let claims : claimed (text ++ more) ≡ total = claimed-append text more it.long ∙ it.claims in
-      let had : List ℕ = drop (skip_of total) (take (end_of total) blob) in
-      let now : List ℕ = positions (length blob) (skip_of total) (end_of total) piece in
-      let all : part_bytes part s ≡ had ++ (now ++ known.0) =
-      known.1
-      ∙ ap (λ (n : ℕ). drop (skip_of n) (take (end_of n) (blob ++ piece)) ++ known.0) claims
-      ∙ ap (λ (x : List ℕ). x ++ known.0) (between_more (skip_of total) (end_of total) blob piece)
-      ∙ append_assoc had now known.0 in
-      begins old mid new had now known.0 (part_bytes part s) fault all it.written
-      (subst (λ (n : ℕ). WroteOnly mid new (positions n (skip_of total) (end_of total) piece) fault) it.done_is wrote)
+  pub begun_output : (contents : Option (List ℕ)) (faultless : Type 0) (total : ℕ) (check : Checking) (at : ℕ) (old mid new : Option (List ℕ)) (waiting text blob : List ℕ) (fault : WriteFault)
+      → IsBegun contents total check at old mid waiting text blob → WroteOnly mid new waiting fault → IfSome contents (λ s. TextStops own_task faultless part s old new Output)
+  begun_output None faultless total check at old mid new waiting text blob fault it wrote = tt
+  begun_output (Some s) faultless total check at old mid new waiting text blob fault it wrote =
+      let parts = begun_parts s total check at old mid waiting text blob it in
+      begins old mid new it.front waiting parts.0 (part_bytes part s) fault parts.1 it.written wrote
 
   -- all of it
-  pub begun_all : (contents : Option (List ℕ)) (total : ℕ) (check : Checking) (at done : ℕ) (old new : Option (List ℕ)) (text blob : List ℕ)
-      → IsBegun contents total check at done old new text blob → IsAcceptedAs own_task text → decoded text (part_start part) (part_len part) ≡ blob → IfSome contents (λ s. length s ≤ at) → at ≤ 2 ^ 63
+  pub begun_all : (contents : Option (List ℕ)) (total : ℕ) (check : Checking) (at : ℕ) (old new : Option (List ℕ)) (text blob : List ℕ)
+      → IsBegun contents total check at old new [] text blob → IsAcceptedAs own_task text → decoded text (part_start part) (part_len part) ≡ blob → IfSome contents (λ s. length s ≤ at) → at ≤ 2 ^ 63
       → (x : List ℕ) × IsWholeText contents mode root part x × (last_written part total - first_written part total ≡ written_count part x) × Appends old new (part_bytes part x)
-  begun_all contents total check at done old new text blob it accepted blob_is ends fits = (
+  begun_all contents total check at old new text blob it accepted blob_is ends fits = (
     text,
     record { accepted = accepted; each = it.each; fits = omega (arith, fits, it.at_is); known = known_all contents text at it.at_is it.given ends },
     ap (λ (n : ℕ). last_written part n - first_written part n) (sym it.claims),
-    subst (λ (T : Type 0). T) (λ i. Appends old new (drop (skip_of (sym it.claims i)) (take (end_of (sym it.claims i)) (sym blob_is i)))) it.written,
+    subst (λ (T : Type 0). T) (λ i. Appends old new (drop (skip_of (sym it.claims i)) (take (end_of (sym it.claims i)) (sym blob_is i))))
+        (subst (Appends old new) (sym (it.is ∙ append-nil it.front)) it.written),
   )

@@ -1,18 +1,24 @@
 -- What a pass over an encoding has verified, and written of a part of the blob.
 use Rattle.std.specs.Borrow.{Bor}
-use Rattle.std.specs.Prelude.{◌≡◌, ◌⊎◌, ℕ, ◌^◌, ◌<◌, ◌≤◌, List, length, Option, IfSome, Result, Ok, Err}
+use Rattle.std.specs.Prelude.{◌≡◌, ◌⊎◌, ℕ, ◌+◌, ◌^◌, ◌<◌, ◌≤◌, List, ◌++◌, length, take, Option, None, IfErr, IfOk, IfSome, Result, Ok, Err}
 use Rattle.std.specs.Io.KnownBytes.{Appends, Keeps}
 use Rattle.b3tree.specs.declared.mode.Mode.{Mode}
 use Rattle.b3tree.specs.Valid.{AreBytes}
+use Rattle.b3par.specs.Given.{GivenAt}
+use Rattle.bao_check.specs.Checking.{HasDecodedAs, HasTakenAs}
+use Rattle.bao_check.specs.Decoded.{decoded}
+use Rattle.bao_check.specs.declared.checking.Checking.{Checking}
+use Rattle.bao_check.specs.declared.checking.Decoded.{Decoded}
 use Rattle.bao_check.specs.declared.fault.CheckFault.{CheckFault}
 use Rattle.bao_check.specs.declared.fault.CheckFault.TheVariants as check
-use Rattle.bao_check.specs.Waiting.{CheckTask, IsFaultAs}
+use Rattle.bao_check.specs.Waiting.{CheckTask, IsAcceptedAs, IsFaultAs}
 use Rattle.bao_files.specs.Printed.{AppendsBeginning}
 use Rattle.bao_files.specs.declared.fault.FileFault.TheVariants.{Memory, Read, Write}
 use Rattle.bao_text.specs.declared.kinds.Part.{Part}
 use Rattle.bao_decode.specs.declared.copy_pass.PassFault.{PassFault}
 use Rattle.bao_decode.specs.declared.copy_pass.PassFault.TheVariants.{Check, Input, Output}
 use Rattle.bao_decode.specs.declared.decode_fault.DecodeFault.{DecodeFault}
+use Rattle.bao_decode.specs.declared.text_pass.Blocks.{Blocks}
 use Rattle.bao_decode.specs.declared.decode_fault.DecodeFault.TheVariants as decode
 use Rattle.bao_decode.specs.Ranges.{IsPartText, IsVerifiedText, part_bytes, part_len, part_start, written_count}
 
@@ -108,3 +114,19 @@ DecodeStops mode root part faultless text file path (decode.Check fault) = IsTex
 -- an encoding of these bytes was accepted, and what it has of the part, so many bytes, written
 abbrev pub IsDecoded : Mode → List ℕ → Part → List ℕ → ℕ → Option (List ℕ) → Option (List ℕ) → Type 0
 IsDecoded mode root part text count old new = IsVerifiedText mode root part text × (count ≡ written_count part text) × Appends old new (part_bytes part text)
+
+-- each of the buffers has this length
+abbrev pub HaveLen : ℕ → Blocks → Type 0
+HaveLen n it = (length it.block.items ≡ n) × (length it.room.items ≡ n) × (length it.before.items ≡ n)
+
+-- what the next block of an encoding comes to, from an offset on: how much of it is taken, and how many of the blob's bytes are in `room`; or nothing, at
+-- its end; or why there is none
+pub record IsNext (contents : Option (List ℕ)) (faultless : Type 0) (old new : Checking) (at : ℕ) (block room : List ℕ) (result : Result (Option Decoded) PassFault) : Type 0 where
+  pub some : IfOk result (λ next. IfSome next (λ step. (1 ≤ step.taken) × (step.filled ≤ step.taken) × (step.filled ≤ length room) × (at + step.taken ≤ 2 ^ 63 + 2 ^ 32)))
+  pub step : (task : CheckTask) (taken blob : List ℕ) → HasDecodedAs old task taken blob → at ≡ length taken → GivenAt contents 0 taken
+      → IfOk result (λ next. IfSome next (λ step. (more : List ℕ) × (length more ≡ step.taken) × (more ≡ take step.taken block) × GivenAt contents at more
+      × HasDecodedAs new task (taken ++ more) (blob ++ take step.filled room)))
+  pub last : (task : CheckTask) (taken blob : List ℕ) → HasDecodedAs old task taken blob → at ≡ length taken
+      → IfOk result (λ next. next ≡ None → IsAcceptedAs task taken × (decoded taken task.start task.len ≡ blob) × IfSome contents (λ s. length s ≤ at) × (at ≤ 2 ^ 63))
+  pub fault : (task : CheckTask) (taken : List ℕ) → HasTakenAs old task taken → at ≡ length taken → GivenAt contents 0 taken
+      → IfErr result (λ fault. IfSome contents (λ s. StopsAs task faultless s fault))

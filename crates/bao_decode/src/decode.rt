@@ -11,19 +11,20 @@ ghost use Rattle.bao_check.specs.declared.fault.CheckFault.TheVariants as CheckF
 ghost use Rattle.bao_decode.specs.Copies.{LeavesUnknown};
 ghost use Rattle.bao_decode.specs.DecodeFaults.{IsQuietDecode, NamesDecodePaths};
 ghost use Rattle.bao_decode.specs.Ranges.{IsFileFault, IsPartText, IsVerifiedText, part_bytes, written_count};
-ghost use Rattle.bao_decode.specs.TextPass.{DecodeStops, DecodesKnown, DraftsKnown, HasPassed, IsDecoded, NamesDraftPaths};
+ghost use Rattle.bao_decode.specs.TextPass.{DecodeStops, DecodesKnown, DraftsKnown, HasPassed, HaveLen, IsDecoded, NamesDraftPaths};
 
 use crate::copy_pass::PassFault;
 use crate::decode_fault::DecodeFault;
 use crate::plain_copy::{first_fault, flushed, regular_len, second_fault, shown_len};
-use crate::text_pass::{BLOCK_LEN, slice_of, text_pass, verify_pass};
+use crate::text_pass::{Blocks, slice_of, text_pass, verify_pass};
 use b3par::Source;
 use b3tree::{Hash, Mode};
 use bao_check::{CheckFault, Checked, check_stream, read_checked};
 use bao_files::{Disk, FileFault, Progress, Shown};
 use bao_text::Part;
-use std::alloc::Global;
+use std::alloc::{AllocGlobal, Global};
 use std::io::{BufReader, Read, Write};
+use std::thread::Threads;
 
 // Whether the reader has a byte left. It reads that byte.
 fn has_more<R: Read>(reader: &mut R) -> Result<bool, CheckFault>
@@ -79,39 +80,25 @@ pub fn read_text<'a, R: Read>(
     ended(piece, has_more(reader)?)
 }
 
-// Two buffers: for a block of an encoding, and for the blob's bytes in it.
-pub(crate) fn rooms(alloc: Global) -> Option<(Vec<u8>, Vec<u8>)>
-    ensures { IfSome result (λ rooms. (length rooms.0.items ≡ 294912) × (length rooms.1.items ≡ 294912)) }
-{
-    let Ok(block) = vec![in alloc; 0u8; BLOCK_LEN] else {
-        return None;
-    };
-    let Ok(room) = vec![in alloc; 0u8; BLOCK_LEN] else {
-        return None;
-    };
-    Some((block, room))
-}
-
 // Writes the part's bytes of an encoding that was verified before. Each block is verified again before its bytes are written.
-fn write_verified<'a, S: Source, W: Write>(
+fn write_verified<'a, R: Threads + Sync, S: Source + Sync, W: Write>(
+    rt: &R,
     mode: &Mode,
     root: &Hash,
     part: &Part,
     source: &S,
     file: &'a str,
-    block: &mut [u8],
-    room: &mut [u8],
+    blocks: &mut Blocks,
     out: &mut W,
     path: &'a str,
 ) -> Result<u64, DecodeFault<'a>>
-    requires block { length block.old ≡ 294912 }
-    requires room { length room.old ≡ 294912 }
+    requires { HaveLen 294912 blocks.old }
     ensures some { IfOk result (λ count. (text : List ℕ) × IsVerifiedText mode.now root.now.0 part.now text × (count ≡ written_count part.now text)
         × Appends (W.contents out.old) (W.contents out.new) (part_bytes part.now text)) }
     ensures known { IfSome (S.contents source.now) (λ s. HasPassed mode.now root.now.0 part.now s → DecodesKnown mode.now root.now.0 part.now (S.faultless source.now) s file.entry path.entry (W.contents out.old) (W.contents out.new) result) }
     ensures fault { IfErr result (LeavesUnknown file.entry path.entry (W.contents out.old) (W.contents out.new)) }
 {
-    match text_pass(mode, root, part, source, block, room, out) {
+    match text_pass(rt, mode, root, part, source, blocks, out) {
         Ok(count) => flushed(count, path, out),
         Err(fault) => Err(second_fault(fault, file, path)),
     }
@@ -121,8 +108,9 @@ fn write_verified<'a, S: Source, W: Write>(
 /// how many the part has.
 ///
 /// `source` is the encoding, in the file at `file`, and `out` the file at `path`, which is flushed. The encoding is
-/// read twice by position, in blocks of 288 KiB: first to verify all of it, then to write it, where each block is
-/// verified again before its bytes are written. The memory is that of two blocks.
+/// read twice by position, in blocks of 288 KiB: first to verify all of it, then to write it. Each block is verified
+/// again before its bytes are written, and meanwhile another thread verifies the next one. The memory is that of three
+/// blocks.
 ///
 /// Refuses with `Check` and the encoding's first fault, as the Bao specification orders them: `Short` (501) or
 /// `Mismatch` (502) with the offset of the node, `Trailing` (503) with the offset of the encoding's end, or `Memory`
@@ -130,8 +118,8 @@ fn write_verified<'a, S: Source, W: Write>(
 /// In these cases nothing was written. Refuses with `File`, `Read` and `file` if a read fails, or if the encoding
 /// has changed after the first pass; and with `File`, `Write` and `path` if writing fails, which happens only if the
 /// encoding was accepted. After these two a beginning of the part's bytes may have been written.
-pub fn write_decoded<'a, S: Source, W: Write>(
-    alloc: Global,
+pub fn write_decoded<'a, R: Threads + Sync + AllocGlobal, S: Source + Sync, W: Write>(
+    rt: &R,
     mode: &Mode,
     root: &Hash,
     part: &Part,
@@ -145,7 +133,7 @@ pub fn write_decoded<'a, S: Source, W: Write>(
     ensures known { IfSome (S.contents source.now) (λ s. DecodesKnown mode.now root.now.0 part.now (S.faultless source.now) s file.entry path.entry (W.contents out.old) (W.contents out.new) result) }
     ensures fault { IfErr result (LeavesUnknown file.entry path.entry (W.contents out.old) (W.contents out.new)) }
 {
-    let Some((mut block, mut room)) = rooms(alloc) else {
+    let Ok(mut blocks) = Blocks::new(rt.alloc()) else {
         return Err(DecodeFault::File(FileFault::Memory));
     };
     match verify_pass(
@@ -153,38 +141,29 @@ pub fn write_decoded<'a, S: Source, W: Write>(
         root,
         part,
         source,
-        block.as_mut_slice(),
-        room.as_mut_slice(),
+        blocks.block.as_mut_slice(),
+        blocks.room.as_mut_slice(),
     ) {
         Ok(()) => {}
         Err(fault) => return Err(first_fault(fault, file)),
     }
-    write_verified(
-        mode,
-        root,
-        part,
-        source,
-        file,
-        block.as_mut_slice(),
-        room.as_mut_slice(),
-        out,
-        path,
-    )
+    write_verified(rt, mode, root, part, source, file, &mut blocks, out, path)
 }
 
 /// Writes the part's bytes of an encoding to `out` while the encoding is verified, and returns how many the part has.
 ///
 /// The parameters are those of [`write_decoded`]. The encoding is read once: a block's bytes are written as soon as
-/// the block is verified. So `out` must be an output that nobody reads before this has returned `Ok`, such as a draft
-/// that replaces a file later. If a write fails, the encoding is read once more from its start, to find out whether
-/// it is accepted: its own fault is returned rather than that of the output.
+/// the block is verified, while another thread verifies the next one. So `out` must be an output that nobody reads
+/// before this has returned `Ok`, such as a draft that replaces a file later. If a write fails, the encoding is read
+/// once more from its start, to find out whether it is accepted: its own fault is returned rather than that of the
+/// output.
 ///
 /// Refuses with `Check` and the encoding's first fault, as [`write_decoded`] does; with `File`, `Read` and `file` if a
 /// read fails; and with `File`, `Write` and `path` if writing fails and the encoding is accepted. After these three a
 /// beginning of the part's bytes may have been written. Refuses with `File` and `Memory` if there is none for the
 /// blocks; nothing was then written.
-pub fn write_draft<'a, S: Source, W: Write>(
-    alloc: Global,
+pub fn write_draft<'a, R: Threads + Sync + AllocGlobal, S: Source + Sync, W: Write>(
+    rt: &R,
     mode: &Mode,
     root: &Hash,
     part: &Part,
@@ -198,18 +177,10 @@ pub fn write_draft<'a, S: Source, W: Write>(
     ensures known { IfSome (S.contents source.now) (λ s. DraftsKnown mode.now root.now.0 part.now (S.faultless source.now) s file.entry path.entry (W.contents out.old) (W.contents out.new) result) }
     ensures paths { IfErr result (NamesDraftPaths file.entry path.entry) }
 {
-    let Some((mut block, mut room)) = rooms(alloc) else {
+    let Ok(mut blocks) = Blocks::new(rt.alloc()) else {
         return Err(DecodeFault::File(FileFault::Memory));
     };
-    match text_pass(
-        mode,
-        root,
-        part,
-        source,
-        block.as_mut_slice(),
-        room.as_mut_slice(),
-        out,
-    ) {
+    match text_pass(rt, mode, root, part, source, &mut blocks, out) {
         Ok(count) => return flushed(count, path, out),
         Err(PassFault::Check(fault)) => return Err(DecodeFault::Check(fault)),
         Err(PassFault::Input) => return Err(DecodeFault::File(FileFault::Read(file))),
@@ -221,8 +192,8 @@ pub fn write_draft<'a, S: Source, W: Write>(
         root,
         part,
         source,
-        block.as_mut_slice(),
-        room.as_mut_slice(),
+        blocks.block.as_mut_slice(),
+        blocks.room.as_mut_slice(),
     ) {
         Ok(()) => Err(DecodeFault::File(FileFault::Write(path))),
         Err(fault) => Err(first_fault(fault, file)),
@@ -266,8 +237,8 @@ fn read_input_text<'a, I: Read + Drop>(
 }
 
 // Writes the part's bytes of an encoding that can't be read twice: it is read into memory first.
-fn write_kept<'a, I: Read + Drop, W: Write>(
-    alloc: Global,
+fn write_kept<'a, R: Threads + Sync + AllocGlobal, I: Read + Drop, W: Write>(
+    rt: &R,
     mode: &Mode,
     root: &Hash,
     part: &Part,
@@ -281,21 +252,22 @@ fn write_kept<'a, I: Read + Drop, W: Write>(
     ensures err { IfErr result IsQuietDecode }
     ensures paths { IfErr result (NamesDecodePaths file.entry path.entry) }
 {
+    let alloc = rt.alloc();
     let mut text = Vec::new(alloc);
     if let Err(fault) = read_input_text(alloc, mode, root, part, input, file, &mut text) {
         return Err(fault);
     }
-    let Some((mut block, mut room)) = rooms(alloc) else {
+    let Ok(mut blocks) = Blocks::new(rt.alloc()) else {
         return Err(DecodeFault::File(FileFault::Memory));
     };
     write_verified(
+        rt,
         mode,
         root,
         part,
         &text.as_slice(),
         file,
-        block.as_mut_slice(),
-        room.as_mut_slice(),
+        &mut blocks,
         out,
         path,
     )
@@ -303,8 +275,8 @@ fn write_kept<'a, I: Read + Drop, W: Write>(
 
 // Verifies the encoding in `input`, the file at `file` as it was opened, and writes the part's bytes to `out`, the file at `path`. The
 // progress of reading a long regular file is reported to `progress`.
-fn write_input<'a, D: Disk, P: Progress>(
-    alloc: Global,
+fn write_input<'a, R: Threads + Sync + AllocGlobal, D: Disk, P: Progress + Sync>(
+    rt: &R,
     disk: &D,
     mode: &Mode,
     root: &Hash,
@@ -323,17 +295,17 @@ fn write_input<'a, D: Disk, P: Progress>(
     ensures paths { IfErr result (NamesDecodePaths file.entry path.entry) }
 {
     let Some(len) = regular_len(disk.extent(&input)) else {
-        return write_kept(alloc, mode, root, part, input, file, out, path);
+        return write_kept(rt, mode, root, part, input, file, out, path);
     };
     let is_replaced = disk.is_replaced(out);
     if !is_replaced && disk.is_same(&input, path) {
-        return write_kept(alloc, mode, root, part, input, file, out, path);
+        return write_kept(rt, mode, root, part, input, file, out, path);
     }
     let shown = Shown::over(input, shown_len(len), progress);
     if is_replaced {
-        write_draft(alloc, mode, root, part, &shown, file, out, path)
+        write_draft(rt, mode, root, part, &shown, file, out, path)
     } else {
-        write_decoded(alloc, mode, root, part, &shown, file, out, path)
+        write_decoded(rt, mode, root, part, &shown, file, out, path)
     }
 }
 
@@ -353,8 +325,8 @@ fn write_input<'a, D: Disk, P: Progress>(
 /// into memory. After a refusal all files are unchanged, if the output can be replaced. If it can't, it may have a
 /// beginning of the part's bytes after `Write`, and after `Read` in the second pass, if the file can't be read again or
 /// has changed.
-pub fn decode_on<'a, D: Disk, P: Progress>(
-    alloc: Global,
+pub fn decode_on<'a, R: Threads + Sync + AllocGlobal, D: Disk, P: Progress + Sync>(
+    rt: &R,
     disk: &mut D,
     mode: &Mode,
     root: &Hash,
@@ -377,7 +349,7 @@ pub fn decode_on<'a, D: Disk, P: Progress>(
         return Err(DecodeFault::File(FileFault::Memory));
     };
     let count = write_input(
-        alloc, disk, mode, root, part, input, file, &mut out, path, progress,
+        rt, disk, mode, root, part, input, file, &mut out, path, progress,
     )?;
     disk.finish(out, path)?;
     Ok(count)

@@ -17,13 +17,12 @@ ghost use Rattle.bao_decode.specs.TextPass.{DecodeStops, EncodesKnown};
 ghost use Rattle.bao_decode.specs.Weaving.{CutBesideStops, IsCutBeside};
 
 use crate::cut::Cut;
-use crate::decode::rooms;
 use crate::decode_fault::DecodeFault;
 use crate::encoding_pass::encoding_pass;
 use crate::forward::Forward;
 use crate::origin::origin_of;
 use crate::plain_copy::{first_fault, flushed, second_fault};
-use crate::text_pass::verify_pass;
+use crate::text_pass::{Blocks, verify_pass};
 use crate::woven::Woven;
 use b3par::Source;
 use b3tree::{Hash, Mode};
@@ -48,7 +47,7 @@ fn write_encoding<'a, F: Forward, W: Write>(
     ensures known { IfSome (F.contents source.now) (λ s. EncodesKnown mode.now root.now.0 part.now (F.faultless source.now) s file.entry path.entry (W.contents out.old) (W.contents out.new) result) }
     ensures fault { IfErr result (LeavesUnknown file.entry path.entry (W.contents out.old) (W.contents out.new)) }
 {
-    let Some((mut block, mut room)) = rooms(alloc) else {
+    let Ok(mut blocks) = Blocks::new(alloc) else {
         return Err(DecodeFault::File(FileFault::Memory));
     };
     match verify_pass(
@@ -56,8 +55,8 @@ fn write_encoding<'a, F: Forward, W: Write>(
         root,
         part,
         source,
-        block.as_mut_slice(),
-        room.as_mut_slice(),
+        blocks.block.as_mut_slice(),
+        blocks.room.as_mut_slice(),
     ) {
         Ok(()) => {}
         Err(fault) => return Err(first_fault(fault, file)),
@@ -67,8 +66,8 @@ fn write_encoding<'a, F: Forward, W: Write>(
         root,
         part,
         source,
-        block.as_mut_slice(),
-        room.as_mut_slice(),
+        blocks.block.as_mut_slice(),
+        blocks.room.as_mut_slice(),
         out,
     ) {
         Ok(count) => flushed(count, path, out),
@@ -81,7 +80,7 @@ fn write_encoding<'a, F: Forward, W: Write>(
 ///
 /// `encoding` is the file at `file`, and `out` the file at `path`, which is flushed. Only the length and the slice's
 /// own nodes are read of the encoding, twice by position, in blocks of 288 KiB: first to verify all of them, then to
-/// write them, where each block is verified again before it is written. The memory is that of two blocks.
+/// write them, where each block is verified again before it is written. The memory is that of three blocks.
 ///
 /// Refuses with `Check` and the slice's first fault, as the Bao specification orders them, with the offset of the node
 /// in the slice: `Short` (501) if the encoding ends before the node does, `Mismatch` (502), or `Memory` (504) if the slice

@@ -1,6 +1,7 @@
 // One pass over an encoding, which is read by position, in blocks. Each block is verified, then its bytes of a part of the blob are written.
 
-ghost use Rattle.std.specs.Prelude.{◌≡◌, ℕ, ◌+◌, ◌-◌, ◌*◌, ◌/◌, ◌^◌, ◌<◌, ◌≤◌, List, [], ◌++◌, length, take, drop, None, IfErr, IfOk, IfSome};
+ghost use Rattle.std.specs.Prelude.{◌≡◌, ℕ, ◌+◌, ◌-◌, ◌*◌, ◌/◌, ◌^◌, ◌<◌, ◌≤◌, List, [], ◌++◌, ◌⊎◌, length, take, drop, Err, None, Ok, IfErr, IfOk, IfSome, OnOk};
+ghost use Rattle.std.specs.Thread.{IsSync};
 ghost use Rattle.std.specs.Io.KnownBytes.{Appends};
 ghost use Rattle.bao_check.specs.Checking.{HasDecodedAs, HasTakenAs};
 ghost use Rattle.bao_check.specs.Decoded.{decoded};
@@ -8,17 +9,22 @@ ghost use Rattle.bao_check.specs.Waiting.{CheckTask, IsAcceptedAs};
 ghost use Rattle.b3par.specs.Given.{GivenAt};
 ghost use Rattle.bao_text.specs.Cut.{claimed};
 ghost use Rattle.bao_decode.specs.Ranges.{first_decoded, first_written, last_written, part_bytes, part_len, part_start, positions, written_count};
-ghost use Rattle.bao_decode.specs.TextPass.{IsWholeText, TextStops, StopsAs, task_of_part};
+ghost use Rattle.bao_text.specs.Faults.{WroteOnly};
+ghost use Rattle.bao_decode.specs.declared.copy_pass.PassFault.TheVariants as PassFault;
+ghost use Rattle.bao_decode.specs.TextPass.{HaveLen, IsNext, IsWholeText, TextStops, StopsAs, task_of_part};
 
 use crate::copy_pass::{PassFault, fill_most};
 use crate::forward::Forward;
 use b3tree::{CHUNK_LEN, Hash, Mode, bytes_are};
 use bao_check::{CheckFault, Checking, Decoded};
-use bao_text::{Choice, LENGTH_LEN, Part, claimed, write_text};
+use bao_text::{Choice, LENGTH_LEN, Part, WriteFault, claimed, write_text};
+use std::alloc::{AllocError, Global};
 use std::io::Write;
+use std::mem::swap;
+use std::thread::{Threads, join_mut};
 
 /// How many bytes of an encoding are read at once: a subtree of 256 chunks, and the parents above it.
-pub(crate) const BLOCK_LEN: usize = 288 << 10;
+const BLOCK_LEN: usize = 288 << 10;
 
 // No encoding is read past this offset: no file has a byte there.
 const LAST_PLACE: u64 = 1 << 63;
@@ -162,22 +168,84 @@ pub(crate) fn verify_pass<F: Forward>(
     Ok(())
 }
 
+/// The buffers of a pass that writes: for a block of an encoding, for the blob's bytes in it, and for those of the
+/// block before it.
+#[derive(Drop)]
+pub(crate) struct Blocks {
+    pub(crate) block: Vec<u8>,
+    pub(crate) room: Vec<u8>,
+    before: Vec<u8>,
+}
+
+impl Blocks {
+    /// Returns buffers of [`BLOCK_LEN`] bytes each.
+    pub(crate) fn new(alloc: Global) -> Result<Blocks, AllocError>
+        ensures { IfOk result (HaveLen 294912) }
+    {
+        let block = vec![in alloc; 0u8; BLOCK_LEN]?;
+        let room = vec![in alloc; 0u8; BLOCK_LEN]?;
+        let before = vec![in alloc; 0u8; BLOCK_LEN]?;
+        Ok(Blocks {
+            block,
+            room,
+            before,
+        })
+    }
+}
+
+// As `next_block`, while this thread writes bytes of the blocks before. If both fail, it answers that writing did.
+fn next_while_writing<R: Threads + Sync, F: Forward + Sync, W: Write>(
+    rt: &R,
+    checking: &mut Checking,
+    source: &F,
+    at: u64,
+    block: &mut [u8],
+    room: &mut [u8],
+    written: &[u8],
+    out: &mut W,
+) -> Result<Option<Decoded>, PassFault>
+    requires block { (1024 ≤ length block.old) × (length block.old ≤ 2 ^ 32) }
+    requires room { length block.old ≤ length room.old }
+    ensures sizes { (length block.new ≡ length block.old) × (length room.new ≡ length room.old) }
+    ensures sent { OnOk result (Appends (W.contents out.old) (W.contents out.new) written.now) }
+    ensures next { IfOk result (λ next. IsNext (F.contents source.now) (F.faultless source.now) checking.old checking.new at block.new room.new (Ok next)) }
+    ensures stopped { IfErr result (λ fault. ((fault ≡ PassFault.Output) × ((why : WriteFault) × WroteOnly (W.contents out.old) (W.contents out.new) written.now why))
+        ⊎ (Appends (W.contents out.old) (W.contents out.new) written.now × IsNext (F.contents source.now) (F.faultless source.now) checking.old checking.new at block.new room.new (Err fault))) }
+{
+    let (next, sent) = join_mut(
+        rt,
+        &mut || -> Result<Option<Decoded>, PassFault>
+            requires { IsSync F.row × ((1024 ≤ length block.now) × (length block.now ≤ 2 ^ 32) × (length block.now ≤ length room.now)) }
+            ensures sizes { (length block.exit.now ≡ length block.entry.now) × (length room.exit.now ≡ length room.entry.now) }
+            ensures next { IsNext (F.contents source.entry.now) (F.faultless source.entry.now) checking.entry.now checking.exit.now at block.exit.now room.exit.now result }
+        { next_block(checking, source, at, block, room) },
+        &mut || -> Result<(), WriteFault>
+            ensures text { OnOk result (Appends (W.contents out.entry.now) (W.contents out.exit.now) written.entry.now) }
+            ensures err { IfErr result (WroteOnly (W.contents out.entry.now) (W.contents out.exit.now) written.entry.now) }
+        { write_text(written, out) },
+    );
+    match sent {
+        Ok(()) => next,
+        Err(_) => Err(PassFault::Output),
+    }
+}
+
 /// Reads an encoding once, in blocks, verifies it as that of this part of the blob with this root, writes each block's
-/// bytes of the part to `out` once it is verified, and returns how many bytes the part has.
+/// bytes of the part to `out` once it is verified, and returns how many bytes the part has. While they are written,
+/// another thread reads and verifies the next block.
 ///
 /// Refuses with the encoding's first fault, or if a read or a write fails; a beginning may have been written.
-pub(crate) fn text_pass<F: Forward, W: Write>(
+pub(crate) fn text_pass<R: Threads + Sync, F: Forward + Sync, W: Write>(
+    rt: &R,
     mode: &Mode,
     root: &Hash,
     part: &Part,
     source: &F,
-    block: &mut [u8],
-    room: &mut [u8],
+    blocks: &mut Blocks,
     out: &mut W,
 ) -> Result<u64, PassFault>
-    requires block { (1024 ≤ length block.old) × (length block.old ≤ 2 ^ 32) }
-    requires room { length block.old ≤ length room.old }
-    ensures sizes { (length block.new ≡ length block.old) × (length room.new ≡ length room.old) }
+    requires { HaveLen 294912 blocks.old }
+    ensures sizes { HaveLen 294912 blocks.new }
     ensures ok { IfOk result (λ count. (text : List ℕ) × IsWholeText (F.contents source.now) mode.now root.now.0 part.now text × (count ≡ written_count part.now text)
         × Appends (W.contents out.old) (W.contents out.new) (part_bytes part.now text)) }
     ensures err { IfErr result (λ fault. IfSome (F.contents source.now) (λ s.
@@ -191,21 +259,24 @@ pub(crate) fn text_pass<F: Forward, W: Write>(
     let base = decoded_from(part, total);
     let (skip, end) = (first.saturating_sub(base), last.saturating_sub(base));
     let mut at = LENGTH_LEN as u64;
+    // The bytes of the block before wait to be written: so many, from position `done` on.
     let mut done = 0;
-    'blocks: while let Some(Decoded { taken, filled }) = next_block(
+    let mut waiting = 0;
+    'texts: while let Some(Decoded { taken, filled }) = next_while_writing(
+        rt,
         &mut checking,
         source,
         at,
-        block,
-        room,
+        blocks.block.as_mut_slice(),
+        blocks.room.as_mut_slice(),
+        between(&blocks.before[..waiting], done, skip, end),
+        out,
     )? {
-        bytes_are(block);
-        match write_text(between(&room[..filled], done, skip, end), out) {
-            Ok(()) => {}
-            Err(_) => return Err(PassFault::Output),
-        }
+        bytes_are(blocks.block.as_slice());
+        swap(&mut blocks.room, &mut blocks.before);
         at += taken as u64;
-        done += filled as u64;
+        done += waiting as u64;
+        waiting = filled;
     }
     Ok(last - first)
 }

@@ -27,8 +27,8 @@ const AHEAD_LEN: usize = 2 * HALF_LEN;
 
 const AHEAD_CHUNKS: u64 = (AHEAD_LEN / CHUNK_LEN) as u64;
 
-/// An encoding in parts, which two threads make: that of the parent of two subtrees, and theirs. Where one thread makes all of it,
-/// that is in `near`.
+/// An encoding in parts, which two threads make: that of the parent of two subtrees, and theirs. Where one thread
+/// makes all of it, that is in `near`.
 #[derive(Drop)]
 pub(crate) struct Parts {
     parent: Vec<u8>,
@@ -99,7 +99,7 @@ fn put_wanted(
         && parent.extend_from_slice(&right.to_bytes()).is_ok()
 }
 
-// The same of more bytes than a chunk, by two threads.
+// As `append`, of more bytes than a chunk, by two threads.
 fn append_halves<R: Threads + Sync, S: Source + Sync>(
     rt: &R,
     mode: &Mode,

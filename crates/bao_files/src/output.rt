@@ -221,9 +221,9 @@ fn answer_at<'a>(written: Result<Hash, WriteFault>, path: &'a str) -> Result<Has
 /// An input that is said to have a `size` of at least 4 MiB is read by position, 256 KiB at a time, by several
 /// threads. An outboard encoding then takes memory for a sixteenth of the bytes, and a slice for its range. A
 /// combined encoding takes two passes: the first makes the parents, a sixteenth of the bytes, and the second
-/// reads the input again on one thread, verifies it by the parents and writes it with them. If the first pass
-/// gives nothing, and for a shorter input, all is read into memory: by position if the input has as many bytes
-/// as it is said to have, else from where it is. The faults are then those of this reading.
+/// reads the input again on two threads, verifies it by the parents, and meanwhile writes it with them. If the
+/// first pass gives nothing, and for a shorter input, all is read into memory: by position if the input has as
+/// many bytes as it is said to have, else from where it is. The faults are then those of this reading.
 ///
 /// Refuses with `Memory` for the input's bytes and with `Encoding` for the encoding; nothing is then written.
 /// Refuses with `Read` and the input's path if a read fails; nothing is then written either, except in the

@@ -25,8 +25,9 @@ use bao_decode::{
 };
 use bao_files::{Disk, Progress};
 use bao_text::Part;
-use std::alloc::Global;
+use std::alloc::{AllocGlobal, Global};
 use std::io::{Read, Write};
+use std::thread::Threads;
 
 // What an accepted piece carries: a law, nothing runs.
 fn is_accepted(answer: Result<Checked<'_>, CheckFault>)
@@ -66,8 +67,15 @@ pub fn read_text_determined<'a, R: Read, S: Read>(
 
 // Memory may run out at any time, and a read of a source that isn't faultless may fail. Writing may fail too, but that is returned only if the
 // encoding is accepted. Everything else is decided by the encoding, if it isn't longer than any file.
-pub fn write_decoded_determined<'a, S: Source, T: Source, V: Write, W: Write>(
-    alloc: Global,
+pub fn write_decoded_determined<
+    'a,
+    R: AllocGlobal + Threads + Sync,
+    S: Source + Sync,
+    T: Source + Sync,
+    V: Write,
+    W: Write,
+>(
+    rt: &R,
     mode: &Mode,
     root: &Hash,
     part: &Part,
@@ -85,14 +93,21 @@ pub fn write_decoded_determined<'a, S: Source, T: Source, V: Write, W: Write>(
     ensures written { IfSome (S.contents our_text.now) (λ text. length text < 2 ^ 63
         → IfSome (V.contents ours.old) (λ _. SameWritten IsOfCopy (V.contents ours.new) (W.contents theirs.new) result.0 result.1)) }
 {
-    let one = write_decoded(alloc, mode, root, part, our_text, file, ours, path);
-    let other = write_decoded(alloc, mode, root, part, their_text, file, theirs, path);
+    let one = write_decoded(rt, mode, root, part, our_text, file, ours, path);
+    let other = write_decoded(rt, mode, root, part, their_text, file, theirs, path);
     (one, other)
 }
 
 // The same for one pass. What it has written of a refused encoding is thrown away.
-pub fn write_draft_determined<'a, S: Source, T: Source, V: Write, W: Write>(
-    alloc: Global,
+pub fn write_draft_determined<
+    'a,
+    R: AllocGlobal + Threads + Sync,
+    S: Source + Sync,
+    T: Source + Sync,
+    V: Write,
+    W: Write,
+>(
+    rt: &R,
     mode: &Mode,
     root: &Hash,
     part: &Part,
@@ -110,8 +125,8 @@ pub fn write_draft_determined<'a, S: Source, T: Source, V: Write, W: Write>(
     ensures written { IfSome (S.contents our_text.now) (λ text. length text < 2 ^ 63
         → IfSome (V.contents ours.old) (λ _. SameWritten (λ _. ⊥) (V.contents ours.new) (W.contents theirs.new) result.0 result.1)) }
 {
-    let one = write_draft(alloc, mode, root, part, our_text, file, ours, path);
-    let other = write_draft(alloc, mode, root, part, their_text, file, theirs, path);
+    let one = write_draft(rt, mode, root, part, our_text, file, ours, path);
+    let other = write_draft(rt, mode, root, part, their_text, file, theirs, path);
     (one, other)
 }
 
@@ -168,8 +183,14 @@ pub fn write_slice_determined<'a, S: Source, T: Source, V: Write, W: Write>(
 
 // Memory may run out at any time, and on a disk that isn't faultless a read may fail. Writing may fail too, but that is returned only if the encoding
 // is accepted. Everything else is decided by the encoding, if it isn't longer than any file, and both disks agree at each path that was known before.
-pub fn decode_on_determined<'a, D: Disk, E: Disk, P: Progress>(
-    alloc: Global,
+pub fn decode_on_determined<
+    'a,
+    R: AllocGlobal + Threads + Sync,
+    D: Disk,
+    E: Disk,
+    P: Progress + Sync,
+>(
+    rt: &R,
     ours: &mut D,
     theirs: &mut E,
     mode: &Mode,
@@ -188,8 +209,8 @@ pub fn decode_on_determined<'a, D: Disk, E: Disk, P: Progress>(
     ensures kept { OnErr result.0 (OnErr result.1 (SameWhereKnown (D.at ours.old) (D.at ours.new) (E.at theirs.new))) }
 {
     (
-        decode_on(alloc, ours, mode, root, part, file, path, progress),
-        decode_on(alloc, theirs, mode, root, part, file, path, progress),
+        decode_on(rt, ours, mode, root, part, file, path, progress),
+        decode_on(rt, theirs, mode, root, part, file, path, progress),
     )
 }
 

@@ -7,6 +7,7 @@ use bao_text::{Part, combined, outboard};
 use std::alloc::Global;
 use std::process::Abort;
 use std::test::Fail;
+use std::thread::Threads;
 
 // How many bytes i mod 251: several blocks, and a chunk that isn't whole.
 const LEN: usize = 1_200_000;
@@ -33,7 +34,7 @@ fn changed(alloc: Global, bytes: &[u8], at: usize) -> Result<Vec<u8>, Fail> {
 }
 
 // What is decoded is at the path that it is asked for, and of an encoding that is refused nothing is anywhere.
-fn is_decoded<R: AllocGlobal + Abort>(rt: &R) -> Result<(), Fail> {
+fn is_decoded<R: AllocGlobal + Threads + Sync + Abort>(rt: &R) -> Result<(), Fail> {
     let alloc = rt.alloc();
     let mode = Mode::hash();
     let bytes = blob(alloc, LEN)?;
@@ -44,7 +45,7 @@ fn is_decoded<R: AllocGlobal + Abort>(rt: &R) -> Result<(), Fail> {
     held.put("text", text)?;
     held.put("out", blob(alloc, 3)?)?;
     let count = decode_on(
-        alloc,
+        rt,
         &mut held,
         &mode,
         &root,
@@ -56,10 +57,10 @@ fn is_decoded<R: AllocGlobal + Abort>(rt: &R) -> Result<(), Fail> {
     assert!(rt; matches!(count, Ok(count) if count == LEN as u64));
     holds(rt, &held, "out", bytes.as_slice())?;
     let slice = Part::Slice { start: 9, len: 5 };
-    let refused = decode_on(alloc, &mut held, &mode, &root, &slice, "text", "out", &());
+    let refused = decode_on(rt, &mut held, &mode, &root, &slice, "text", "out", &());
     assert!(rt; matches!(refused, Err(DecodeFault::Check(_))));
     let refused = decode_on(
-        alloc,
+        rt,
         &mut held,
         &mode,
         &root,
@@ -73,7 +74,7 @@ fn is_decoded<R: AllocGlobal + Abort>(rt: &R) -> Result<(), Fail> {
     };
     assert!(rt; matches!(refused, Err(DecodeFault::Check(fault)) if fault == last));
     let missing = decode_on(
-        alloc,
+        rt,
         &mut held,
         &mode,
         &root,

@@ -13,7 +13,7 @@ use std::thread::Threads;
 const LEN: usize = 4_200_001;
 
 // The range goes to a writer that takes all, and its first bytes to one that fails.
-fn part_is_written<R: AllocGlobal + Abort>(
+fn part_is_written<R: AllocGlobal + Threads + Sync + Abort>(
     rt: &R,
     root: &Hash,
     part: &Part,
@@ -22,12 +22,12 @@ fn part_is_written<R: AllocGlobal + Abort>(
 ) {
     let mode = Mode::hash();
     let mut out = taking(rt.alloc());
-    let whole = write_decoded(rt.alloc(), &mode, root, part, &text, "in", &mut out, "out");
+    let whole = write_decoded(rt, &mode, root, part, &text, "in", &mut out, "out");
     assert!(rt; matches!(whole, Ok(100)));
     assert!(rt; Some(out.held.as_slice()) == bytes.get(1000..1100));
     for room in [0, 10, 24, 90] {
         let mut out: Broken = failing(rt.alloc(), room, ErrorKind::Interrupted);
-        let begun = write_decoded(rt.alloc(), &mode, root, part, &text, "in", &mut out, "out");
+        let begun = write_decoded(rt, &mode, root, part, &text, "in", &mut out, "out");
         assert!(rt; matches!(begun, Err(DecodeFault::File(FileFault::Write("out")))));
         assert!(rt; Some(out.held.as_slice()) == bytes.get(1000..1000 + room));
     }

@@ -14,4 +14,4 @@ returns-in-Err-clause-fault g c = first_unknown c.args.file c.args.path (g.W.Wri
 pub returns-clause-known : goal.returns-clause-known
 returns-clause-known g c =
     text_after (part_bytes c.args.part.now) c.args.mode.now c.args.root.now.0 c.args.part.now (g.S.Source.contents c.args.source.now) (g.S.Source.faultless c.args.source.now) c.args.file c.args.path
-    (g.W.Write.contents c.args.out.now) (g.W.Write.contents c.write_verified.new.out) c.in-Ok.ensures.ok.0 c.write_verified.result c.in-Ok.ensures.ok.1 c.write_verified.ensures.known
+    (g.W.Write.contents c.args.out.now) (g.W.Write.contents c.write_verified.new.out) c.in-Ok-verify_pass.ensures.ok.0 c.write_verified.result c.in-Ok-verify_pass.ensures.ok.1 c.write_verified.ensures.known

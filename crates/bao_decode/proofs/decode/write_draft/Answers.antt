@@ -5,21 +5,21 @@ use Rattle.bao_decode.specs.declared.copy_pass.PassFault.{PassFault}
 use Rattle.bao_decode.proofs.Decodings.{draft_flushed, draft_names, draft_refused, draft_unread, draft_unwritten, flushed_names, text_flushed_some}
 use Rattle.bao_decode.proofs.decode.write_draft.Goals as goal
 
-pub returns-in-Ok-clause-some : goal.returns-in-Ok-clause-some
-returns-in-Ok-clause-some g c =
-    let done = c.in-Ok.ensures.ok in
+pub returns-in-Ok-text_pass-clause-some : goal.returns-in-Ok-text_pass-clause-some
+returns-in-Ok-text_pass-clause-some g c =
+    let done = c.in-Ok-text_pass.ensures.ok in
     text_flushed_some (part_bytes c.args.part.now) c.args.mode.now c.args.root.now.0 c.args.part.now (g.S.Source.contents c.args.source.now) (g.W.Write.contents c.args.out.now) (g.W.Write.contents c.text_pass.new.out)
-    (g.W.Write.contents c.flushed.new.out) done.0 c.in-Ok.count c.flushed.result done.1 done.2 done.3 c.flushed.ensures.keeps c.flushed.ensures.ok
+    (g.W.Write.contents c.flushed.new.out) done.0 c.in-Ok-text_pass.count c.flushed.result done.1 done.2 done.3 c.flushed.ensures.keeps c.flushed.ensures.ok
 
-pub returns-in-Ok-clause-known : goal.returns-in-Ok-clause-known
-returns-in-Ok-clause-known g c =
-    let done = c.in-Ok.ensures.ok in
+pub returns-in-Ok-text_pass-clause-known : goal.returns-in-Ok-text_pass-clause-known
+returns-in-Ok-text_pass-clause-known g c =
+    let done = c.in-Ok-text_pass.ensures.ok in
     draft_flushed c.args.mode.now c.args.root.now.0 c.args.part.now (g.S.Source.contents c.args.source.now) (g.S.Source.faultless c.args.source.now) c.args.file c.args.path
-    (g.W.Write.contents c.args.out.now) (g.W.Write.contents c.text_pass.new.out) (g.W.Write.contents c.flushed.new.out) done.0 c.in-Ok.count c.flushed.result done.1 done.2 done.3
+    (g.W.Write.contents c.args.out.now) (g.W.Write.contents c.text_pass.new.out) (g.W.Write.contents c.flushed.new.out) done.0 c.in-Ok-text_pass.count c.flushed.result done.1 done.2 done.3
     c.flushed.ensures.keeps c.flushed.ensures.ok c.flushed.ensures.err
 
-pub returns-in-Ok-clause-paths : goal.returns-in-Ok-clause-paths
-returns-in-Ok-clause-paths g c = flushed_names c.args.file c.args.path c.flushed.result c.flushed.ensures.err
+pub returns-in-Ok-text_pass-clause-paths : goal.returns-in-Ok-text_pass-clause-paths
+returns-in-Ok-text_pass-clause-paths g c = flushed_names c.args.file c.args.path c.flushed.result c.flushed.ensures.err
 
 pub returns-in-Err-Check-clause-known : goal.returns-in-Err-Check-clause-known
 returns-in-Err-Check-clause-known g c =

@@ -29,7 +29,7 @@ returns-in-Ok-encoding_pass-clause-fault g c =
 
 pub returns-clause-known : goal.returns-clause-known
 returns-clause-known g c =
-    let first = c.in-Ok.ensures.ok in
+    let first = c.in-Ok-verify_pass.ensures.ok in
     text_after (λ (x : List ℕ). x) c.args.mode.now c.args.root.now.0 c.args.part.now (g.F.Forward.contents c.args.source.now) (g.F.Forward.faultless c.args.source.now) c.args.file c.args.path
     (g.W.Write.contents c.args.out.now) (g.W.Write.contents c.encoding_pass.new.out) first.0 (Err c.second_fault.result) first.1
     (text_second (λ (x : List ℕ). x) c.args.mode.now c.args.root.now.0 c.args.part.now (g.F.Forward.contents c.args.source.now) (g.F.Forward.faultless c.args.source.now) c.args.file c.args.path
