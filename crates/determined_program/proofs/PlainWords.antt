@@ -1,17 +1,25 @@
-use Rattle.std.proofs.Common.{◌≡◌, ◌∙◌, ℕ, List, [], ◌∷◌, Bool, Option, Some, None, false, true, nat_eq, nat_lt, length, arith, ◌<◌, ◌≤◌, unwrap_or, codes, refl, if◌then◌else◌, ◌++◌, ◌||◌, append_assoc, append-nil, option_map, find, is_some, IfSome, sym, ap, fold, bytes_eq}
+use Rattle.std.proofs.Common.{◌≡◌, ◌≢◌, ◌∙◌, ℕ, ◌^◌, List, [], ◌∷◌, Bool, Option, Some, None, false, true, nat_eq, nat_lt, length, get_or, arith, ◌<◌, ◌≤◌, unwrap_or, codes, refl, if◌then◌else◌, ◌++◌, ◌||◌, append_assoc, append-nil, option_map, find, is_some, sym, subst, ap, fold, bytes_eq}
 use Rattle.std.specs.Prelude.{⊤}
+use Rattle.std.specs.Char.{digit_value}
+use Rattle.std.specs.Fmt.{decimal}
 use Rattle.std.specs.Option.{option_map_or}
+use Rattle.std.specs.Str.Parse.{IsNumeral, digits_value, without_leading_plus}
 use Rattle.std.proofs.lemmas.Bool.{le-ltb, ne_eqb}
+use Rattle.std.proofs.lemmas.Fmt.{decimal_is_IsNumeral}
+use Rattle.std.proofs.lemmas.Str.Parse.{without_leading_plus_none}
 use Rattle.clap.specs.Lexer.{long_of, short_of}
 use Rattle.clap.specs.Faults.{check_fault, defaults_fault, entered_fault, fault_of, level_fault, settle_fault, step_fault, turn_fault, walk_fault}
-use Rattle.clap.specs.Kinds.{or_else, range_kinds, values_kinds}
+use Rattle.clap.specs.Kinds.{or_else, range_kinds, value_kinds, values_kinds}
 use Rattle.clap.specs.Lexer.{usize_max}
+use Rattle.clap.specs.Values.{refused_kind}
 use Rattle.clap.specs.declared.builder.value_parser.ValueParser.TheVariants.{String}
 use Rattle.clap.specs.declared.error.kind.ErrorKind.{ErrorKind}
 use Rattle.clap.specs.Simple.{built, entered, label_of, names_of, rows_at, Shape}
 use Rattle.clap.specs.Walk.{answers_to, arg_by_index, finished, is_multiple, next_position, nothing_held, positional_held, settled, walk_from, idle, option, positional, to_positional, value, walked, Held, Rule, Text, Waiting, Walk}
-use Rattle.clap.specs.Words.{Row, subcommand_of}
-use Rattle.bao_request.specs.CommandLine.{program_app}
+use Rattle.clap.specs.Words.{Row, one_of, subcommand_of}
+use Rattle.clap.proofs.ValueTestLemmas.{Accepts-accepts}
+use Rattle.bao_request.specs.CommandLine.{any_number, program_app}
+use Rattle.bao_request.specs.Requests.{GivesNumber}
 use Rattle.determined_program.specs.Manual.{ArePlain, IsPlain}
 
 no_hyphen : (x : ℕ) (xs : List ℕ) → IsPlain (x ∷ xs) → nat_eq x 45 ≡ false
@@ -98,28 +106,6 @@ after_fault s names held waiting position trailing name (word ∷ words) came =
     ap (λ w. walk_fault s names w words) (one_more s.rules names held waiting position trailing name came word)
     ∙ after_fault s names held waiting position trailing name words (came ++ word ∷ [])
 
--- the rows of a subcommand whose words are no options
-abbrev pub placed_rows : List Text → Shape → Text × List Row
-placed_rows words s = (s.name, finished s.rules (fold (placed s.rules) (walk_from nothing_held) words).held)
-
-rows_of_shape : (words : List Text) → ArePlain words → (shape : Option Shape) → option_map (λ s. rows_at s words) shape ≡ option_map (placed_rows words) shape
-unfolding IsFree
-rows_of_shape words plain None = refl
-rows_of_shape words plain (Some s) = ap (λ w. Some (s.name, finished s.rules w.held)) (walks s.rules words nothing_held idle 1 false plain tt)
-
--- the subcommand of that name
-abbrev pub shape_named : Text → Option Shape
-shape_named sub = find (λ s. answers_to sub (label_of s)) (built program_app).subs
-
--- its rows for such words
-unfoldable pub rows_for : Text → List Text → List Row
-rows_for sub words = option_map_or (λ s. (placed_rows words s).1) (shape_named sub) []
-
-rows_named : (sub : Text) (words : List Text) (shape : Option Shape) → option_map (λ s. s.name) shape ≡ Some sub
-    → option_map (placed_rows words) shape ≡ Some (sub, option_map_or (λ s. (placed_rows words s).1) shape [])
-rows_named sub words None named = cc
-rows_named sub words (Some s) named = let same : s.name ≡ sub = cc in ap (λ n. Some (n, (placed_rows words s).1)) same
-
 -- the program's own rules, and the walk over a subcommand's name
 abbrev pub top : Shape
 top = (built program_app).top
@@ -127,20 +113,32 @@ top = (built program_app).top
 abbrev pub names : List (Text × List Text)
 names = names_of (built program_app)
 
--- the subcommand of that name is met at once, and its words come after it
-pub record IsMet (sub : Text) : Type 0 where
+abbrev found : Text → Option Shape
+found sub = find (λ s. answers_to sub (label_of s)) (built program_app).subs
+
+-- the subcommand of that name
+abbrev pub shape_named : Text → Shape
+shape_named sub = unwrap_or (found sub) top
+
+-- it is met at once, and its words come after it
+pub record IsMet (sub : Text) (s : Shape) : Type 0 where
   pub met : walked top.rules names (walk_from nothing_held) sub ≡ met_before nothing_held idle 1 false sub []
-  pub named : option_map (λ s. s.name) (shape_named sub) ≡ Some sub
+  pub there : found sub ≡ Some s
+  pub named : s.name ≡ sub
   pub fine : turn_fault top names (walk_from nothing_held) sub ≡ []
 
-walk_is : (sub : Text) (words : List Text) → IsMet sub → fold (walked top.rules names) (walk_from nothing_held) (sub ∷ words) ≡ met_before nothing_held idle 1 false sub words
-walk_is sub words is = ap (λ w. fold (walked top.rules names) w words) is.met ∙ after_stop top.rules names nothing_held idle 1 false sub words []
+-- the first of its words, an option with its value, come to what is held then, and are no fault
+pub record Begins (s : Shape) (first : List Text) (held : Held) : Type 0 where
+  pub goes : (words : List Text) → fold (walked s.rules []) (walk_from nothing_held) (first ++ words) ≡ fold (walked s.rules []) (from held idle 1 false) words
+  pub fine : (words : List Text) → walk_fault s [] (walk_from nothing_held) (first ++ words) ≡ walk_fault s [] (from held idle 1 false) words
 
-pub plain_rows : (name sub : Text) (words : List Text) → ArePlain words → IsMet sub → subcommand_of program_app (name ∷ sub ∷ words) ≡ Some (sub, rows_for sub words)
-unfolding rows_for
-plain_rows name sub words plain is =
-    ap (λ w. entered (built program_app) w.stopped) (walk_is sub words is)
-    ∙ rows_of_shape words plain (shape_named sub) ∙ rows_named sub words (shape_named sub) is.named
+-- no option comes first
+pub begins_bare : (s : Shape) → Begins s [] nothing_held
+begins_bare s = record { goes = λ words. refl; fine = λ words. refl }
+
+-- the rows of a subcommand whose other words are no options
+unfoldable pub rows_for : Shape → Held → List Text → List Row
+rows_for s held words = finished s.rules (fold (placed s.rules) (from held idle 1 false) words).held
 
 -- what is wrong with words that go to the next argument each
 unfoldable pub placed_fault : Shape → Walk → List Text → List ErrorKind
@@ -177,28 +175,49 @@ abbrev pub end_fault : Shape → Held → Bool → List ErrorKind
 end_fault s end entered_one =
     or_else (settle_fault s.rules s.args_override_self end) (or_else (defaults_fault (settled s.rules end).rows s.rules) (check_fault s (finished s.rules end) entered_one))
 
-abbrev pub leaf_fault : Shape → List Text → List ErrorKind
-leaf_fault s words = or_else (placed_fault s (walk_from nothing_held) words) (end_fault s (fold (placed s.rules) (walk_from nothing_held) words).held false)
+abbrev pub leaf_fault : Shape → Held → List Text → List ErrorKind
+leaf_fault s held words = or_else (placed_fault s (from held idle 1 false) words) (end_fault s (fold (placed s.rules) (from held idle 1 false) words).held false)
 
-leaf : (s : Shape) (words : List Text) → ArePlain words → level_fault s [] nothing_held words false [] ≡ leaf_fault s words
-unfolding IsFree
-leaf s words plain = λ i. or_else (faults s words nothing_held idle 1 false plain tt i) (end_fault s (walks s.rules words nothing_held idle 1 false plain tt i).held false)
+module _ (name sub : Text) (s : Shape) (first : List Text) (held : Held) (words : List Text) (met : IsMet sub s) (begins : Begins s first held) (plain : ArePlain words) where
+  abbrev own : List Text
+  own = first ++ words
 
-leaf_named : (shape : Option Shape) (words : List Text) → ArePlain words → IfSome shape (λ s. leaf_fault s words ≡ []) → option_map_or (λ s. level_fault s [] nothing_held words false []) shape [] ≡ []
-leaf_named None words plain none = refl
-leaf_named (Some s) words plain none = leaf s words plain ∙ none
+  walk_is : fold (walked top.rules names) (walk_from nothing_held) (sub ∷ own) ≡ met_before nothing_held idle 1 false sub own
+  walk_is = ap (λ w. fold (walked top.rules names) w own) met.met ∙ after_stop top.rules names nothing_held idle 1 false sub own []
 
-walk_fine : (sub : Text) (words : List Text) → IsMet sub → walk_fault top names (walk_from nothing_held) (sub ∷ words) ≡ []
-unfolding walk_fault
-walk_fine sub words is = (λ i. or_else (is.fine i) (walk_fault top names (is.met i) words)) ∙ after_fault top names nothing_held idle 1 false sub words []
+  held_is : fold (walked s.rules []) (walk_from nothing_held) own ≡ fold (placed s.rules) (from held idle 1 false) words
+  unfolding IsFree
+  held_is = begins.goes words ∙ walks s.rules words held idle 1 false plain tt
 
--- nothing is wrong with the words where nothing is with the subcommand's
-pub no_fault : (name sub : Text) (words : List Text) → ArePlain words → IsMet sub → IfSome (shape_named sub) (λ s. leaf_fault s words ≡ [])
-    → end_fault top nothing_held (is_some (entered (built program_app) (Some (sub, words)))) ≡ [] → fault_of program_app (name ∷ sub ∷ words) ≡ []
-no_fault name sub words plain is own rest =
-    (λ i. or_else (walk_fine sub words is i)
-    (or_else (entered_fault (built program_app) (walk_is sub words is i).stopped) (end_fault top (walk_is sub words is i).held (is_some (entered (built program_app) (walk_is sub words is i).stopped)))))
-    ∙ (λ i. or_else (leaf_named (shape_named sub) words plain own i) (rest i))
+  pub rows_are : subcommand_of program_app (name ∷ sub ∷ own) ≡ Some (sub, rows_for s held words)
+  unfolding rows_for
+  rows_are =
+      ap (λ w. entered (built program_app) w.stopped) walk_is
+      ∙ ap (λ (shape : Option Shape). option_map (λ t. rows_at t own) shape) met.there
+      ∙ (λ i. Some (met.named i, finished s.rules (held_is i).held))
+
+  walk_fine : walk_fault top names (walk_from nothing_held) (sub ∷ own) ≡ []
+  unfolding walk_fault
+  walk_fine = (λ i. or_else (met.fine i) (walk_fault top names (met.met i) own)) ∙ after_fault top names nothing_held idle 1 false sub own []
+
+  leaf : level_fault s [] nothing_held own false [] ≡ leaf_fault s held words
+  unfolding IsFree
+  leaf = λ i. or_else ((begins.fine words ∙ faults s words held idle 1 false plain tt) i) (end_fault s (held_is i).held false)
+
+  -- the subcommand that was entered has no fault of its own
+  below : leaf_fault s held words ≡ [] → entered_fault (built program_app) (Some (sub, own)) ≡ []
+  below none = ap (λ (shape : Option Shape). option_map_or (λ t. level_fault t [] nothing_held own false []) shape []) met.there ∙ leaf ∙ none
+
+  rest : end_fault top nothing_held (is_some (entered (built program_app) (Some (sub, own)))) ≡ []
+  unfolding defaults_fault
+  rest = ap (λ (shape : Option Shape). end_fault top nothing_held (is_some (option_map (λ t. rows_at t own) shape))) met.there
+
+  -- nothing is wrong with the words where nothing is with the subcommand's
+  pub no_fault : leaf_fault s held words ≡ [] → fault_of program_app (name ∷ sub ∷ own) ≡ []
+  no_fault none =
+      (λ i. or_else (walk_fine i)
+      (or_else (entered_fault (built program_app) (walk_is i).stopped) (end_fault top (walk_is i).held (is_some (entered (built program_app) (walk_is i).stopped)))))
+      ∙ (λ i. or_else (below none i) (rest i))
 
 -- the words of the last argument, which takes several, are gathered
 abbrev pub gathering_held : List Row → List Text → Held
@@ -213,31 +232,30 @@ module _ (rules : List Rule) (several : (rows : List Row) (values : List Text) (
       ap (λ w. fold (placed rules) w words) (several rows values word) ∙ more_values words rows (values ++ word ∷ [])
       ∙ ap (λ xs. from (gathering_held rows xs) positional 3 false) (append_assoc values (word ∷ []) words)
 
--- the rules of the subcommand of that name
-abbrev pub rules_named : Text → List Rule
-rules_named sub = option_map_or (λ s. s.rules) (shape_named sub) []
+abbrev gather_rules : List Rule
+gather_rules = (shape_named (codes "gather")).rules
 
 gather_several : (rows : List Row) (values : List Text) (word : Text)
-    → placed (rules_named (codes "gather")) (from (gathering_held rows values) positional 3 false) word ≡ from (gathering_held rows (values ++ word ∷ [])) positional 3 false
+    → placed gather_rules (from (gathering_held rows values) positional 3 false) word ≡ from (gathering_held rows (values ++ word ∷ [])) positional 3 false
 gather_several rows values word = refl
 
 -- what is held once ROOT, OUT and a FILE have come
 abbrev gather_first : Text → Text → Text → Walk
-gather_first root out file = fold (placed (rules_named (codes "gather"))) (walk_from nothing_held) (root ∷ out ∷ file ∷ [])
+gather_first root out file = fold (placed gather_rules) (walk_from nothing_held) (root ∷ out ∷ file ∷ [])
 
 gather_begun : (root out file : Text) → gather_first root out file ≡ from (gathering_held (gather_first root out file).held.rows (file ∷ [])) positional 3 false
 gather_begun root out file = refl
 
 -- the rows of a gathering
 unfoldable pub gather_rows : Text → Text → Text → List Text → List Row
-gather_rows root out file more = finished (rules_named (codes "gather")) (gathering_held (gather_first root out file).held.rows (file ∷ more))
+gather_rows root out file more = finished gather_rules (gathering_held (gather_first root out file).held.rows (file ∷ more))
 
-pub gather_rows_are : (root out file : Text) (more : List Text) → rows_for (codes "gather") (root ∷ out ∷ file ∷ more) ≡ gather_rows root out file more
+pub gather_rows_are : (root out file : Text) (more : List Text) → rows_for (shape_named (codes "gather")) nothing_held (root ∷ out ∷ file ∷ more) ≡ gather_rows root out file more
 unfolding rows_for gather_rows
 gather_rows_are root out file more =
-    ap (λ w. finished (rules_named (codes "gather")) w.held)
-    (ap (λ w. fold (placed (rules_named (codes "gather"))) w more) (gather_begun root out file)
-    ∙ more_values (rules_named (codes "gather")) gather_several more (gather_first root out file).held.rows (file ∷ []))
+    ap (λ w. finished gather_rules w.held)
+    (ap (λ w. fold (placed gather_rules) w more) (gather_begun root out file)
+    ∙ more_values gather_rules gather_several more (gather_first root out file).held.rows (file ∷ []))
 
 -- more values of one argument are no fault
 more_fine : (s : Shape) → ((rows : List Row) (values : List Text) → step_fault s 3 (gathering_held rows values) value ≡ [])
@@ -261,7 +279,7 @@ texts_fine ignore_case [] = refl
 texts_fine ignore_case (text ∷ values) = texts_fine ignore_case values
 
 gather_shape : Shape
-gather_shape = unwrap_or (shape_named (codes "gather")) top
+gather_shape = shape_named (codes "gather")
 
 module _ (root out file : Text) (more : List Text) (few : length more < 64) where
   gather_held : Held
@@ -276,7 +294,7 @@ module _ (root out file : Text) (more : List Text) (few : length more < 64) wher
   gather_end = (λ i. or_else (gather_settles i)
       (or_else (defaults_fault (settled gather_shape.rules gather_held).rows gather_shape.rules) (check_fault gather_shape (finished gather_shape.rules gather_held) false)))
 
-  pub gather_leaf : IfSome (shape_named (codes "gather")) (λ s. leaf_fault s (root ∷ out ∷ file ∷ more) ≡ [])
+  pub gather_leaf : leaf_fault (shape_named (codes "gather")) nothing_held (root ∷ out ∷ file ∷ more) ≡ []
   unfolding gather_shape gather_held placed_fault
   gather_leaf =
       let goes : fold (placed gather_shape.rules) (walk_from nothing_held) (root ∷ out ∷ file ∷ more) ≡ from gather_held positional 3 false =
@@ -285,3 +303,44 @@ module _ (root out file : Text) (more : List Text) (few : length more < 64) wher
       ap (λ w. placed_fault gather_shape w more) (gather_begun root out file)
       ∙ more_fine gather_shape (λ rows values. refl) gather_several more (gather_first root out file).held.rows (file ∷ []) in
       (λ i. or_else (first i) (end_fault gather_shape (goes i).held false)) ∙ gather_end
+
+-- the first of some digits is no other character
+digit_apart : (ds : List ℕ) (k : ℕ) → IsNumeral 10 ds → 10 ≤ digit_value k → get_or ds 0 0 ≢ k
+digit_apart [] k is more = absurd (omega (arith, is.0))
+digit_apart (d ∷ ds) k is more = λ same. omega (arith, is.1.0, more, ap digit_value same)
+
+digits_plain : (ds : List ℕ) → IsNumeral 10 ds → IsPlain ds
+digits_plain [] is = absurd (omega (arith, is.0))
+digits_plain (d ∷ ds) is = λ same. digit_apart (d ∷ ds) 45 is (omega arith) (ap (λ (xs : List ℕ). get_or xs 0 0) same)
+
+-- the decimal digits of a number of 64 bits are no option, and are read as the number
+module _ (n : ℕ) (fits : n < 2 ^ 64) where
+  numeral : IsNumeral 10 (decimal n)
+  numeral = (decimal_is_IsNumeral n fits).0
+
+  no_plus : without_leading_plus (decimal n) ≡ decimal n
+  no_plus = without_leading_plus_none (decimal n) (digit_apart (decimal n) 43 numeral (omega arith))
+
+  value_is : digits_value 10 (without_leading_plus (decimal n)) ≡ n
+  value_is = ap (λ (ds : List ℕ). digits_value 10 ds) no_plus ∙ (decimal_is_IsNumeral n fits).1
+
+  is_numeral : IsNumeral 10 (without_leading_plus (decimal n))
+  is_numeral = subst (λ (ds : List ℕ). IsNumeral 10 ds) (sym no_plus) numeral
+
+  pub decimal_plain : IsPlain (decimal n)
+  decimal_plain = digits_plain (decimal n) numeral
+
+  pub decimal_given : (rows : List Row) (id : Text) → one_of id rows ≡ Some (decimal n) → GivesNumber 64 rows id n
+  decimal_given rows id is = (decimal n, is, sym value_is, is_numeral, fits)
+
+  pub decimal_fine : value_kinds false any_number (decimal n) ≡ []
+  decimal_fine =
+      ap (λ (b : Bool). if b then [] else refused_kind any_number ∷ [])
+      (Accepts-accepts false any_number (decimal n) (is_numeral, omega (arith, value_is, fits), omega arith, omega (arith, value_is, fits)))
+
+-- what is wrong with the words of a subcommand whose START and LEN these are
+abbrev pub range_faults : Text → Text → List ErrorKind
+range_faults start len = or_else (or_else (or_else (value_kinds false any_number start) []) (or_else (or_else (value_kinds false any_number len) []) [])) []
+
+pub range_is_fine : (start len : ℕ) → start < 2 ^ 64 → len < 2 ^ 64 → range_faults (decimal start) (decimal len) ≡ []
+range_is_fine start len low short = λ i. or_else (or_else (or_else (decimal_fine start low i) []) (or_else (or_else (decimal_fine len short i) []) [])) []

@@ -1,4 +1,4 @@
-// What the manual says of a command without options, word by word, over files in memory.
+// What the manual says of a command, word by word, over files in memory.
 
 ghost use Rattle.std.specs.Prelude.{◌≡◌, ◌≢◌, ◌⊎◌, ℕ, ◌^◌, ◌<◌, ◌≤◌, List, [], ◌∷◌, length, map, string_bytes, codes, Ok, Some};
 ghost use Rattle.std.specs.Io.KnownBytes.{Appends, Keeps};
@@ -7,16 +7,19 @@ ghost use Rattle.b3tree.specs.Hashing.{hash};
 ghost use Rattle.b3tree.specs.Modes.{plain};
 ghost use Rattle.bao_text.specs.Choice.{chunk_count};
 ghost use Rattle.bao_text.specs.Texts.{combined_text};
+ghost use Rattle.bao_text.specs.declared.kinds.Encoding.TheVariants.{Slice};
 ghost use Rattle.holders.specs.Blobs.{HasCollision, IsBlob, fixed_as};
 ghost use Rattle.bao_files.specs.Disks.{KeepsFiles, Puts, Stored};
+ghost use Rattle.bao_files.specs.Encoded.{encoding_text};
 ghost use Rattle.bao_files.specs.HeldFiles.{held_at};
-ghost use Rattle.bao_files.specs.Printed.{IsDigits, digits_line, ok_line};
+ghost use Rattle.bao_files.specs.Printed.{digits_line, ok_line};
 ghost use Rattle.bao_command.specs.Tasks.{IsNoOutput};
-ghost use Rattle.determined_program.specs.Manual.{Asks, IsAmongThem, IsCutFromOne, IsDoneOrNot, IsEncodingOf, whole_text, writer_name};
+ghost use Rattle.determined_program.specs.Manual.{IsAmongThem, IsCommand, IsCutOutOf, IsDoneOrFailed, IsEncodingOf, words_for};
 
 use b3tree::{Hash, Mode, bytes_are};
 use bao_command::command;
 use bao_files::{MemoryFiles, Progress};
+use bao_text::Encoding;
 use std::io::Write;
 use std::thread::Threads;
 
@@ -30,36 +33,47 @@ pub fn hash_is<R: AllocGlobal + Threads + Sync, O: Write, E: Write, P: Progress 
     err: &mut E,
     progress: &P,
 ) -> u8
-    requires { Asks (map string_bytes words.now) (codes "hash") (file.now ∷ []) }
+    requires { IsCommand (map string_bytes words.now) (codes "hash" ∷ []) (file.now ∷ []) }
     ensures done { result ≡ 0 → (bytes : List ℕ) × (held_at disk.old.files file.now ≡ Stored bytes) × Appends (O.contents out.old) (O.contents out.new) (digits_line (hash plain bytes)) }
     ensures files { KeepsFiles (held_at disk.old.files) (held_at disk.new.files) }
-    ensures status { IsDoneOrNot result }
+    ensures status { IsDoneOrFailed result }
 {
     command(rt, disk, words, out, err, progress)
 }
 
-// `encode FILE OUT` puts the combined encoding of FILE at OUT and prints FILE's hash, and so does `outboard FILE OUT` with the outboard encoding. If it isn't
-// done, OUT is as it was, or has the encoding.
+// `encode FILE OUT` puts the combined encoding of FILE at OUT and prints FILE's hash. So does `outboard FILE OUT` with the outboard encoding, and
+// `slice START LEN FILE OUT` with the slice for the range. If it isn't done, OUT is as it was, or has the encoding.
 pub fn encode_is<R: AllocGlobal + Threads + Sync, O: Write, E: Write, P: Progress + Sync>(
     rt: &R,
     disk: &mut MemoryFiles,
     words: &[String],
-    outboard: bool,
+    encoding: Encoding,
     file: &str,
     path: &str,
     out: &mut O,
     err: &mut E,
     progress: &P,
 ) -> u8
-    requires asked { Asks (map string_bytes words.now) (writer_name outboard) (file.now ∷ path.now ∷ []) }
+    requires asked { IsCommand (map string_bytes words.now) (words_for encoding) (file.now ∷ path.now ∷ []) }
     requires apart { IsNoOutput path.now × (path.now ≢ file.now) }
     ensures done { result ≡ 0 → (blob : List ℕ) × (held_at disk.old.files file.now ≡ Stored blob)
-        × Puts (held_at disk.old.files) (held_at disk.new.files) path.now (Some (whole_text outboard blob)) × Appends (O.contents out.old) (O.contents out.new) (digits_line (hash plain blob)) }
+        × Puts (held_at disk.old.files) (held_at disk.new.files) path.now (Some (encoding_text plain encoding blob)) × Appends (O.contents out.old) (O.contents out.new) (digits_line (hash plain blob)) }
     ensures files { KeepsFiles (held_at disk.old.files) (held_at disk.new.files) ⊎ ((blob : List ℕ) × (held_at disk.old.files file.now ≡ Stored blob)
-        × Puts (held_at disk.old.files) (held_at disk.new.files) path.now (Some (whole_text outboard blob))) }
-    ensures status { IsDoneOrNot result }
+        × Puts (held_at disk.old.files) (held_at disk.new.files) path.now (Some (encoding_text plain encoding blob))) }
+    ensures status { IsDoneOrFailed result }
 {
+    // A law, so that the proof has what it says: nothing runs.
+    range_fits(encoding);
     command(rt, disk, words, out, err, progress)
+}
+
+// Lemma: the numbers of a range have 64 bits. No effect at run time.
+fn range_fits(encoding: Encoding)
+    ensures { (start len : ℕ) → encoding ≡ Slice start len → (start < 2 ^ 64) × (len < 2 ^ 64) }
+{
+    if let Encoding::Slice { start, len } = encoding {
+        let _range = (start, len);
+    }
 }
 
 // `decode ROOT FILE OUT` puts at OUT the blob of which FILE is the combined encoding and ROOT the hash, and prints how many bytes it has. If there is
@@ -76,8 +90,8 @@ pub fn decode_is<R: AllocGlobal + Threads + Sync, O: Write, E: Write, P: Progres
     err: &mut E,
     progress: &P,
 ) -> u8
-    requires asked { Asks (map string_bytes words.now) (codes "decode") (digits.now ∷ file.now ∷ path.now ∷ []) }
-    requires root { IsDigits digits.now × (decode_of digits.now ≡ Ok root.now.0) }
+    requires asked { IsCommand (map string_bytes words.now) (codes "decode" ∷ []) (digits.now ∷ file.now ∷ path.now ∷ []) }
+    requires root { decode_of digits.now ≡ Ok root.now.0 }
     requires apart { IsNoOutput path.now × (path.now ≢ file.now) }
     ensures done { result ≡ 0 → (blob : List ℕ) × IsEncodingOf (held_at disk.old.files) file.now root.now.0 blob
         × Puts (held_at disk.old.files) (held_at disk.new.files) path.now (Some blob) × Appends (O.contents out.old) (O.contents out.new) (ok_line (length blob)) }
@@ -85,7 +99,7 @@ pub fn decode_is<R: AllocGlobal + Threads + Sync, O: Write, E: Write, P: Progres
     ensures kept { result ≡ 1 → KeepsFiles (held_at disk.old.files) (held_at disk.new.files) × Keeps (O.contents out.old) (O.contents out.new) }
     ensures files { KeepsFiles (held_at disk.old.files) (held_at disk.new.files) ⊎ ((blob : List ℕ) × IsEncodingOf (held_at disk.old.files) file.now root.now.0 blob
         × Puts (held_at disk.old.files) (held_at disk.new.files) path.now (Some blob)) }
-    ensures status { IsDoneOrNot result ⊎ (result ≡ 1) }
+    ensures status { IsDoneOrFailed result ⊎ (result ≡ 1) }
 {
     // Laws, so that the proof has what they say: nothing runs.
     Mode::hash().is_keyed();
@@ -93,9 +107,10 @@ pub fn decode_is<R: AllocGlobal + Threads + Sync, O: Write, E: Write, P: Progres
     command(rt, disk, words, out, err, progress)
 }
 
-// `gather ROOT OUT FILE..` puts at OUT a blob with the hash ROOT, whatever the FILEs are, and prints how many bytes it has. If it isn't done, OUT is as it
-// was, or has such a blob. It isn't refused where one FILE is the combined encoding of such a blob of at most 64 MiB, whatever the others are; or else two
-// different inputs with one chaining value are exhibited, one of the blob and one of a slice that is cut out of a FILE and accepted under ROOT.
+// `gather ROOT OUT FILE..` puts at OUT a blob with the hash ROOT, whatever the FILEs are, and prints how many bytes it has. If it is refused, nothing
+// changes. If it isn't done, OUT is as it was, or has such a blob. It isn't refused where one FILE is the combined encoding of such a blob of at most 64 MiB,
+// whatever the others are; or else two different inputs with one chaining value are exhibited, one of the blob and one of a slice that is cut out of a FILE
+// and accepted under ROOT.
 pub fn gather_is<R: AllocGlobal + Threads + Sync, O: Write, E: Write, P: Progress + Sync>(
     rt: &R,
     disk: &mut MemoryFiles,
@@ -103,21 +118,25 @@ pub fn gather_is<R: AllocGlobal + Threads + Sync, O: Write, E: Write, P: Progres
     digits: &str,
     root: &Hash,
     path: &str,
-    files: &[&str],
+    files: &Vec<&str>,
     out: &mut O,
     err: &mut E,
     progress: &P,
 ) -> u8
-    requires asked { Asks (map string_bytes words.now) (codes "gather") (digits.now ∷ path.now ∷ map (λ file. file.now) files.now) }
-    requires few { (0 < length files.now) × (length files.now ≤ 64) }
+    requires asked { IsCommand (map string_bytes words.now) (codes "gather" ∷ []) (digits.now ∷ path.now ∷ map (λ file. file.now) files.now.items) }
+    requires few { (0 < length files.now.items) × (length files.now.items ≤ 64) }
     requires root { decode_of digits.now ≡ Ok root.now.0 }
     ensures done { result ≡ 0 → (blob : List ℕ) × (hash plain blob ≡ root.now.0)
         × Puts (held_at disk.old.files) (held_at disk.new.files) path.now (Some blob) × Appends (O.contents out.old) (O.contents out.new) (ok_line (length blob)) }
     ensures files { KeepsFiles (held_at disk.old.files) (held_at disk.new.files) ⊎ ((blob : List ℕ) × (hash plain blob ≡ root.now.0)
         × Puts (held_at disk.old.files) (held_at disk.new.files) path.now (Some blob)) }
+    ensures kept { result ≡ 1 → KeepsFiles (held_at disk.old.files) (held_at disk.new.files) × Keeps (O.contents out.old) (O.contents out.new) }
     ensures enough { result ≡ 1 → (blob : List ℕ) → IsBlob (fixed_as root.now plain 65536) blob → chunk_count (length blob) ≤ 65536
-        → IsAmongThem (held_at disk.old.files) (map (λ file. file.now) files.now) blob
-        → HasCollision (IsCutFromOne (held_at disk.old.files) (map (λ file. file.now) files.now)) (fixed_as root.now plain 65536) blob }
+        → IsAmongThem (held_at disk.old.files) (map (λ file. file.now) files.now.items) blob
+        → HasCollision (IsCutOutOf (held_at disk.old.files) (map (λ file. file.now) files.now.items)) (fixed_as root.now plain 65536) blob }
+    ensures status { IsNoOutput path.now → IsDoneOrFailed result ⊎ (result ≡ 1) }
 {
+    // A law, so that the proof has what it says: nothing runs.
+    bytes_are(&root.0);
     command(rt, disk, words, out, err, progress)
 }

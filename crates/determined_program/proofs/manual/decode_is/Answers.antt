@@ -1,65 +1,50 @@
-use Rattle.std.proofs.Common.{inl, inr, map, string_bytes, arith, subst, sym, ◌∙◌, ◌≡◌, ◌≢◌, ℕ}
-use Rattle.std.proofs.lemmas.Bool.Decides.{eqb_tells}
+use Rattle.std.proofs.Common.{◌≡◌, List, ℕ, map, string_bytes, refl, arith, inl, inr, subst}
+use Rattle.std.specs.Prelude.{⊤}
 use Rattle.b3tree.specs.Valid.{IsKeyed}
-use Rattle.bao_command.specs.Outcome.{LeavesAt}
+use Rattle.bao_text.specs.declared.kinds.Part.TheVariants.{Whole}
 use Rattle.bao_files.specs.HeldFiles.{held_at}
-use Rattle.determined_program.proofs.ManualRuns.{decode_done, decode_files, decode_is_refused, decode_one, decode_status, held_known}
+use Rattle.bao_request.specs.declared.tasks.Task.TheVariants.{Decode}
+use Rattle.determined_program.proofs.ManualRuns.{Ran, decode_fine, digits_are, done, ended, files, held_known, refused, unchanged, whole_facts, whole_refused}
+use Rattle.determined_program.proofs.PlainRequests.{AsksAlone, decode_alone}
+use Rattle.determined_program.proofs.manual.decode_is.Given.{Over}
 use Rattle.determined_program.proofs.manual.decode_is.Goals as goal
+use Rattle.determined_program.proofs.manual.decode_is.Goals.{After-command}
+
+module _ (g : Over) (c : After-command g) where
+  ran : Ran (map string_bytes c.args.words.now) (held_at c.args.disk.now.files) (held_at c.command.new.disk.files) (g.O.Write.contents c.args.out.now) (g.O.Write.contents c.command.new.out) ⊤ c.command.result
+  ran = record {
+    known = held_known c.args.disk.now.files;
+    most = c.command.ensures.status;
+    done = c.command.ensures.done;
+    files = c.command.ensures.files;
+    fault = c.command.ensures.fault;
+    usage = c.command.ensures.usage;
+    refusal = c.command.ensures.refusal;
+  }
+
+  alone : AsksAlone (map string_bytes c.args.words.now) (Decode c.args.digits Whole c.args.file c.args.path)
+  alone = decode_alone (map string_bytes c.args.words.now) c.args.digits c.args.file c.args.path c.requires.asked
 
 pub returns-clause-done : goal.returns-clause-done
 returns-clause-done g c = λ is.
-    let words = map string_bytes c.args.words.now in
-    let at = held_at c.args.disk.now.files in
-    let after = held_at c.command.new.disk.files in
-    let known = held_known c.args.disk.now.files in
-    let old = g.O.Write.contents c.args.out.now in
-    let new = g.O.Write.contents c.command.new.out in
-    let did = decode_done at after known old new words c.args.digits c.args.file c.args.path c.args.root.now.0 c.requires.asked c.requires.root.0 c.requires.root.1 c.bytes_are.ensures (omega arith) c.requires.apart.0 c.requires.apart.1 (c.command.ensures.done is) in
-    (did.0, did.1.0.0, did.1.0.1, did.1.1)
+    let did = done (ran g c) (alone g c) refl (whole_facts (ran g c) c.args.digits c.args.file c.args.path c.args.root.now.0 c.requires.root c.bytes_are.ensures (omega arith)) is in
+    (did.0, did.1.0, did.1.1, did.2)
 
 pub returns-clause-refused : goal.returns-clause-refused
 returns-clause-refused g c = λ is.
-    let words = map string_bytes c.args.words.now in
-    let at = held_at c.args.disk.now.files in
-    let after = held_at c.command.new.disk.files in
-    let known = held_known c.args.disk.now.files in
-    let old = g.O.Write.contents c.args.out.now in
-    let new = g.O.Write.contents c.command.new.out in
-    decode_is_refused at after known old new words c.args.digits c.args.file c.args.path c.args.root.now.0 c.requires.asked c.requires.root.0 c.requires.root.1 c.bytes_are.ensures (omega arith) c.requires.apart.0 c.requires.apart.1 (subst IsKeyed c.hash.ensures c.is_keyed.ensures) _ (c.command.ensures.refusal is)
+    let bad = refused (ran g c) (alone g c) refl is in
+    whole_refused (ran g c) c.args.digits c.args.file c.args.path c.args.root.now.0 c.requires.root c.bytes_are.ensures (omega arith) (subst IsKeyed c.hash.ensures c.is_keyed.ensures) bad.0 bad.1 bad.2
 
 pub returns-clause-kept : goal.returns-clause-kept
-returns-clause-kept g c = λ is.
-    let words = map string_bytes c.args.words.now in
-    let at = held_at c.args.disk.now.files in
-    let after = held_at c.command.new.disk.files in
-    let known = held_known c.args.disk.now.files in
-    let old = g.O.Write.contents c.args.out.now in
-    let new = g.O.Write.contents c.command.new.out in
-    let some : c.command.result ≢ 0 = (λ no. let bad : 1 ≡ 0 = sym is ∙ no in absurd (omega (arith, bad))) in
-    let other : c.command.result ≢ 3 = (λ no. let bad : 1 ≡ 3 = sym is ∙ no in absurd (omega (arith, bad))) in
-    (decode_one at after known old new words c.args.digits c.args.file c.args.path c.args.root.now.0 c.requires.asked c.requires.root.0 c.requires.root.1 c.bytes_are.ensures (omega arith) c.requires.apart.0 c.requires.apart.1 (subst (λ (n : ℕ). LeavesAt words at after n) is (c.command.ensures.files some)), c.command.ensures.fault some other)
+returns-clause-kept g c = unchanged (ran g c) (alone g c) refl
 
 pub returns-clause-files : goal.returns-clause-files
 returns-clause-files g c =
-    let words = map string_bytes c.args.words.now in
-    let at = held_at c.args.disk.now.files in
-    let after = held_at c.command.new.disk.files in
-    let known = held_known c.args.disk.now.files in
-    let old = g.O.Write.contents c.args.out.now in
-    let new = g.O.Write.contents c.command.new.out in
-    elim (eqb_tells c.command.result 0) [
-      | inl is ↦
-          let did = decode_done at after known old new words c.args.digits c.args.file c.args.path c.args.root.now.0 c.requires.asked c.requires.root.0 c.requires.root.1 c.bytes_are.ensures (omega arith) c.requires.apart.0 c.requires.apart.1 (c.command.ensures.done is.1) in
-          inr (did.0, did.1.0.0, did.1.0.1)
-      | inr other ↦ elim (decode_files at after known old new words c.args.digits c.args.file c.args.path c.args.root.now.0 c.requires.asked c.requires.root.0 c.requires.root.1 c.bytes_are.ensures (omega arith) c.requires.apart.0 c.requires.apart.1 c.command.result (c.command.ensures.files other.1)) [ inl kept ↦ inl kept | inr made ↦ inr (made.0, made.1.0, made.1.1) ]
+    elim (files (ran g c) (alone g c) refl (whole_facts (ran g c) c.args.digits c.args.file c.args.path c.args.root.now.0 c.requires.root c.bytes_are.ensures (omega arith))) [
+      | inl kept ↦ inl kept
+      | inr made ↦ inr (made.0, made.1.0, made.1.1)
     ]
 
 pub returns-clause-status : goal.returns-clause-status
 returns-clause-status g c =
-    let words = map string_bytes c.args.words.now in
-    let at = held_at c.args.disk.now.files in
-    let after = held_at c.command.new.disk.files in
-    let known = held_known c.args.disk.now.files in
-    let old = g.O.Write.contents c.args.out.now in
-    let new = g.O.Write.contents c.command.new.out in
-    decode_status at after known old new words c.args.digits c.args.file c.args.path c.args.root.now.0 c.requires.asked c.requires.root.0 c.requires.root.1 c.bytes_are.ensures (omega arith) c.requires.apart.0 c.requires.apart.1 c.command.result c.command.ensures.status c.command.ensures.usage
+    ended (ran g c) (alone g c) refl (decode_fine (ran g c) c.args.digits c.args.file c.args.path Whole (digits_are c.args.digits.now c.args.root.now.0 c.requires.root (omega arith)) c.requires.apart.0 c.requires.apart.1)

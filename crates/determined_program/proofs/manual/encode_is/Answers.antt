@@ -1,41 +1,38 @@
-use Rattle.std.proofs.Common.{inl, inr, map, string_bytes}
-use Rattle.std.proofs.lemmas.Bool.Decides.{eqb_tells}
+use Rattle.std.proofs.Common.{◌≡◌, List, ℕ, map, string_bytes, refl, inl, inr}
+use Rattle.std.specs.Prelude.{⊤}
 use Rattle.bao_files.specs.HeldFiles.{held_at}
-use Rattle.determined_program.proofs.ManualRuns.{encode_done, encode_files, encode_status, held_known}
+use Rattle.bao_request.specs.declared.tasks.Task.TheVariants.{Encode}
+use Rattle.determined_program.proofs.ManualRuns.{Ran, done, encode_facts, encode_fine, encode_unrefused, ended_unrefused, files, held_known}
+use Rattle.determined_program.proofs.PlainRequests.{AsksAlone, encode_alone}
+use Rattle.determined_program.proofs.manual.encode_is.Given.{Over}
 use Rattle.determined_program.proofs.manual.encode_is.Goals as goal
+use Rattle.determined_program.proofs.manual.encode_is.Goals.{After-command}
+
+module _ (g : Over) (c : After-command g) where
+  ran : Ran (map string_bytes c.args.words.now) (held_at c.args.disk.now.files) (held_at c.command.new.disk.files) (g.O.Write.contents c.args.out.now) (g.O.Write.contents c.command.new.out) ⊤ c.command.result
+  ran = record {
+    known = held_known c.args.disk.now.files;
+    most = c.command.ensures.status;
+    done = c.command.ensures.done;
+    files = c.command.ensures.files;
+    fault = c.command.ensures.fault;
+    usage = c.command.ensures.usage;
+    refusal = c.command.ensures.refusal;
+  }
+
+  alone : AsksAlone (map string_bytes c.args.words.now) (Encode c.args.encoding c.args.file c.args.path)
+  alone = encode_alone (map string_bytes c.args.words.now) c.args.encoding c.args.file c.args.path c.range_fits.ensures c.requires.asked
 
 pub returns-clause-done : goal.returns-clause-done
 returns-clause-done g c = λ is.
-    let words = map string_bytes c.args.words.now in
-    let at = held_at c.args.disk.now.files in
-    let after = held_at c.command.new.disk.files in
-    let known = held_known c.args.disk.now.files in
-    let old = g.O.Write.contents c.args.out.now in
-    let new = g.O.Write.contents c.command.new.out in
-    let did = encode_done at after known old new words c.args.outboard c.args.file c.args.path c.requires.asked c.requires.apart.0 c.requires.apart.1 (c.command.ensures.done is) in
-    (did.0, did.1.0.0, did.1.0.1, did.1.1)
+    let did = done (ran g c) (alone g c) refl (encode_facts (ran g c) c.args.encoding c.args.file c.args.path) is in
+    (did.0, did.1.0, did.1.1, did.2)
 
 pub returns-clause-files : goal.returns-clause-files
 returns-clause-files g c =
-    let words = map string_bytes c.args.words.now in
-    let at = held_at c.args.disk.now.files in
-    let after = held_at c.command.new.disk.files in
-    let known = held_known c.args.disk.now.files in
-    let old = g.O.Write.contents c.args.out.now in
-    let new = g.O.Write.contents c.command.new.out in
-    elim (eqb_tells c.command.result 0) [
-      | inl is ↦
-          let did = encode_done at after known old new words c.args.outboard c.args.file c.args.path c.requires.asked c.requires.apart.0 c.requires.apart.1 (c.command.ensures.done is.1) in
-          inr (did.0, did.1.0.0, did.1.0.1)
-      | inr other ↦ elim (encode_files at after known old new words c.args.outboard c.args.file c.args.path c.requires.asked c.requires.apart.0 c.requires.apart.1 c.command.result (c.command.ensures.files other.1)) [ inl kept ↦ inl kept | inr made ↦ inr (made.0, made.1.0, made.1.1) ]
-    ]
+    elim (files (ran g c) (alone g c) refl (encode_facts (ran g c) c.args.encoding c.args.file c.args.path)) [ inl kept ↦ inl kept | inr made ↦ inr (made.0, made.1.0, made.1.1) ]
 
 pub returns-clause-status : goal.returns-clause-status
 returns-clause-status g c =
-    let words = map string_bytes c.args.words.now in
-    let at = held_at c.args.disk.now.files in
-    let after = held_at c.command.new.disk.files in
-    let known = held_known c.args.disk.now.files in
-    let old = g.O.Write.contents c.args.out.now in
-    let new = g.O.Write.contents c.command.new.out in
-    encode_status at after known old new words c.args.outboard c.args.file c.args.path c.requires.asked c.requires.apart.0 c.requires.apart.1 _ c.command.result c.command.ensures.status c.command.ensures.refusal c.command.ensures.usage
+    ended_unrefused (ran g c) (alone g c) refl (encode_fine (ran g c) c.args.encoding c.args.file c.args.path c.requires.apart.0 c.requires.apart.1)
+    (encode_unrefused (ran g c) c.args.encoding c.args.file c.args.path)

@@ -1,51 +1,48 @@
-use Rattle.std.proofs.Common.{inl, inr, map, length, arith, ◌<◌, ◌≤◌, string_bytes}
-use Rattle.std.proofs.lemmas.List.{length-map}
-use Rattle.std.proofs.lemmas.Bool.Decides.{eqb_tells}
+use Rattle.std.proofs.Common.{arith, map, string_bytes, refl, inl, inr}
+use Rattle.std.specs.Prelude.{⊤}
 use Rattle.bao_files.specs.HeldFiles.{held_at}
-use Rattle.determined_program.proofs.ManualRuns.{gather_done, gather_enough, gather_files, held_known, small}
+use Rattle.bao_request.specs.declared.tasks.Task.TheVariants.{Gather}
+use Rattle.determined_program.proofs.ManualRuns.{Ran, digits_are, done, ended, files, gather_enough, gather_facts, gather_fine, held_known, refused, unchanged}
+use Rattle.determined_program.proofs.PlainRequests.{AsksAlone, gather_alone, plain_gathering}
+use Rattle.determined_program.proofs.manual.gather_is.Given.{Over}
 use Rattle.determined_program.proofs.manual.gather_is.Goals as goal
+use Rattle.determined_program.proofs.manual.gather_is.Goals.{After-command}
+
+module _ (g : Over) (c : After-command g) where
+  ran : Ran (map string_bytes c.args.words.now) (held_at c.args.disk.now.files) (held_at c.command.new.disk.files) (g.O.Write.contents c.args.out.now) (g.O.Write.contents c.command.new.out) ⊤ c.command.result
+  ran = record {
+    known = held_known c.args.disk.now.files;
+    most = c.command.ensures.status;
+    done = c.command.ensures.done;
+    files = c.command.ensures.files;
+    fault = c.command.ensures.fault;
+    usage = c.command.ensures.usage;
+    refusal = c.command.ensures.refusal;
+  }
+
+  alone : AsksAlone (map string_bytes c.args.words.now) (Gather (plain_gathering c.args.digits c.args.files.now c.args.path))
+  alone = gather_alone (map string_bytes c.args.words.now) c.args.digits c.args.path c.args.files.now c.requires.few.0 c.requires.few.1 c.requires.asked
 
 pub returns-clause-done : goal.returns-clause-done
 returns-clause-done g c = λ is.
-    let words = map string_bytes c.args.words.now in
-    let at = held_at c.args.disk.now.files in
-    let after = held_at c.command.new.disk.files in
-    let known = held_known c.args.disk.now.files in
-    let old = g.O.Write.contents c.args.out.now in
-    let new = g.O.Write.contents c.command.new.out in
-    let files = map (λ file. file.now) c.args.files.now in
-    let some : 0 < length files = omega (arith, c.requires.few.0, length-map c.args.files.now (λ file. file.now)) in
-    let few : length files ≤ 64 = omega (arith, c.requires.few.1, length-map c.args.files.now (λ file. file.now)) in
-    let did = gather_done at after known old new words c.args.digits c.args.path c.args.root.now files c.requires.asked c.requires.root some few (c.command.ensures.done is) in
-    (did.0, did.1.0.0, did.1.0.1, did.1.1)
+    let did = done (ran g c) (alone g c) refl (gather_facts (ran g c) c.args.digits c.args.path c.args.files.now c.args.root.now.0 c.requires.root) is in
+    (did.0, did.1.0, did.1.1, did.2)
 
 pub returns-clause-files : goal.returns-clause-files
 returns-clause-files g c =
-    let words = map string_bytes c.args.words.now in
-    let at = held_at c.args.disk.now.files in
-    let after = held_at c.command.new.disk.files in
-    let known = held_known c.args.disk.now.files in
-    let old = g.O.Write.contents c.args.out.now in
-    let new = g.O.Write.contents c.command.new.out in
-    let files = map (λ file. file.now) c.args.files.now in
-    let some : 0 < length files = omega (arith, c.requires.few.0, length-map c.args.files.now (λ file. file.now)) in
-    let few : length files ≤ 64 = omega (arith, c.requires.few.1, length-map c.args.files.now (λ file. file.now)) in
-    elim (eqb_tells c.command.result 0) [
-      | inl is ↦
-          let did = gather_done at after known old new words c.args.digits c.args.path c.args.root.now files c.requires.asked c.requires.root some few (c.command.ensures.done is.1) in
-          inr (did.0, did.1.0.0, did.1.0.1)
-      | inr other ↦ elim (gather_files at after known old new words c.args.digits c.args.path c.args.root.now files c.requires.asked c.requires.root some few c.command.result (c.command.ensures.files other.1)) [ inl kept ↦ inl kept | inr made ↦ inr (made.0, made.1.0, made.1.1) ]
+    elim (files (ran g c) (alone g c) refl (gather_facts (ran g c) c.args.digits c.args.path c.args.files.now c.args.root.now.0 c.requires.root)) [
+      | inl kept ↦ inl kept
+      | inr made ↦ inr (made.0, made.1.0, made.1.1)
     ]
 
+pub returns-clause-kept : goal.returns-clause-kept
+returns-clause-kept g c = unchanged (ran g c) (alone g c) refl
+
 pub returns-clause-enough : goal.returns-clause-enough
-returns-clause-enough g c = λ is blob own fits among.
-    let words = map string_bytes c.args.words.now in
-    let at = held_at c.args.disk.now.files in
-    let after = held_at c.command.new.disk.files in
-    let known = held_known c.args.disk.now.files in
-    let old = g.O.Write.contents c.args.out.now in
-    let new = g.O.Write.contents c.command.new.out in
-    let files = map (λ file. file.now) c.args.files.now in
-    let some : 0 < length files = omega (arith, c.requires.few.0, length-map c.args.files.now (λ file. file.now)) in
-    let few : length files ≤ 64 = omega (arith, c.requires.few.1, length-map c.args.files.now (λ file. file.now)) in
-    gather_enough at after known old new words c.args.digits c.args.path c.args.root.now files c.requires.asked c.requires.root some few _ tt (c.command.ensures.refusal is) blob own fits (small blob fits) among
+returns-clause-enough g c = λ is.
+    let bad = refused (ran g c) (alone g c) refl is in
+    gather_enough (ran g c) c.args.digits c.args.path c.args.files.now tt c.args.root.now c.requires.root bad.0 bad.1 bad.2
+
+pub returns-clause-status : goal.returns-clause-status
+returns-clause-status g c = λ apart.
+    ended (ran g c) (alone g c) refl (gather_fine (ran g c) c.args.digits c.args.path c.args.files.now (digits_are c.args.digits.now c.args.root.now.0 c.requires.root (omega arith)) apart c.requires.few.1)
