@@ -38,4 +38,7 @@ pub mod Good
 pub mod CommandVerdicts
 pub mod PlainWords
 pub mod PlainRequests
+pub mod NodeBytes
+pub mod SliceBytes
+pub mod OwnCopies
 pub mod ManualRuns

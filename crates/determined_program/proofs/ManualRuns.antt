@@ -1,5 +1,5 @@
 -- What a command comes to that asks for one task alone, over known files.
-use Rattle.std.proofs.Common.{◌≡◌, ◌≢◌, ◌⊎◌, ◌∙◌, ℕ, ◌-◌, ◌^◌, ◌<◌, ◌≤◌, List, [], ◌∷◌, length, take, drop, Bool, false, if◌then◌else◌, map, slice_get, zero, suc, Option, Some, None, Ok, Bor, IsSome, IsSomeAnd, inl, inr, arith, refl, sym, subst, ap, length-append}
+use Rattle.std.proofs.Common.{◌≡◌, ◌≢◌, ◌⊎◌, ◌∙◌, ℕ, ◌-◌, ◌^◌, ◌<◌, ◌≤◌, List, [], ◌∷◌, length, take, drop, false, if◌then◌else◌, map, slice_get, zero, suc, Option, Some, None, Ok, Bor, IsSome, IsSomeAnd, inl, inr, arith, refl, sym, subst, ap, length-append}
 use Rattle.std.proofs.lemmas.Bool.Decides.{eqb_tells}
 use Rattle.std.proofs.lemmas.List.{take_all}
 use Rattle.std.specs.Prelude.{String, Vec}
@@ -10,7 +10,7 @@ use Rattle.bao_files.specs.Encoded.{encoding_text}
 use Rattle.bao_files.specs.HeldFiles.{held_at, state_of}
 use Rattle.std.specs.Io.KnownBytes.{Appends, Keeps}
 use Rattle.clap.specs.Kinds.{IsAmong}
-use Rattle.clap.specs.Words.{Text, fault_of, subcommand_of}
+use Rattle.clap.specs.Words.{Text, subcommand_of}
 use Rattle.b3tree.specs.declared.mode.Mode.{Mode}
 use Rattle.b3tree.specs.Valid.{AreBytes, IsKeyed}
 use Rattle.b3tree.specs.Hashing.{hash, stream}
@@ -18,11 +18,10 @@ use Rattle.b3tree.specs.Modes.{plain}
 use Rattle.b3tree.proofs.HashOutput.{hash-stream}
 use Rattle.bao_files.specs.Disks.{AreOf, FileState, IsKnown, KeepsFiles, Puts, Stored}
 use Rattle.bao_files.specs.Printed.{IsDigits, digits_line, ok_line}
-use Rattle.bao_request.specs.CommandLine.{AsksFor, AsksForHelp, program_app}
+use Rattle.bao_request.specs.CommandLine.{AsksFor, program_app}
 use Rattle.bao_request.specs.declared.tasks.Request.{Request}
-use Rattle.bao_request.specs.declared.tasks.GatherTask.{GatherTask}
 use Rattle.bao_request.specs.declared.tasks.Task.{Task}
-use Rattle.bao_request.specs.declared.tasks.Task.TheVariants.{Hash, Encode, Decode, Gather}
+use Rattle.bao_request.specs.declared.tasks.Task.TheVariants.{Hash, Encode, Decode, DecodeCopy, Gather}
 use Rattle.bao_tasks.specs.FromFiles.{IsFromFile, is_regular}
 use Rattle.bao_tasks.specs.Givens.{most_bytes}
 use Rattle.holders.specs.Blobs.{HasCollision, IsBlob, fixed_as}
@@ -36,10 +35,11 @@ use Rattle.bao_text.specs.declared.kinds.Part.{Part}
 use Rattle.bao_text.specs.declared.kinds.Part.TheVariants as part
 use Rattle.bao_text.specs.Cut.{claimed}
 use Rattle.bao_text.specs.Choice.{chunk_count, of_combined}
-use Rattle.bao_text.specs.Texts.{combined_text, length_text, subtree_text}
+use Rattle.bao_text.specs.Texts.{combined_text, length_text, outboard_text, subtree_text}
 use Rattle.bao_text.proofs.Everything.{length-everything}
 use Rattle.bao_check.specs.Decoded.{decoded}
 use Rattle.bao_check.proofs.Written.{combined_accepted}
+use Rattle.bao_decode.specs.Copies.{IsCopyBeside}
 use Rattle.bao_decode.specs.Ranges.{IsPartText, first_decoded, part_bytes, written_count}
 use Rattle.hex.specs.Hex.{decode_of}
 use Rattle.hex.proofs.HexLemmas.{decode_of-ok}
@@ -53,12 +53,14 @@ use Rattle.bao_command.specs.Status.{status_of}
 use Rattle.bao_command.proofs.Telling.{file_refuses_none}
 use Rattle.bao_command.specs.Tasks.{HasBadScript, HasManyFiles, HasNoCapacity, HasRoot, IsListAt, IsListRead, IsMixed, IsNoOutput, IsOfFile, IsPastOutput, IsRight, LeavesFilesOf, ListClashes, ReadsListOf, ReadsOutAs, WritesApart, line_of}
 use Rattle.determined_program.specs.Commands.{IsGood}
-use Rattle.determined_program.specs.Manual.{IsAmongThem, IsCutOutOf, IsDoneOrFailed, IsEncodingOf}
+use Rattle.determined_program.specs.Manual.{IsAmongThem, IsCopyOf, IsCutOutOf, IsDoneOrFailed, IsEncodingOf}
 use Rattle.determined_program.specs.Requests.{SameTask}
+use Rattle.determined_program.proofs.Decoded.{beside_apart}
 use Rattle.determined_program.proofs.Good.{not_usage}
 use Rattle.determined_program.proofs.Known.{as_many, one_root}
 use Rattle.determined_program.proofs.Judged.{accepted_apart, stored_there}
 use Rattle.determined_program.proofs.PlainRequests.{AsksAlone, bare_request, plain_gathering}
+use Rattle.determined_program.proofs.OwnCopies.{copy_hash, outline_is, own_copy}
 use Rattle.determined_program.proofs.Tasks.{one_request}
 
 -- what `command` says of its run, over known files
@@ -400,6 +402,46 @@ module _ {words : List Text} {at after : List ℕ → FileState} {old new : Opti
     whole_refused keyed other same bad blob low is =
         decode_refused root file out part.Whole key (combined_text plain blob) of is.0 low
         (subst (λ (k : List ℕ). IsPartText plain k part.Whole (combined_text plain blob)) is.1 (combined_accepted plain blob keyed (below blob low))) other same bad
+
+  -- a copy beside its outboard encoding
+  module _ (root outboard copy out : Bor (List ℕ)) (key : List ℕ) (of : decode_of root.now ≡ Ok key) where
+    pub copy_facts : AreBytes key → length key ≡ 32 → ((bytes : List ℕ) → at outboard.now ≡ Stored bytes → AreBytes bytes) → ((bytes : List ℕ) → at copy.now ≡ Stored bytes → AreBytes bytes)
+        → (other : Task) → SameTask (DecodeCopy root outboard copy out) other → (bytes : List ℕ) → IsRight at plain other bytes → Writes at after plain other None bytes
+        → (x : List ℕ) × (IsCopyOf at outboard.now copy.now key x × Puts at after out.now (Some x)) × (line_of plain other bytes ≡ ok_line (length x))
+    copy_facts are size beside_bytes copy_bytes (DecodeCopy given_root beside given to) same bytes right writes =
+        let first = right.1.0 in
+        let key_is : right.0 ≡ key = (let digits = same.0 in cc) in
+        let outline : List ℕ = right.1.1.0 in
+        let held : at outboard.now ≡ Stored outline = stored_there (at outboard.now) outline (ran.known outboard.now) (subst (λ (path : List ℕ). AreOf (at path) outline) (sym same.1) right.1.1.1) in
+        let there : at copy.now ≡ Stored bytes = stored_there (at copy.now) bytes (ran.known copy.now) (subst (λ (path : List ℕ). AreOf (at path) bytes) (sym same.2) right.1.1.2) in
+        let good : IsCopyBeside plain key outline bytes = subst (λ (k : List ℕ). IsCopyBeside plain k outline bytes) key_is right.1.1.3 in
+        let valid : AreBytes outline = beside_bytes outline held in
+        let copied : AreBytes bytes = copy_bytes bytes there in (
+          bytes,
+          (
+            (held ∙ ap (λ (text : List ℕ). Stored text) (outline_is plain key outline bytes good valid copied are size), there, copy_hash plain key outline bytes good valid copied are size),
+            subst (λ (path : List ℕ). Puts at after path (Some bytes)) (sym same.3) writes,
+          ),
+          refl,
+        )
+    copy_facts are size beside_bytes copy_bytes other same bytes right writes = absurd same
+
+    pub copy_fine : IsDigits root.now → IsNoOutput out.now → out.now ≢ outboard.now → out.now ≢ copy.now → (other : Task) → SameTask (DecodeCopy root outboard copy out) other → IsFine at other
+    copy_fine digits apart unread uncopied (DecodeCopy given_root beside given to) same =
+        let one = out_fine out outboard beside to same.1 same.3 apart unread in
+        let two = out_fine out copy given to same.2 same.3 apart uncopied in
+        (subst IsDigits same.0 digits, one.0, λ reads. elim reads [ inl none ↦ none | inr (inl is) ↦ one.1 is | inr (inr is) ↦ two.1 is ], none, none, none, none, none, none, none)
+    copy_fine digits apart unread uncopied other same = absurd same
+
+    pub copy_refused : IsKeyed plain → (other : Task) → SameTask (DecodeCopy root outboard copy out) other → IsRefused sure at plain other
+        → (blob : List ℕ) → length blob < 2 ^ 64 → ¬ IsCopyOf at outboard.now copy.now key blob
+    copy_refused keyed (DecodeCopy given_root beside given to) same bad blob short is =
+        let first = bad.1.0 in
+        let key_is : bad.0 ≡ key = (let digits = same.0 in cc) in
+        let outline : List ℕ = outboard_text plain blob in
+        let fault = bad.1.1.1 (ran.known to.now) outline blob (subst (λ (path : List ℕ). at path ≡ Stored outline) same.1 is.0) (subst (λ (path : List ℕ). at path ≡ Stored blob) same.2 is.1) in
+        beside_apart plain bad.0 outline blob fault.0 fault.2 (subst (λ (k : List ℕ). IsCopyBeside plain k outline blob) (is.2 ∙ sym key_is) (own_copy plain blob keyed short))
+    copy_refused keyed other same bad blob short is = absurd same
 
   -- gathering
   module _ (root out : Bor (List ℕ)) (files : Vec (Bor (List ℕ)) Global) where

@@ -1,5 +1,5 @@
 -- What the words of a command without options ask for: one task, and nothing is wrong with them.
-use Rattle.std.proofs.Common.{◌≡◌, ◌∙◌, ℕ, ◌^◌, ◌<◌, ◌≤◌, List, [], ◌∷◌, ◌++◌, length, map, Option, Some, None, Bor, codes, true, false, refl, sym, subst, ap, arith, lit<}
+use Rattle.std.proofs.Common.{◌≡◌, ◌∙◌, ℕ, ◌^◌, ◌<◌, ◌≤◌, List, [], ◌∷◌, ◌++◌, length, map, Option, Some, None, Bor, codes, false, refl, sym, subst, ap, arith, lit<}
 use Rattle.std.proofs.lemmas.List.{length-map}
 use Rattle.std.specs.Prelude.{Vec}
 use Rattle.std.specs.Global.{Global}
@@ -16,9 +16,9 @@ use Rattle.bao_request.specs.Requests.{GivesFlag, GivesRequest, GivesTask}
 use Rattle.bao_request.specs.declared.tasks.GatherTask.{GatherTask}
 use Rattle.bao_request.specs.declared.tasks.Request.{Request}
 use Rattle.bao_request.specs.declared.tasks.Task.{Task}
-use Rattle.bao_request.specs.declared.tasks.Task.TheVariants.{Hash, Encode, Decode, Gather}
+use Rattle.bao_request.specs.declared.tasks.Task.TheVariants.{Hash, Encode, Decode, DecodeCopy, Gather}
 use Rattle.determined_program.specs.Manual.{ArePlain, IsCommand, words_for}
-use Rattle.determined_program.proofs.PlainWords.{Begins, IsMet, begins_bare, decimal_given, decimal_plain, gather_leaf, gather_rows, gather_rows_are, leaf_fault, no_fault, placed_fault, range_faults, range_is_fine, rows_are, rows_for, shape_named}
+use Rattle.determined_program.proofs.PlainWords.{Begins, IsMet, beside_held, begins_bare, decimal_given, decimal_plain, decode_begins, gather_leaf, gather_rows, gather_rows_are, leaf_fault, no_fault, placed_fault, range_faults, range_is_fine, rows_are, rows_for, shape_named}
 
 -- the request for a task alone, without a key or a context
 abbrev pub bare_request : Task → Request
@@ -137,3 +137,14 @@ gather_by words root out files (file ∷ more) are some few asks =
 pub gather_alone : (words : List Text) (root out : Bor Text) (files : Vec (Bor Text) Global) → 0 < length files.items → length files.items ≤ 64
     → IsCommand words (codes "gather" ∷ []) (root.now ∷ out.now ∷ map (λ file. file.now) files.items) → AsksAlone words (Gather (plain_gathering root files out))
 gather_alone words root out files some few asks = gather_by words root out files files.items refl some few asks
+
+pub decode_copy_alone : (words : List Text) (outboard root copy out : Bor Text) → IsCommand words (codes "decode" ∷ codes "--outboard" ∷ []) (outboard.now ∷ root.now ∷ copy.now ∷ out.now ∷ [])
+    → AsksAlone words (DecodeCopy root outboard copy out)
+unfolding walked rows_for placed_fault defaults_fault
+decode_copy_alone words outboard root copy out asks =
+    let s : Shape = shape_named (codes "decode") in
+    let arguments : List Text = root.now ∷ copy.now ∷ out.now ∷ [] in
+    let held : Held = beside_held outboard.now in
+    alone_by words asks.0 (codes "decode") s (codes "--outboard" ∷ outboard.now ∷ []) held arguments asks.1 (record { met = refl; there = refl; named = refl; fine = refl })
+    (decode_begins outboard.now asks.2.0) asks.2.1 (DecodeCopy root outboard copy out) (rows_for s held arguments) refl (refl, refl, refl, refl, refl)
+    (record { key = refl; key_file = refl; context = refl; verbose = refl }) refl

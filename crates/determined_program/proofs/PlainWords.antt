@@ -15,7 +15,7 @@ use Rattle.clap.specs.Values.{refused_kind}
 use Rattle.clap.specs.declared.builder.value_parser.ValueParser.TheVariants.{String}
 use Rattle.clap.specs.declared.error.kind.ErrorKind.{ErrorKind}
 use Rattle.clap.specs.Simple.{built, entered, label_of, names_of, rows_at, Shape}
-use Rattle.clap.specs.Walk.{answers_to, arg_by_index, finished, is_multiple, next_position, nothing_held, positional_held, settled, walk_from, idle, option, positional, to_positional, value, walked, Held, Rule, Text, Waiting, Walk}
+use Rattle.clap.specs.Walk.{after_step, answers_to, arg_by_index, finished, is_multiple, next_position, nothing_held, plain_word, positional_held, settled, walk_from, idle, option, positional, to_positional, value, walked, Held, Rule, Text, Waiting, Walk}
 use Rattle.clap.specs.Words.{Row, one_of, subcommand_of}
 use Rattle.clap.proofs.ValueTestLemmas.{Accepts-accepts}
 use Rattle.bao_request.specs.CommandLine.{any_number, program_app}
@@ -136,6 +136,16 @@ pub record Begins (s : Shape) (first : List Text) (held : Held) : Type 0 where
 pub begins_bare : (s : Shape) → Begins s [] nothing_held
 begins_bare s = record { goes = λ words. refl; fine = λ words. refl }
 
+-- the word after an option is its value
+value_step : (rules : List Rule) (held : Held) (id : Text) (word : Text) → IsPlain word
+    → walked rules [] (from held (option id) 1 false) word
+    ≡ after_step rules word (from held (option id) 1 false) (plain_word rules (option id) word held).0 (plain_word rules (option id) word held).1
+unfolding walked
+value_step rules held id word plain = rw (no_dashes word plain, no_long word plain, no_short word plain) refl
+
+value_turn : (s : Shape) (held : Held) (id : Text) (word : Text) → IsPlain word → turn_fault s [] (from held (option id) 1 false) word ≡ []
+value_turn s held id word plain = rw (no_dashes word plain, no_long word plain, no_short word plain) refl
+
 -- the rows of a subcommand whose other words are no options
 unfoldable pub rows_for : Shape → Held → List Text → List Row
 rows_for s held words = finished s.rules (fold (placed s.rules) (from held idle 1 false) words).held
@@ -218,6 +228,23 @@ module _ (name sub : Text) (s : Shape) (first : List Text) (held : Held) (words 
       (λ i. or_else (walk_fine i)
       (or_else (entered_fault (built program_app) (walk_is i).stopped) (end_fault top (walk_is i).held (is_some (entered (built program_app) (walk_is i).stopped)))))
       ∙ (λ i. or_else (below none i) (rest i))
+
+-- what is held once `--outboard FILE` has come
+abbrev pub beside_held : Text → Held
+beside_held file = record { rows = []; pending = Some (codes "outboard", file ∷ []); skip = 0 }
+
+abbrev decode_shape : Shape
+decode_shape = shape_named (codes "decode")
+
+abbrev option_held : Held
+option_held = record { rows = []; pending = Some (codes "outboard", []); skip = 0 }
+
+pub decode_begins : (file : Text) → IsPlain file → Begins (shape_named (codes "decode")) (codes "--outboard" ∷ file ∷ []) (beside_held file)
+unfolding walked walk_fault
+decode_begins file plain = record {
+  goes = λ words. ap (λ w. fold (walked decode_shape.rules []) w words) (value_step decode_shape.rules option_held (codes "outboard") file plain);
+  fine = λ words i. or_else (value_turn decode_shape option_held (codes "outboard") file plain i) (walk_fault decode_shape [] (value_step decode_shape.rules option_held (codes "outboard") file plain i) words);
+}
 
 -- the words of the last argument, which takes several, are gathered
 abbrev pub gathering_held : List Row → List Text → Held

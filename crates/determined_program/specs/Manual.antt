@@ -4,7 +4,7 @@ use Rattle.std.specs.Fmt.{decimal}
 use Rattle.clap.specs.Words.{Text}
 use Rattle.b3tree.specs.Hashing.{hash}
 use Rattle.b3tree.specs.Modes.{plain}
-use Rattle.bao_text.specs.Texts.{combined_text}
+use Rattle.bao_text.specs.Texts.{combined_text, outboard_text}
 use Rattle.bao_text.specs.declared.kinds.Encoding.{Encoding}
 use Rattle.bao_text.specs.declared.kinds.Encoding.TheVariants.{Combined, Outboard, Slice}
 use Rattle.holders.specs.Places.{IsCutAt}
@@ -33,6 +33,10 @@ words_for (Slice start len) = codes "slice" ∷ decimal start ∷ decimal len �
 -- the file at the path is the combined encoding of the blob, whose hash this is
 abbrev pub IsEncodingOf : (List ℕ → FileState) → List ℕ → List ℕ → List ℕ → Type 0
 IsEncodingOf at path root blob = (at path ≡ Stored (combined_text plain blob)) × (hash plain blob ≡ root)
+
+-- the one file is the outboard encoding of the blob, whose hash this is, and the other has the blob's bytes
+abbrev pub IsCopyOf : (List ℕ → FileState) → List ℕ → List ℕ → List ℕ → List ℕ → Type 0
+IsCopyOf at outboard copy root blob = (at outboard ≡ Stored (outboard_text plain blob)) × (at copy ≡ Stored blob) × (hash plain blob ≡ root)
 
 -- the command has succeeded, or a file can't be read or written, or memory ran out
 abbrev pub IsDoneOrFailed : ℕ → Type 0

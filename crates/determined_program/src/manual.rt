@@ -5,6 +5,7 @@ ghost use Rattle.std.specs.Io.KnownBytes.{Appends, Keeps};
 ghost use Rattle.hex.specs.Hex.{decode_of};
 ghost use Rattle.b3tree.specs.Hashing.{hash};
 ghost use Rattle.b3tree.specs.Modes.{plain};
+ghost use Rattle.b3tree.specs.Valid.{AreBytes};
 ghost use Rattle.bao_text.specs.Choice.{chunk_count};
 ghost use Rattle.bao_text.specs.Texts.{combined_text};
 ghost use Rattle.bao_text.specs.declared.kinds.Encoding.TheVariants.{Slice};
@@ -14,7 +15,7 @@ ghost use Rattle.bao_files.specs.Encoded.{encoding_text};
 ghost use Rattle.bao_files.specs.HeldFiles.{held_at};
 ghost use Rattle.bao_files.specs.Printed.{digits_line, ok_line};
 ghost use Rattle.bao_command.specs.Tasks.{IsNoOutput};
-ghost use Rattle.determined_program.specs.Manual.{IsAmongThem, IsCommand, IsCutOutOf, IsDoneOrFailed, IsEncodingOf, words_for};
+ghost use Rattle.determined_program.specs.Manual.{IsAmongThem, IsCommand, IsCopyOf, IsCutOutOf, IsDoneOrFailed, IsEncodingOf, words_for};
 
 use b3tree::{Hash, Mode, bytes_are};
 use bao_command::command;
@@ -105,6 +106,49 @@ pub fn decode_is<R: AllocGlobal + Threads + Sync, O: Write, E: Write, P: Progres
     Mode::hash().is_keyed();
     bytes_are(&root.0);
     command(rt, disk, words, out, err, progress)
+}
+
+// `decode --outboard FILE ROOT COPY OUT` puts at OUT the blob whose bytes are in COPY, whose outboard encoding is FILE, and whose hash is ROOT, and prints
+// how many bytes it has. If there is none, that is refused, and nothing changes. If it isn't done, OUT is as it was, or has the blob.
+pub fn decode_copy_is<R: AllocGlobal + Threads + Sync, O: Write, E: Write, P: Progress + Sync>(
+    rt: &R,
+    disk: &mut MemoryFiles,
+    words: &[String],
+    outboard: &str,
+    digits: &str,
+    root: &Hash,
+    copy: &str,
+    path: &str,
+    out: &mut O,
+    err: &mut E,
+    progress: &P,
+) -> u8
+    requires asked { IsCommand (map string_bytes words.now) (codes "decode" ∷ codes "--outboard" ∷ []) (outboard.now ∷ digits.now ∷ copy.now ∷ path.now ∷ []) }
+    requires root { decode_of digits.now ≡ Ok root.now.0 }
+    requires apart { IsNoOutput path.now × (path.now ≢ outboard.now) × (path.now ≢ copy.now) }
+    ensures done { result ≡ 0 → (blob : List ℕ) × IsCopyOf (held_at disk.old.files) outboard.now copy.now root.now.0 blob
+        × Puts (held_at disk.old.files) (held_at disk.new.files) path.now (Some blob) × Appends (O.contents out.old) (O.contents out.new) (ok_line (length blob)) }
+    ensures refused { result ≡ 1 → (blob : List ℕ) → length blob < 2 ^ 64 → ¬ IsCopyOf (held_at disk.old.files) outboard.now copy.now root.now.0 blob }
+    ensures kept { result ≡ 1 → KeepsFiles (held_at disk.old.files) (held_at disk.new.files) × Keeps (O.contents out.old) (O.contents out.new) }
+    ensures files { KeepsFiles (held_at disk.old.files) (held_at disk.new.files) ⊎ ((blob : List ℕ) × IsCopyOf (held_at disk.old.files) outboard.now copy.now root.now.0 blob
+        × Puts (held_at disk.old.files) (held_at disk.new.files) path.now (Some blob)) }
+    ensures status { IsDoneOrFailed result ⊎ (result ≡ 1) }
+{
+    // Laws, so that the proof has what they say: nothing runs.
+    Mode::hash().is_keyed();
+    bytes_are(&root.0);
+    held_are(disk, outboard);
+    held_are(disk, copy);
+    command(rt, disk, words, out, err, progress)
+}
+
+// Lemma: what a file in memory has is bytes. No effect at run time.
+fn held_are(disk: &MemoryFiles, path: &str)
+    ensures { (bytes : List ℕ) → held_at disk.now.files path.now ≡ Stored bytes → AreBytes bytes }
+{
+    if let Some(bytes) = disk.get(path) {
+        bytes_are(bytes);
+    }
 }
 
 // `gather ROOT OUT FILE..` puts at OUT a blob with the hash ROOT, whatever the FILEs are, and prints how many bytes it has. If it is refused, nothing

@@ -1,4 +1,4 @@
-use Rattle.std.proofs.Common.{◌≡◌, List, ℕ, map, string_bytes, refl, arith, inl, inr, subst}
+use Rattle.std.proofs.Common.{map, string_bytes, refl, arith, inl, inr, subst}
 use Rattle.std.specs.Prelude.{⊤}
 use Rattle.b3tree.specs.Valid.{IsKeyed}
 use Rattle.bao_text.specs.declared.kinds.Part.TheVariants.{Whole}

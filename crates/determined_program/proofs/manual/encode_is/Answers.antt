@@ -1,4 +1,4 @@
-use Rattle.std.proofs.Common.{◌≡◌, List, ℕ, map, string_bytes, refl, inl, inr}
+use Rattle.std.proofs.Common.{map, string_bytes, refl, inl, inr}
 use Rattle.std.specs.Prelude.{⊤}
 use Rattle.bao_files.specs.HeldFiles.{held_at}
 use Rattle.bao_request.specs.declared.tasks.Task.TheVariants.{Encode}
