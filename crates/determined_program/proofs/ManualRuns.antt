@@ -15,6 +15,7 @@ use Rattle.b3tree.specs.declared.mode.Mode.{Mode}
 use Rattle.b3tree.specs.Valid.{AreBytes, IsKeyed}
 use Rattle.b3tree.specs.Hashing.{hash, stream}
 use Rattle.b3tree.specs.Modes.{plain}
+use Rattle.b3tree.specs.Pieces.{piece}
 use Rattle.b3tree.proofs.HashOutput.{hash-stream}
 use Rattle.bao_files.specs.Disks.{AreOf, FileState, IsKnown, KeepsFiles, Puts, Stored}
 use Rattle.bao_files.specs.Printed.{IsDigits, digits_line, ok_line}
@@ -35,11 +36,13 @@ use Rattle.bao_text.specs.declared.kinds.Part.{Part}
 use Rattle.bao_text.specs.declared.kinds.Part.TheVariants as part
 use Rattle.bao_text.specs.Cut.{claimed}
 use Rattle.bao_text.specs.Choice.{chunk_count, of_combined}
-use Rattle.bao_text.specs.Texts.{combined_text, length_text, outboard_text, subtree_text}
+use Rattle.bao_text.specs.Texts.{combined_text, length_text, outboard_text, slice_text, subtree_text}
 use Rattle.bao_text.proofs.Everything.{length-everything}
+use Rattle.bao_text.proofs.Laws.{cut_text-combined}
 use Rattle.bao_check.specs.Decoded.{decoded}
-use Rattle.bao_check.proofs.Written.{combined_accepted}
+use Rattle.bao_check.proofs.Written.{combined_accepted, slice_accepted}
 use Rattle.bao_decode.specs.Copies.{IsCopyBeside}
+use Rattle.bao_decode.proofs.Cuttings.{cut_text-few}
 use Rattle.bao_decode.specs.Ranges.{IsPartText, first_decoded, part_bytes, written_count}
 use Rattle.hex.specs.Hex.{decode_of}
 use Rattle.hex.proofs.HexLemmas.{decode_of-ok}
@@ -53,7 +56,7 @@ use Rattle.bao_command.specs.Status.{status_of}
 use Rattle.bao_command.proofs.Telling.{file_refuses_none}
 use Rattle.bao_command.specs.Tasks.{HasBadScript, HasManyFiles, HasNoCapacity, HasRoot, IsListAt, IsListRead, IsMixed, IsNoOutput, IsOfFile, IsPastOutput, IsRight, LeavesFilesOf, ListClashes, ReadsListOf, ReadsOutAs, WritesApart, line_of}
 use Rattle.determined_program.specs.Commands.{IsGood}
-use Rattle.determined_program.specs.Manual.{IsAmongThem, IsCopyOf, IsCutOutOf, IsDoneOrFailed, IsEncodingOf}
+use Rattle.determined_program.specs.Manual.{HasRange, IsAmongThem, IsBlobSlice, IsCopyOf, IsCutOutOf, IsDoneOrFailed, IsEncodingOf}
 use Rattle.determined_program.specs.Requests.{SameTask}
 use Rattle.determined_program.proofs.Decoded.{beside_apart}
 use Rattle.determined_program.proofs.Good.{not_usage}
@@ -61,6 +64,7 @@ use Rattle.determined_program.proofs.Known.{as_many, one_root}
 use Rattle.determined_program.proofs.Judged.{accepted_apart, stored_there}
 use Rattle.determined_program.proofs.PlainRequests.{AsksAlone, bare_request, plain_gathering}
 use Rattle.determined_program.proofs.OwnCopies.{copy_hash, outline_is, own_copy}
+use Rattle.determined_program.proofs.SliceBytes.{own_range, range_binds, range_count}
 use Rattle.determined_program.proofs.Tasks.{one_request}
 
 -- what `command` says of its run, over known files
@@ -442,6 +446,44 @@ module _ {words : List Text} {at after : List ℕ → FileState} {old new : Opti
         let fault = bad.1.1.1 (ran.known to.now) outline blob (subst (λ (path : List ℕ). at path ≡ Stored outline) same.1 is.0) (subst (λ (path : List ℕ). at path ≡ Stored blob) same.2 is.1) in
         beside_apart plain bad.0 outline blob fault.0 fault.2 (subst (λ (k : List ℕ). IsCopyBeside plain k outline blob) (is.2 ∙ sym key_is) (own_copy plain blob keyed short))
     copy_refused keyed other same bad blob short is = absurd same
+
+  -- a slice
+  module _ (root : Bor (List ℕ)) (start len : ℕ) (file out : Bor (List ℕ)) (key : List ℕ) (of : decode_of root.now ≡ Ok key) (keyed : IsKeyed plain) where
+    -- the bytes of its range
+    abbrev range_of : List ℕ → List ℕ
+    range_of slice = part_bytes (part.Slice start len) slice
+
+    has_range : (slice : List ℕ) → IsPartText plain key (part.Slice start len) slice → AreBytes slice → HasRange key start len slice (range_of slice)
+    has_range slice accepted valid = record { accepted = accepted; binds = range_binds plain key slice start len accepted keyed valid }
+
+    -- that of a blob is accepted, and shorter than its encoding
+    own_slice : (blob : List ℕ) → length (combined_text plain blob) < 2 ^ 63 → hash plain blob ≡ key
+        → IsPartText plain key (part.Slice start len) (slice_text plain blob start len) × (length (slice_text plain blob start len) < 2 ^ 63)
+    own_slice blob low is = (
+      subst (λ (k : List ℕ). IsPartText plain k (part.Slice start len) (slice_text plain blob start len)) is (slice_accepted plain blob start len keyed (below blob low)),
+      omega (arith, low, cut_text-few (combined_text plain blob) start len, ap (λ (text : List ℕ). length text) (cut_text-combined plain blob start len (below blob low))),
+    )
+
+    pub slice_facts : (other : Task) → SameTask (Decode root (part.Slice start len) file out) other → (bytes : List ℕ) → IsRight at plain other bytes → Writes at after plain other None bytes
+        → (slice : List ℕ) × ((at file.now ≡ Stored slice) × HasRange key start len slice (range_of slice) × Puts at after out.now (Some (range_of slice)))
+        × (line_of plain other bytes ≡ ok_line (length (range_of slice)))
+    slice_facts other same bytes right writes =
+        let own = decode_facts root file out (part.Slice start len) key of other same bytes right writes in
+        (own.0, (own.1.there, has_range own.0 own.1.accepted own.1.valid, own.1.puts), own.2 ∙ ap ok_line (sym (range_count plain key own.0 start len own.1.accepted)))
+
+    pub slice_refused : (other : Task) → SameTask (Decode root (part.Slice start len) file out) other → IsRefused sure at plain other
+        → (blob : List ℕ) → length (combined_text plain blob) < 2 ^ 63 → ¬ IsBlobSlice at file.now key start len blob
+    slice_refused other same bad blob low is =
+        let own = own_slice blob low is.1 in
+        decode_refused root file out (part.Slice start len) key (slice_text plain blob start len) of is.0 own.1 own.0 other same bad
+
+    -- that of a blob has its bytes of the range
+    pub slice_same : (slice : List ℕ) → at file.now ≡ Stored slice → (blob : List ℕ) → length (combined_text plain blob) < 2 ^ 63 → IsBlobSlice at file.now key start len blob
+        → range_of slice ≡ piece blob start len
+    slice_same slice there blob low is =
+        let also = is.0 in
+        let same : slice ≡ slice_text plain blob start len = cc in
+        ap range_of same ∙ own_range plain blob start len keyed (below blob low)
 
   -- gathering
   module _ (root out : Bor (List ℕ)) (files : Vec (Bor (List ℕ)) Global) where

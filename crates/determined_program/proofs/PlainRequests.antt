@@ -148,3 +148,19 @@ decode_copy_alone words outboard root copy out asks =
     alone_by words asks.0 (codes "decode") s (codes "--outboard" ∷ outboard.now ∷ []) held arguments asks.1 (record { met = refl; there = refl; named = refl; fine = refl })
     (decode_begins outboard.now asks.2.0) asks.2.1 (DecodeCopy root outboard copy out) (rows_for s held arguments) refl (refl, refl, refl, refl, refl)
     (record { key = refl; key_file = refl; context = refl; verbose = refl }) refl
+
+decode_slice_leaf : (root start len file out : Text) → leaf_fault (shape_named (codes "decode-slice")) nothing_held (root ∷ start ∷ len ∷ file ∷ out ∷ []) ≡ range_faults start len
+unfolding placed_fault defaults_fault
+decode_slice_leaf root start len file out = refl
+
+pub decode_slice_alone : (words : List Text) (root : Bor Text) (start len : ℕ) (file out : Bor Text) → start < 2 ^ 64 → len < 2 ^ 64
+    → IsCommand words (codes "decode-slice" ∷ []) (root.now ∷ decimal start ∷ decimal len ∷ file.now ∷ out.now ∷ []) → AsksAlone words (Decode root (part.Slice start len) file out)
+unfolding walked rows_for placed_fault defaults_fault
+decode_slice_alone words root start len file out low short asks =
+    let s : Shape = shape_named (codes "decode-slice") in
+    let arguments : List Text = root.now ∷ decimal start ∷ decimal len ∷ file.now ∷ out.now ∷ [] in
+    let rows : List Row = rows_for s nothing_held arguments in
+    alone_by words asks.0 (codes "decode-slice") s [] nothing_held arguments asks.1 (record { met = refl; there = refl; named = refl; fine = refl }) (begins_bare s) asks.2
+    (Decode root (part.Slice start len) file out) rows refl
+    ((refl, (decimal_given start low rows (codes "START") refl, decimal_given len short rows (codes "LEN") refl), refl), refl, refl)
+    (record { key = refl; key_file = refl; context = refl; verbose = refl }) (decode_slice_leaf root.now (decimal start) (decimal len) file.now out.now ∙ range_is_fine start len low short)

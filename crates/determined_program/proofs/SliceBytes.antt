@@ -1,25 +1,52 @@
--- What an accepted slice has is what a blob has there, where its chunks are the blob's.
-use Rattle.std.proofs.Common.{◌≡◌, ◌⊎◌, ◌∙◌, ℕ, ◌+◌, ◌-◌, ◌*◌, ◌/◌, ◌<◌, ◌≤◌, max, min, List, [], ◌∷◌, ◌++◌, length, take, drop, append-nil, true, false, Option, None, Some, inl, inr, arith, refl, sym, ap, length-append, length-drop, length-take, eq-eqb, take-add}
+-- What an accepted slice has of its range a blob with the same root has there, or a collision is exhibited.
+use Rattle.std.proofs.Common.{◌≡◌, ◌⊎◌, ◌∙◌, ℕ, zero, suc, ◌+◌, ◌-◌, ◌*◌, ◌/◌, ◌^◌, ◌<◌, ◌≤◌, ◌==◌, ◌&&◌, max, min, List, [], ◌∷◌, ◌++◌, length, take, drop, append-nil, Bool, true, false, if◌then◌else◌, Option, None, Some, IsSome, nat_lt, inl, inr, arith, refl, sym, subst, ap, length-append, length-drop, length-take, eq-eqb, take-add}
 use Rattle.std.specs.Option.{option_map}
-use Rattle.std.proofs.lemmas.Bool.{cases_Bool, cases_lt}
-use Rattle.std.proofs.lemmas.List.{drop-drop, length-take-le, take-take, take_all}
+use Rattle.std.specs.List.{Contains, flat_map}
+use Rattle.std.proofs.lemmas.Bool.{cases_Bool, cases_lt, eqb-true}
+use Rattle.std.proofs.lemmas.Bool.Decides.{eqb_tells}
+use Rattle.std.proofs.lemmas.List.{drop-drop, drop-take, drop_all, length-take-le, take-append-drop, take-take, take_all}
+use Rattle.std.proofs.lemmas.Nat.{le_bytes_8}
 use Rattle.b3tree.specs.declared.mode.Mode.{Mode}
+use Rattle.b3tree.specs.Hashing.{hash}
 use Rattle.b3tree.specs.Pieces.{piece}
 use Rattle.b3tree.specs.Tree.{left_len}
+use Rattle.b3tree.specs.Valid.{AreBytes, IsKeyed}
+use Rattle.b3tree.proofs.BlockWords.{AreBytes-take}
 use Rattle.bao_text.specs.declared.choice.Choice.{Choice}
+use Rattle.bao_text.specs.declared.kinds.Part.TheVariants.{Slice}
 use Rattle.bao_text.specs.Choice.{chunk_count, of_slice, slice_end, slice_start, wants}
 use Rattle.bao_text.specs.Cut.{claimed}
-use Rattle.bao_text.specs.Nodes.{TreeNode, Side, left, placed_nodes, right, subtree_nodes, subtree_size}
+use Rattle.bao_text.specs.Nodes.{TreeNode, Side, chosen_nodes, left, placed_nodes, right, subtree_nodes, subtree_size}
+use Rattle.bao_text.specs.Texts.{length_text, node_text, slice_text}
 use Rattle.bao_text.proofs.Halves.{by_halves, far_nodes, near_nodes}
+use Rattle.bao_text.proofs.Laws.{chosen_text-nodes}
 use Rattle.bao_text.proofs.SubtreeText.{Parts}
-use Rattle.bao_check.specs.Accepted.{IsAccepted, places_of, slice_nodes}
+use Rattle.bao_check.specs.Accepted.{IsAccepted, bytes_at, places_of, slice_nodes}
 use Rattle.bao_check.specs.Decoded.{Kind, chunk_bytes, decoded, kinds_size, subtree_kinds}
+use Rattle.bao_check.specs.Inputs.{NamesCollision}
 use Rattle.bao_check.specs.Pieces.{chunk_in}
+use Rattle.bao_check.specs.Spans.{chunk_place}
 use Rattle.bao_check.proofs.ChunkBytes.{chunk_bytes-chunk, chunk_bytes-parent, kinds-anywhere, kinds-unwanted, kinds_size-chunk, kinds_size-nodes, kinds_size-parent}
 use Rattle.bao_check.proofs.EachNode.{leaf_nodes}
-use Rattle.bao_check.proofs.Lists.{nodes_size}
+use Rattle.bao_check.proofs.Laws.{accepted_binds}
+use Rattle.bao_check.proofs.Lists.{Contains-head, Contains-tail, nodes_size}
 use Rattle.bao_check.proofs.Locating.{chunk_in-place}
-use Rattle.bao_check.proofs.Presence.{Meets, Meets-from_wants, chunk_far, chunk_near, wants-from_Meets}
+use Rattle.bao_check.proofs.NodeBinding.{nodes_bind}
+use Rattle.bao_check.proofs.Presence.{Meets, Meets-from_wants, chunk_far, chunk_near, slice_present, wants-from_Meets}
+use Rattle.bao_check.proofs.Written.{claimed-chosen_text, slice_accepted}
+use Rattle.bao_decode.specs.Ranges.{first_decoded, part_bytes, written_count}
+use Rattle.determined_program.proofs.NodeBytes.{own_places, placed_bytes}
+
+-- it holds of each number below n, or else something other holds
+each_or : (n : ℕ) (P : ℕ → Type 0) (Q : Type 0) → ((k : ℕ) → P k ⊎ Q) → ((k : ℕ) → k < n → P k) ⊎ Q
+each_or zero P Q each = inl (λ k below. absurd (omega (arith, below)))
+each_or (suc n) P Q each = elim (each n) [
+  | inr other ↦ inr other
+  | inl here ↦ elim (each_or n P Q each) [
+    | inr other ↦ inr other
+    | inl before ↦ inl (λ k below. elim (cases_lt k n) [ inl less ↦ before k less | inr last ↦ subst P (omega (arith, last, below)) here ])
+  ]
+]
 
 pub some_or : {X : Type 0} (o : Option X) → (o ≡ None) ⊎ ((x : X) × (o ≡ Some x))
 some_or None = inl refl
@@ -30,6 +57,17 @@ pub beginning : (n : ℕ) (bytes all : List ℕ) → bytes ≡ take n all → by
 beginning n bytes all is =
     let few : length bytes ≤ n = omega (arith, ap (λ (xs : List ℕ). length xs) is, length-take n all) in
     sym (take_all (length bytes) bytes (omega arith)) ∙ ap (λ (xs : List ℕ). take (length bytes) xs) is ∙ take-take (length bytes) n all few
+
+some_too : {X Y : Type 0} (f : X → Y) (o : Option X) → IsSome o → IsSome (option_map f o)
+some_too f None some = some
+some_too f (Some x) some = some
+
+chunk_is : (there : Bool) (bytes other : List ℕ) → (if there then Some bytes else None) ≡ Some other → bytes ≡ other
+chunk_is true bytes other is = cc
+chunk_is false bytes other is = cc
+
+gap : (a b f : ℕ) → f ≤ a → b - f - (a - f) ≡ b - a
+gap a b f low = omega (arith, low)
 
 -- a piece is its two parts
 joined : (blob : List ℕ) (lo mid hi : ℕ) → lo ≤ mid → mid ≤ hi → piece blob lo (mid - lo) ++ piece blob mid (hi - mid) ≡ piece blob lo (hi - lo)
@@ -202,9 +240,145 @@ module _ (mode : Mode) (root text : List ℕ) (start len : ℕ) (accepted : IsAc
   size_is : min (1024 * 0 + total) (1024 * ((slice_end total start len + 1023) / 1024)) - max (1024 * 0) low ≡ end - low
   size_is = omega arith
 
+  decoded_count : length (decoded text start len) ≡ end - low
+  decoded_count = ap (λ (xs : List ℕ). length xs) (decoded_is []) ∙ (whole []).count ∙ size_is
+
   -- what it has is what the blob has there, where its chunks are the blob's
   pub decoded_same : (blob : List ℕ) → ((k : ℕ) → k < chunk_count total → (bytes : List ℕ) → chunk_in text places k ≡ Some bytes → bytes ≡ take (length bytes) (drop (1024 * k) blob))
       → decoded text start len ≡ piece blob low (end - low)
   decoded_same blob each =
       let at : max (1024 * 0) low ≡ low = omega arith in
       decoded_is blob ∙ (whole blob).same (λ k least most. each k (omega (arith, most))) ∙ (λ i. piece blob (at i) (size_is i))
+
+  -- those of the range
+  abbrev skip : ℕ
+  skip = min start total - first_decoded (Slice start len) total
+
+  abbrev stop : ℕ
+  stop = min (start + len) total - first_decoded (Slice start len) total
+
+  before : first_decoded (Slice start len) total ≤ min start total
+  before = omega arith
+
+  within : stop ≤ end - low
+  within = omega arith
+
+  -- it has as many bytes of the range as are counted
+  pub range_count : length (part_bytes (Slice start len) text) ≡ written_count (Slice start len) text
+  range_count =
+      let taken : length (take stop (decoded text start len)) ≡ stop = length-take-le stop (decoded text start len) (omega (arith, decoded_count, within)) in
+      length-drop skip (take stop (decoded text start len)) ∙ ap (λ (k : ℕ). k - skip) taken
+      ∙ gap (min start total) (min (start + len) total) (first_decoded (Slice start len) total) before
+
+  module _ (blob : List ℕ) where
+    -- each chunk that it has is the blob's, and the last one certifies the blob's length
+    abbrev IsBlobs : ℕ → Type 0
+    IsBlobs k = (bytes : List ℕ) → chunk_in text places k ≡ Some bytes → (bytes ≡ take (length bytes) (drop (1024 * k) blob)) × (k + 1 ≡ chunk_count total → total ≡ length blob)
+
+    -- it has the last one where the range goes to the end
+    certified : ((k : ℕ) → k < chunk_count total → IsBlobs k) → (total ≤ start) ⊎ (total < start + len) → total ≡ length blob
+    certified each ends =
+        let last : ℕ = chunk_count total - 1 in
+        let present : IsSome (chunk_place places last) = (slice_present total start len 8 last).1 (omega arith, elim ends [ inl past ↦ omega (arith, past) | inr end ↦ omega (arith, end) ]) in
+        elim (some_or (chunk_in text places last)) [
+          | inl none ↦
+              let bad : IsSome (chunk_in text places last) = subst (λ (o : Option (List ℕ)). IsSome o) (sym (chunk_in-place text places last)) (some_too (λ span. take span.len (drop span.at text)) (chunk_place places last) present) in
+              let no : IsSome {T = List ℕ} None = subst (λ (o : Option (List ℕ)). IsSome o) none bad in
+              cc
+          | inr found ↦ (each last (omega arith) found.0 found.1).1 (omega arith)
+        ]
+
+    same_range : ((k : ℕ) → k < chunk_count total → IsBlobs k) → part_bytes (Slice start len) text ≡ piece blob start len
+    same_range each =
+        let own : decoded text start len ≡ piece blob low (end - low) = decoded_same blob (λ k below bytes there. (each k below bytes there).0) in
+        let cut : part_bytes (Slice start len) text ≡ drop skip (take stop (drop low blob)) =
+        ap (λ (xs : List ℕ). drop skip (take stop xs)) own ∙ ap (λ (xs : List ℕ). drop skip xs) (take-take stop (end - low) (drop low blob) within) in
+        elim (cases_lt start total) [
+          | inl inside ↦
+              let count : ℕ = min (start + len) total - start in
+              let stop_is : stop ≡ skip + count = omega (arith, inside) in
+              let at : low + skip ≡ start = omega (arith, inside) in
+              let there : part_bytes (Slice start len) text ≡ take count (drop start blob) =
+              cut ∙ ap (λ (k : ℕ). drop skip (take k (drop low blob))) stop_is ∙ drop-take skip count (drop low blob)
+              ∙ ap (λ (xs : List ℕ). take count xs) (drop-drop skip low blob ∙ ap (λ (k : ℕ). drop k blob) at) in
+              elim (cases_lt total (start + len)) [
+                | inr within ↦ there ∙ ap (λ (k : ℕ). take k (drop start blob)) (omega (arith, within))
+                | inl beyond ↦
+                    let whole : total ≡ length blob = certified each (inr beyond) in
+                    let rest : length (drop start blob) ≡ length blob - start = length-drop start blob in
+                    there ∙ take_all count (drop start blob) (omega (arith, rest, whole, beyond)) ∙ sym (take_all len (drop start blob) (omega (arith, rest, whole, beyond)))
+              ]
+          | inr past ↦
+              let whole : total ≡ length blob = certified each (inl past) in
+              let none : drop skip (take stop (drop low blob)) ≡ [] = drop_all skip (take stop (drop low blob)) (omega (arith, past, length-take stop (drop low blob))) in
+              cut ∙ none ∙ sym (ap (λ (xs : List ℕ). take len xs) (drop_all start blob (omega (arith, past, whole))) ∙ take_all len [] (omega arith))
+        ]
+
+  module _ (keyed : IsKeyed mode) (valid : AreBytes text) (blob : List ℕ) (are : AreBytes blob) (is : hash mode blob ≡ root) where
+    abbrev Collides : Type 0
+    Collides = NamesCollision mode blob text places
+
+    -- a chunk that it has is the blob's, or there is a collision
+    one_chunk : (k : ℕ) → IsBlobs blob k ⊎ Collides
+    one_chunk k = elim (some_or (chunk_in text places k)) [
+      | inl none ↦ inl (λ bytes there. let bad : None ≡ Some bytes = sym none ∙ there in cc)
+      | inr found ↦ elim (accepted_binds mode root text blob start len k found.0 keyed are valid is accepted found.1) [
+        | inr collision ↦ inr collision
+        | inl same ↦
+            inl (λ bytes there.
+            let e : found.0 ≡ bytes = (let a = found.1 in cc) in
+            (beginning 1024 bytes (drop (1024 * k) blob) (sym e ∙ sym (chunk_is (nat_lt k (chunk_count (length blob))) (take 1024 (drop (1024 * k) blob)) found.0 same.0)), same.1))
+      ]
+    ]
+
+    -- it is the blob's slice where it claims the blob's length, or there is a collision
+    same_slice : total ≡ length blob → (text ≡ slice_text mode blob start len) ⊎ Collides
+    same_slice claims = elim (nodes_bind mode root text blob start len keyed are valid is accepted claims) [
+      | inr collision ↦ inr collision
+      | inl own ↦
+          let f : TreeNode → List ℕ = node_text mode blob in
+          let head : take 8 text ≡ length_text (length blob) = sym (le_bytes_8 (take 8 text) (length blob) (length-take-le 8 text accepted.long) (AreBytes-take 8 text valid).at (sym claims)) in
+          let rest : drop 8 text ≡ flat_map f (slice_nodes text start len) = placed_bytes f text 8 (slice_nodes text start len) own accepted.ends in
+          inl (sym (take-append-drop 8 text) ∙ (λ i. head i ++ rest i) ∙ ap (λ (n : ℕ). length_text (length blob) ++ flat_map f (chosen_nodes (of_slice n start len) n)) claims
+          ∙ sym (chosen_text-nodes (of_slice (length blob) start len) mode blob))
+    ]
+
+    -- the blob has these bytes there, and this slice if its length is claimed; or there is a collision
+    pub range_binds : ((part_bytes (Slice start len) text ≡ piece blob start len) × (total ≡ length blob → text ≡ slice_text mode blob start len)) ⊎ Collides
+    range_binds = elim (each_or (chunk_count total) (IsBlobs blob) Collides one_chunk) [
+      | inr collision ↦ inr collision
+      | inl each ↦ elim (eqb_tells total (length blob)) [
+        | inr other ↦ inl (same_range blob each, λ claims. absurd (other.1 claims))
+        | inl claims ↦ elim (same_slice claims.1) [ inl own ↦ inl (same_range blob each, λ also. own) | inr collision ↦ inr collision ]
+      ]
+    ]
+
+both : (a b : Bool) → (a && b) ≡ true → (a ≡ true) × (b ≡ true)
+both true b is = (refl, is)
+both false b is = cc
+
+-- where each place of a slice has the blob's bytes, so has each chunk
+chunk_begins : (mode : Mode) (blob text : List ℕ) (all : List (ℕ × TreeNode)) (k : ℕ) (bytes : List ℕ)
+    → ((place : ℕ × TreeNode) → Contains all place → bytes_at text place ≡ node_text mode blob place.1) → chunk_in text all k ≡ Some bytes → bytes ≡ take (length bytes) (drop (1024 * k) blob)
+chunk_begins mode blob text [] k bytes own there = let bad : None ≡ Some bytes = there in cc
+chunk_begins mode blob text (place ∷ rest) k bytes own there = elim (cases_Bool (place.1.is_chunk && (place.1.number == k))) [
+  | inr miss ↦ chunk_begins mode blob text rest k bytes (λ p h. own p (Contains-tail rest place p h)) (rw miss at there)
+  | inl hit ↦
+      let found : Some (bytes_at text place) ≡ Some bytes = rw hit at there in
+      let is : bytes_at text place ≡ bytes = cc in
+      let kind_is = both place.1.is_chunk (place.1.number == k) hit in
+      let number_is : place.1.number ≡ k = eqb-true place.1.number k kind_is.1 in
+      let span : node_text mode blob place.1 ≡ take place.1.len (drop (1024 * place.1.number) blob) = rw kind_is.0 refl in
+      beginning place.1.len bytes (drop (1024 * k) blob) (sym is ∙ own place (Contains-head rest place) ∙ span ∙ ap (λ (j : ℕ). take place.1.len (drop (1024 * j) blob)) number_is)
+]
+
+-- the slice of a blob has its bytes of the range
+pub own_range : (mode : Mode) (blob : List ℕ) (start len : ℕ) → IsKeyed mode → length blob < 2 ^ 64 → part_bytes (Slice start len) (slice_text mode blob start len) ≡ piece blob start len
+own_range mode blob start len keyed short =
+    let text : List ℕ = slice_text mode blob start len in
+    let claims : claimed text ≡ length blob = claimed-chosen_text (of_slice (length blob) start len) mode blob short in
+    let own : (place : ℕ × TreeNode) → Contains (places_of (slice_nodes text start len)) place → bytes_at text place ≡ node_text mode blob place.1 =
+    subst (λ (n : ℕ). (place : ℕ × TreeNode) → Contains (places_of (chosen_nodes (of_slice n start len) n)) place → bytes_at text place ≡ node_text mode blob place.1) (sym claims)
+    (own_places mode blob start len keyed short) in
+    same_range mode (hash mode blob) text start len (slice_accepted mode blob start len keyed short) blob
+    (λ k below bytes there. (chunk_begins mode blob text (places_of (slice_nodes text start len)) k bytes own there, λ last. claims))

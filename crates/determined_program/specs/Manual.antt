@@ -1,12 +1,17 @@
 -- What the manual says of a command, over files in memory.
-use Rattle.std.specs.Prelude.{◌≡◌, ◌≢◌, ◌⊎◌, ℕ, List, [], ◌∷◌, ◌++◌, take, codes, Some, slice_get, true, ⊤}
+use Rattle.std.specs.Prelude.{◌≡◌, ◌≢◌, ◌⊎◌, ℕ, List, [], ◌∷◌, ◌++◌, length, take, codes, Some, slice_get, true, ⊤}
 use Rattle.std.specs.Fmt.{decimal}
 use Rattle.clap.specs.Words.{Text}
 use Rattle.b3tree.specs.Hashing.{hash}
 use Rattle.b3tree.specs.Modes.{plain}
-use Rattle.bao_text.specs.Texts.{combined_text, outboard_text}
+use Rattle.b3tree.specs.Pieces.{piece}
+use Rattle.b3tree.specs.Valid.{AreBytes}
+use Rattle.bao_text.specs.Cut.{claimed}
+use Rattle.bao_text.specs.Texts.{combined_text, outboard_text, slice_text}
 use Rattle.bao_text.specs.declared.kinds.Encoding.{Encoding}
 use Rattle.bao_text.specs.declared.kinds.Encoding.TheVariants.{Combined, Outboard, Slice}
+use Rattle.bao_check.specs.Accepted.{IsAccepted, places_of, slice_nodes}
+use Rattle.bao_check.specs.Inputs.{NamesCollision}
 use Rattle.holders.specs.Places.{IsCutAt}
 use Rattle.holders.specs.declared.piece.Piece.{Piece}
 use Rattle.bao_tasks.specs.FromFiles.{is_regular, taken_bytes}
@@ -33,6 +38,17 @@ words_for (Slice start len) = codes "slice" ∷ decimal start ∷ decimal len �
 -- the file at the path is the combined encoding of the blob, whose hash this is
 abbrev pub IsEncodingOf : (List ℕ → FileState) → List ℕ → List ℕ → List ℕ → Type 0
 IsEncodingOf at path root blob = (at path ≡ Stored (combined_text plain blob)) × (hash plain blob ≡ root)
+
+-- the file at the path is the slice of the blob for the range, and this is the blob's hash
+abbrev pub IsBlobSlice : (List ℕ → FileState) → List ℕ → List ℕ → ℕ → ℕ → List ℕ → Type 0
+IsBlobSlice at path root start len blob = (at path ≡ Stored (slice_text plain blob start len)) × (hash plain blob ≡ root)
+
+-- The slice is accepted under the root. Of each blob with that root these are the bytes of the range, and the slice is the blob's if it claims the blob's
+-- length; or the two have a collision, one input from each.
+pub record HasRange (root : List ℕ) (start len : ℕ) (slice bytes : List ℕ) : Type 0 where
+  pub accepted : IsAccepted plain root slice (slice_nodes slice start len)
+  pub binds : (blob : List ℕ) → AreBytes blob → hash plain blob ≡ root
+      → ((bytes ≡ piece blob start len) × (claimed slice ≡ length blob → slice ≡ slice_text plain blob start len)) ⊎ NamesCollision plain blob slice (places_of (slice_nodes slice start len))
 
 -- the one file is the outboard encoding of the blob, whose hash this is, and the other has the blob's bytes
 abbrev pub IsCopyOf : (List ℕ → FileState) → List ℕ → List ℕ → List ℕ → List ℕ → Type 0

@@ -1,10 +1,12 @@
 // What the manual says of a command, word by word, over files in memory.
 
 ghost use Rattle.std.specs.Prelude.{◌≡◌, ◌≢◌, ◌⊎◌, ℕ, ◌^◌, ◌<◌, ◌≤◌, List, [], ◌∷◌, length, map, string_bytes, codes, Ok, Some};
+ghost use Rattle.std.specs.Fmt.{decimal};
 ghost use Rattle.std.specs.Io.KnownBytes.{Appends, Keeps};
 ghost use Rattle.hex.specs.Hex.{decode_of};
 ghost use Rattle.b3tree.specs.Hashing.{hash};
 ghost use Rattle.b3tree.specs.Modes.{plain};
+ghost use Rattle.b3tree.specs.Pieces.{piece};
 ghost use Rattle.b3tree.specs.Valid.{AreBytes};
 ghost use Rattle.bao_text.specs.Choice.{chunk_count};
 ghost use Rattle.bao_text.specs.Texts.{combined_text};
@@ -15,7 +17,7 @@ ghost use Rattle.bao_files.specs.Encoded.{encoding_text};
 ghost use Rattle.bao_files.specs.HeldFiles.{held_at};
 ghost use Rattle.bao_files.specs.Printed.{digits_line, ok_line};
 ghost use Rattle.bao_command.specs.Tasks.{IsNoOutput};
-ghost use Rattle.determined_program.specs.Manual.{IsAmongThem, IsCommand, IsCopyOf, IsCutOutOf, IsDoneOrFailed, IsEncodingOf, words_for};
+ghost use Rattle.determined_program.specs.Manual.{HasRange, IsAmongThem, IsBlobSlice, IsCommand, IsCopyOf, IsCutOutOf, IsDoneOrFailed, IsEncodingOf, words_for};
 
 use b3tree::{Hash, Mode, bytes_are};
 use bao_command::command;
@@ -149,6 +151,44 @@ fn held_are(disk: &MemoryFiles, path: &str)
     if let Some(bytes) = disk.get(path) {
         bytes_are(bytes);
     }
+}
+
+// `decode-slice ROOT START LEN SLICE OUT` puts bytes at OUT, and prints their number. If SLICE is the slice of a blob with the hash ROOT for the range, that
+// isn't refused, and they are the blob's bytes of the range. Whatever SLICE is, they are those of each blob with the hash ROOT, and SLICE is the blob's slice
+// if it claims the blob's length; or else two different inputs with one chaining value are exhibited, one of the blob and one of SLICE. If it is refused,
+// nothing changes. If it isn't done, OUT is as it was, or has the bytes.
+pub fn decode_slice_is<R: AllocGlobal + Threads + Sync, O: Write, E: Write, P: Progress + Sync>(
+    rt: &R,
+    disk: &mut MemoryFiles,
+    words: &[String],
+    digits: &str,
+    root: &Hash,
+    start: u64,
+    len: u64,
+    file: &str,
+    path: &str,
+    out: &mut O,
+    err: &mut E,
+    progress: &P,
+) -> u8
+    requires asked { IsCommand (map string_bytes words.now) (codes "decode-slice" ∷ []) (digits.now ∷ decimal start ∷ decimal len ∷ file.now ∷ path.now ∷ []) }
+    requires root { decode_of digits.now ≡ Ok root.now.0 }
+    requires apart { IsNoOutput path.now × (path.now ≢ file.now) }
+    ensures done { result ≡ 0 → (slice : List ℕ) × (bytes : List ℕ) × (held_at disk.old.files file.now ≡ Stored slice) × HasRange root.now.0 start len slice bytes
+        × Puts (held_at disk.old.files) (held_at disk.new.files) path.now (Some bytes) × Appends (O.contents out.old) (O.contents out.new) (ok_line (length bytes)) }
+    ensures same { result ≡ 0 → (blob : List ℕ) → length (combined_text plain blob) < 2 ^ 63 → IsBlobSlice (held_at disk.old.files) file.now root.now.0 start len blob
+        → Puts (held_at disk.old.files) (held_at disk.new.files) path.now (Some (piece blob start len))
+        × Appends (O.contents out.old) (O.contents out.new) (ok_line (length (piece blob start len))) }
+    ensures refused { result ≡ 1 → (blob : List ℕ) → length (combined_text plain blob) < 2 ^ 63 → ¬ IsBlobSlice (held_at disk.old.files) file.now root.now.0 start len blob }
+    ensures kept { result ≡ 1 → KeepsFiles (held_at disk.old.files) (held_at disk.new.files) × Keeps (O.contents out.old) (O.contents out.new) }
+    ensures files { KeepsFiles (held_at disk.old.files) (held_at disk.new.files) ⊎ ((slice : List ℕ) × (bytes : List ℕ) × (held_at disk.old.files file.now ≡ Stored slice)
+        × HasRange root.now.0 start len slice bytes × Puts (held_at disk.old.files) (held_at disk.new.files) path.now (Some bytes)) }
+    ensures status { IsDoneOrFailed result ⊎ (result ≡ 1) }
+{
+    // Laws, so that the proof has what they say: nothing runs.
+    Mode::hash().is_keyed();
+    bytes_are(&root.0);
+    command(rt, disk, words, out, err, progress)
 }
 
 // `gather ROOT OUT FILE..` puts at OUT a blob with the hash ROOT, whatever the FILEs are, and prints how many bytes it has. If it is refused, nothing
