@@ -1,5 +1,5 @@
 -- What a command comes to that asks for one task alone, over known files.
-use Rattle.std.proofs.Common.{◌≡◌, ◌≢◌, ◌⊎◌, ◌∙◌, ℕ, ◌-◌, ◌^◌, ◌<◌, ◌≤◌, List, [], ◌∷◌, length, take, drop, false, if◌then◌else◌, map, slice_get, zero, suc, Option, Some, None, Ok, Bor, IsSome, IsSomeAnd, inl, inr, arith, refl, sym, subst, ap, length-append}
+use Rattle.std.proofs.Common.{◌≡◌, ◌≢◌, ◌⊎◌, ◌∙◌, ℕ, ◌-◌, ◌^◌, ◌<◌, ◌≤◌, List, [], ◌∷◌, length, take, drop, false, if◌then◌else◌, map, slice_get, zero, suc, Option, Some, None, Ok, Bor, IsSome, IsSomeAnd, inl, inr, arith, refl, sym, subst, ap, length-append, length-drop, length-take}
 use Rattle.std.proofs.lemmas.Bool.Decides.{eqb_tells}
 use Rattle.std.proofs.lemmas.List.{take_all}
 use Rattle.std.specs.Prelude.{String, Vec}
@@ -22,7 +22,7 @@ use Rattle.bao_files.specs.Printed.{IsDigits, digits_line, ok_line}
 use Rattle.bao_request.specs.CommandLine.{AsksFor, program_app}
 use Rattle.bao_request.specs.declared.tasks.Request.{Request}
 use Rattle.bao_request.specs.declared.tasks.Task.{Task}
-use Rattle.bao_request.specs.declared.tasks.Task.TheVariants.{Hash, Encode, Decode, DecodeCopy, Gather}
+use Rattle.bao_request.specs.declared.tasks.Task.TheVariants.{Hash, Encode, CutSlice, Decode, DecodeCopy, Gather}
 use Rattle.bao_tasks.specs.FromFiles.{IsFromFile, is_regular}
 use Rattle.bao_tasks.specs.Givens.{most_bytes}
 use Rattle.holders.specs.Blobs.{HasCollision, IsBlob, fixed_as}
@@ -34,13 +34,13 @@ use Rattle.bao_tasks.specs.Listed.{lines_of_parts}
 use Rattle.bao_text.specs.declared.kinds.Encoding.{Encoding}
 use Rattle.bao_text.specs.declared.kinds.Part.{Part}
 use Rattle.bao_text.specs.declared.kinds.Part.TheVariants as part
-use Rattle.bao_text.specs.Cut.{claimed}
-use Rattle.bao_text.specs.Choice.{chunk_count, of_combined}
+use Rattle.bao_text.specs.Cut.{claimed, cut_text}
+use Rattle.bao_text.specs.Choice.{chunk_count, of_combined, of_slice}
 use Rattle.bao_text.specs.Texts.{combined_text, length_text, outboard_text, slice_text, subtree_text}
 use Rattle.bao_text.proofs.Everything.{length-everything}
 use Rattle.bao_text.proofs.Laws.{cut_text-combined}
 use Rattle.bao_check.specs.Decoded.{decoded}
-use Rattle.bao_check.proofs.Written.{combined_accepted, slice_accepted}
+use Rattle.bao_check.proofs.Written.{claimed-chosen_text, combined_accepted, slice_accepted}
 use Rattle.bao_decode.specs.Copies.{IsCopyBeside}
 use Rattle.bao_decode.proofs.Cuttings.{cut_text-few}
 use Rattle.bao_decode.specs.Ranges.{IsPartText, first_decoded, part_bytes, written_count}
@@ -484,6 +484,65 @@ module _ {words : List Text} {at after : List ℕ → FileState} {old new : Opti
         let also = is.0 in
         let same : slice ≡ slice_text plain blob start len = cc in
         ap range_of same ∙ own_range plain blob start len keyed (below blob low)
+
+    -- the slice that is cut out of the file
+    abbrev IsCut : List ℕ → Type 0
+    IsCut slice = (encoding : List ℕ) × (at file.now ≡ Stored encoding) × (length encoding < 2 ^ 64 → slice ≡ cut_text encoding start len)
+
+    pub cut_facts : (other : Task) → SameTask (CutSlice root start len None file out) other → (bytes : List ℕ) → IsRight at plain other bytes → Writes at after plain other None bytes
+        → (slice : List ℕ) × (HasRange key start len slice (range_of slice) × Puts at after out.now (Some slice) × IsCut slice) × (line_of plain other bytes ≡ ok_line (length (range_of slice)))
+    cut_facts (CutSlice given_root from count None given to) same bytes right writes =
+        let first = right.0.1.0 in
+        let key_is : right.0.0 ≡ key = (let digits = same.0 in cc) in
+        let accepted : IsPartText plain key (part.Slice start len) bytes =
+        subst (λ (T : Type 0). T) (λ i. IsPartText plain (key_is i) (part.Slice (sym same.1 i) (sym same.2 i)) bytes) right.0.1.1.0 in (
+          bytes,
+          (
+            has_range bytes accepted right.0.1.1.1,
+            subst (λ (path : List ℕ). Puts at after path (Some bytes)) (sym same.5) writes,
+            (
+              right.1.0,
+              stored_there (at file.now) right.1.0 (ran.known file.now) (subst (λ (path : List ℕ). AreOf (at path) right.1.0) (sym same.4) right.1.1),
+              λ low. right.1.2 low ∙ (λ i. cut_text right.1.0 (sym same.1 i) (sym same.2 i)),
+            ),
+          ),
+          (λ i. ok_line (written_count (part.Slice (sym same.1 i) (sym same.2 i)) bytes)) ∙ ap ok_line (sym (range_count plain key bytes start len accepted)),
+        )
+    cut_facts (CutSlice given_root from count (Some beside) given to) same bytes right writes = let bad : None ≡ Some beside.now = same.3 in cc
+    cut_facts other same bytes right writes = absurd same
+
+    -- of the encoding of a blob it is the blob's
+    pub cut_same : (slice : List ℕ) → HasRange key start len slice (range_of slice) → IsCut slice → (blob : List ℕ) → length (combined_text plain blob) < 2 ^ 63 → IsEncodingOf at file.now key blob
+        → (slice ≡ slice_text plain blob start len) × (length (range_of slice) ≡ length (piece blob start len))
+    cut_same slice range cut blob low is =
+        let both = cut.1 in
+        let also = is.0 in
+        let encoding : cut.0 ≡ combined_text plain blob = cc in
+        let same : slice ≡ slice_text plain blob start len =
+        cut.2 (omega (arith, low, ap (λ (text : List ℕ). length text) encoding)) ∙ ap (λ (text : List ℕ). cut_text text start len) encoding ∙ cut_text-combined plain blob start len (below blob low) in
+        let claims : claimed slice ≡ length blob = ap claimed same ∙ claimed-chosen_text (of_slice (length blob) start len) plain blob (below blob low) in
+        (same, omega (arith, range_count plain key slice start len range.accepted, claims, length-take len (drop start blob), length-drop start blob))
+
+    pub cut_fine : IsDigits root.now → IsNoOutput out.now → out.now ≢ file.now → (other : Task) → SameTask (CutSlice root start len None file out) other → IsFine at other
+    cut_fine digits apart unread (CutSlice given_root from count None given to) same =
+        let own = out_fine out file given to same.4 same.5 apart unread in
+        (subst IsDigits same.0 digits, own.0, λ reads. elim reads [ inl bad ↦ bad | inr (inl beside) ↦ beside | inr (inr is) ↦ own.1 is ], none, none, none, none, none, none, none)
+    cut_fine digits apart unread (CutSlice given_root from count (Some beside) given to) same = let bad : None ≡ Some beside.now = same.3 in cc
+    cut_fine digits apart unread other same = absurd same
+
+    pub cut_refused : (other : Task) → SameTask (CutSlice root start len None file out) other → IsRefused sure at plain other
+        → (blob : List ℕ) → length (combined_text plain blob) < 2 ^ 63 → ¬ IsEncodingOf at file.now key blob
+    cut_refused (CutSlice given_root from count None given to) same bad blob low is =
+        let first = bad.1.0 in
+        let key_is : bad.0 ≡ key = (let digits = same.0 in cc) in
+        let encoding : List ℕ = combined_text plain blob in
+        let fault = bad.1.1.1 (ran.known to.now) encoding (subst (λ (path : List ℕ). at path ≡ Stored encoding) same.4 is.0) low in
+        let own = own_slice blob low is.1 in
+        let cut : slice_text plain blob start len ≡ cut_text encoding from count = sym (cut_text-combined plain blob start len (below blob low)) ∙ (λ i. cut_text encoding (same.1 i) (same.2 i)) in
+        accepted_apart plain bad.0 (part.Slice from count) (cut_text encoding from count) (omega (arith, own.1, ap (λ (text : List ℕ). length text) cut))
+        (subst (λ (T : Type 0). T) (λ i. IsPartText plain (sym key_is i) (part.Slice (same.1 i) (same.2 i)) (cut i)) own.0) fault
+    cut_refused (CutSlice given_root from count (Some beside) given to) same bad blob low is = let no : None ≡ Some beside.now = same.3 in cc
+    cut_refused other same bad blob low is = absurd same
 
   -- gathering
   module _ (root out : Bor (List ℕ)) (files : Vec (Bor (List ℕ)) Global) where

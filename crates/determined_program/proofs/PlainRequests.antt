@@ -16,7 +16,7 @@ use Rattle.bao_request.specs.Requests.{GivesFlag, GivesRequest, GivesTask}
 use Rattle.bao_request.specs.declared.tasks.GatherTask.{GatherTask}
 use Rattle.bao_request.specs.declared.tasks.Request.{Request}
 use Rattle.bao_request.specs.declared.tasks.Task.{Task}
-use Rattle.bao_request.specs.declared.tasks.Task.TheVariants.{Hash, Encode, Decode, DecodeCopy, Gather}
+use Rattle.bao_request.specs.declared.tasks.Task.TheVariants.{Hash, Encode, CutSlice, Decode, DecodeCopy, Gather}
 use Rattle.determined_program.specs.Manual.{ArePlain, IsCommand, words_for}
 use Rattle.determined_program.proofs.PlainWords.{Begins, IsMet, beside_held, begins_bare, decimal_given, decimal_plain, decode_begins, gather_leaf, gather_rows, gather_rows_are, leaf_fault, no_fault, placed_fault, range_faults, range_is_fine, rows_are, rows_for, shape_named}
 
@@ -164,3 +164,19 @@ decode_slice_alone words root start len file out low short asks =
     (Decode root (part.Slice start len) file out) rows refl
     ((refl, (decimal_given start low rows (codes "START") refl, decimal_given len short rows (codes "LEN") refl), refl), refl, refl)
     (record { key = refl; key_file = refl; context = refl; verbose = refl }) (decode_slice_leaf root.now (decimal start) (decimal len) file.now out.now ∙ range_is_fine start len low short)
+
+cut_leaf : (root start len file out : Text) → leaf_fault (shape_named (codes "cut-slice")) nothing_held (root ∷ start ∷ len ∷ file ∷ out ∷ []) ≡ range_faults start len
+unfolding placed_fault defaults_fault
+cut_leaf root start len file out = refl
+
+pub cut_slice_alone : (words : List Text) (root : Bor Text) (start len : ℕ) (file out : Bor Text) → start < 2 ^ 64 → len < 2 ^ 64
+    → IsCommand words (codes "cut-slice" ∷ []) (root.now ∷ decimal start ∷ decimal len ∷ file.now ∷ out.now ∷ []) → AsksAlone words (CutSlice root start len None file out)
+unfolding walked rows_for placed_fault defaults_fault
+cut_slice_alone words root start len file out low short asks =
+    let s : Shape = shape_named (codes "cut-slice") in
+    let arguments : List Text = root.now ∷ decimal start ∷ decimal len ∷ file.now ∷ out.now ∷ [] in
+    let rows : List Row = rows_for s nothing_held arguments in
+    alone_by words asks.0 (codes "cut-slice") s [] nothing_held arguments asks.1 (record { met = refl; there = refl; named = refl; fine = refl }) (begins_bare s) asks.2
+    (CutSlice root start len None file out) rows refl
+    (refl, (decimal_given start low rows (codes "START") refl, decimal_given len short rows (codes "LEN") refl), refl, refl, refl, refl)
+    (record { key = refl; key_file = refl; context = refl; verbose = refl }) (cut_leaf root.now (decimal start) (decimal len) file.now out.now ∙ range_is_fine start len low short)

@@ -9,7 +9,7 @@ ghost use Rattle.b3tree.specs.Modes.{plain};
 ghost use Rattle.b3tree.specs.Pieces.{piece};
 ghost use Rattle.b3tree.specs.Valid.{AreBytes};
 ghost use Rattle.bao_text.specs.Choice.{chunk_count};
-ghost use Rattle.bao_text.specs.Texts.{combined_text};
+ghost use Rattle.bao_text.specs.Texts.{combined_text, slice_text};
 ghost use Rattle.bao_text.specs.declared.kinds.Encoding.TheVariants.{Slice};
 ghost use Rattle.holders.specs.Blobs.{HasCollision, IsBlob, fixed_as};
 ghost use Rattle.bao_files.specs.Disks.{KeepsFiles, Puts, Stored};
@@ -183,6 +183,43 @@ pub fn decode_slice_is<R: AllocGlobal + Threads + Sync, O: Write, E: Write, P: P
     ensures kept { result ≡ 1 → KeepsFiles (held_at disk.old.files) (held_at disk.new.files) × Keeps (O.contents out.old) (O.contents out.new) }
     ensures files { KeepsFiles (held_at disk.old.files) (held_at disk.new.files) ⊎ ((slice : List ℕ) × (bytes : List ℕ) × (held_at disk.old.files file.now ≡ Stored slice)
         × HasRange root.now.0 start len slice bytes × Puts (held_at disk.old.files) (held_at disk.new.files) path.now (Some bytes)) }
+    ensures status { IsDoneOrFailed result ⊎ (result ≡ 1) }
+{
+    // Laws, so that the proof has what they say: nothing runs.
+    Mode::hash().is_keyed();
+    bytes_are(&root.0);
+    command(rt, disk, words, out, err, progress)
+}
+
+// `cut-slice ROOT START LEN FILE OUT` puts at OUT a slice for the range that `decode-slice` accepts, and prints how many bytes of the range it has. If FILE
+// is the combined encoding of a blob with the hash ROOT, that isn't refused, and the slice is the one that `slice` writes for the blob. If it is refused,
+// nothing changes. If it isn't done, OUT is as it was, or has the slice.
+pub fn cut_slice_is<R: AllocGlobal + Threads + Sync, O: Write, E: Write, P: Progress + Sync>(
+    rt: &R,
+    disk: &mut MemoryFiles,
+    words: &[String],
+    digits: &str,
+    root: &Hash,
+    start: u64,
+    len: u64,
+    file: &str,
+    path: &str,
+    out: &mut O,
+    err: &mut E,
+    progress: &P,
+) -> u8
+    requires asked { IsCommand (map string_bytes words.now) (codes "cut-slice" ∷ []) (digits.now ∷ decimal start ∷ decimal len ∷ file.now ∷ path.now ∷ []) }
+    requires root { decode_of digits.now ≡ Ok root.now.0 }
+    requires apart { IsNoOutput path.now × (path.now ≢ file.now) }
+    ensures done { result ≡ 0 → (slice : List ℕ) × (bytes : List ℕ) × HasRange root.now.0 start len slice bytes
+        × Puts (held_at disk.old.files) (held_at disk.new.files) path.now (Some slice) × Appends (O.contents out.old) (O.contents out.new) (ok_line (length bytes)) }
+    ensures same { result ≡ 0 → (blob : List ℕ) → length (combined_text plain blob) < 2 ^ 63 → IsEncodingOf (held_at disk.old.files) file.now root.now.0 blob
+        → Puts (held_at disk.old.files) (held_at disk.new.files) path.now (Some (slice_text plain blob start len))
+        × Appends (O.contents out.old) (O.contents out.new) (ok_line (length (piece blob start len))) }
+    ensures refused { result ≡ 1 → (blob : List ℕ) → length (combined_text plain blob) < 2 ^ 63 → ¬ IsEncodingOf (held_at disk.old.files) file.now root.now.0 blob }
+    ensures kept { result ≡ 1 → KeepsFiles (held_at disk.old.files) (held_at disk.new.files) × Keeps (O.contents out.old) (O.contents out.new) }
+    ensures files { KeepsFiles (held_at disk.old.files) (held_at disk.new.files) ⊎ ((slice : List ℕ) × (bytes : List ℕ) × HasRange root.now.0 start len slice bytes
+        × Puts (held_at disk.old.files) (held_at disk.new.files) path.now (Some slice)) }
     ensures status { IsDoneOrFailed result ⊎ (result ≡ 1) }
 {
     // Laws, so that the proof has what they say: nothing runs.
