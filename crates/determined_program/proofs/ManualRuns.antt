@@ -2,7 +2,7 @@
 use Rattle.std.proofs.Common.{◌≡◌, ◌≢◌, ◌⊎◌, ◌∙◌, ℕ, ◌-◌, ◌^◌, ◌<◌, ◌≤◌, List, [], ◌∷◌, length, take, drop, false, if◌then◌else◌, map, slice_get, zero, suc, Option, Some, None, Ok, Bor, IsSome, IsSomeAnd, inl, inr, arith, refl, sym, subst, ap, length-append, length-drop, length-take}
 use Rattle.std.proofs.lemmas.Bool.Decides.{eqb_tells}
 use Rattle.std.proofs.lemmas.List.{take_all}
-use Rattle.std.specs.Prelude.{String, Vec}
+use Rattle.std.specs.Prelude.{IfSome, String, Vec, ⊤}
 use Rattle.std.specs.Global.{Global}
 use Rattle.std.specs.BTreeMap.{BTreeMap, get_by_text}
 use Rattle.std.specs.Option.{option_copied}
@@ -23,9 +23,10 @@ use Rattle.bao_request.specs.CommandLine.{AsksFor, program_app}
 use Rattle.bao_request.specs.declared.tasks.Request.{Request}
 use Rattle.bao_request.specs.declared.tasks.Task.{Task}
 use Rattle.bao_request.specs.declared.tasks.Task.TheVariants.{Hash, Encode, CutSlice, Decode, DecodeCopy, Gather}
-use Rattle.bao_tasks.specs.FromFiles.{IsFromFile, is_regular}
+use Rattle.bao_tasks.specs.FromFiles.{IsFromFile, is_regular, taken_bytes}
 use Rattle.bao_tasks.specs.Givens.{most_bytes}
-use Rattle.holders.specs.Blobs.{HasCollision, IsBlob, fixed_as}
+use Rattle.holders.specs.Blobs.{HasCollision, fixed_as}
+use Rattle.holders.specs.Places.{IsCutAt}
 use Rattle.holders.specs.declared.form.Form.TheVariants.{Slices}
 use Rattle.holders.specs.declared.grain.Grain.TheVariants.{Group as ByGroup, Chunk as ByChunk}
 use Rattle.b3tree.specs.declared.values.Hash.{Hash as Root32}
@@ -56,7 +57,7 @@ use Rattle.bao_command.specs.Status.{status_of}
 use Rattle.bao_command.proofs.Telling.{file_refuses_none}
 use Rattle.bao_command.specs.Tasks.{HasBadScript, HasManyFiles, HasNoCapacity, HasRoot, IsListAt, IsListRead, IsMixed, IsNoOutput, IsOfFile, IsPastOutput, IsRight, LeavesFilesOf, ListClashes, ReadsListOf, ReadsOutAs, WritesApart, line_of}
 use Rattle.determined_program.specs.Commands.{IsGood}
-use Rattle.determined_program.specs.Manual.{HasRange, IsAmongThem, IsBlobSlice, IsCopyOf, IsCutOutOf, IsDoneOrFailed, IsEncodingOf}
+use Rattle.determined_program.specs.Manual.{HasCollidingSlice, HasRange, IsAmongThem, IsBlobSlice, IsCopyOf, IsDoneOrFailed, IsEncodingOf}
 use Rattle.determined_program.specs.Requests.{SameTask}
 use Rattle.determined_program.proofs.Decoded.{beside_apart}
 use Rattle.determined_program.proofs.Good.{not_usage}
@@ -186,6 +187,11 @@ named_back : (items : List (Bor (List ℕ))) (k : ℕ) (item : Bor (List ℕ)) �
 named_back [] k item is = cc
 named_back (other ∷ items) zero item is = cc
 named_back (other ∷ items) (suc k) item is = named_back items k item is
+
+-- no read of what is known fails
+cut_known : (contents : Option (List ℕ)) (start len : ℕ) (text : List ℕ) → IsCutAt contents ⊤ start len text → IfSome contents (λ bytes. length bytes < 2 ^ 64 → text ≡ cut_text bytes start len)
+cut_known None start len text cut = tt
+cut_known (Some bytes) start len text cut = λ low. elim (cut low) [ inl is ↦ is | inr lost ↦ absurd (lost.1 tt) ]
 
 -- What comes of one task, of whatever texts.
 module _ {words : List Text} {at after : List ℕ → FileState} {old new : Option (List ℕ)} {sure : Type 0} {status : ℕ} (ran : Ran words at after old new sure status) where
@@ -578,9 +584,9 @@ module _ {words : List Text} {at after : List ℕ → FileState} {old new : Opti
     gather_facts key of other same bytes right writes = absurd same
 
     pub gather_enough : sure → (key : Root32) → decode_of root.now ≡ Ok key.0 → (other : Task) → SameTask (Gather (plain_gathering root files out)) other → IsRefused sure at plain other
-        → (blob : List ℕ) → IsBlob (fixed_as key plain 65536) blob → chunk_count (length blob) ≤ 65536 → IsAmongThem at (map (λ file. file.now) files.items) blob
-        → HasCollision (IsCutOutOf at (map (λ file. file.now) files.items)) (fixed_as key plain 65536) blob
-    gather_enough there key of (Gather task) same bad blob is fits among =
+        → (blob : List ℕ) → AreBytes blob → hash plain blob ≡ key.0 → chunk_count (length blob) ≤ 65536 → IsAmongThem at (map (λ file. file.now) files.items) blob
+        → HasCollidingSlice at (map (λ file. file.now) files.items) key.0 blob
+    gather_enough there key of (Gather task) same bad blob are is fits among =
         let key_is : bad.0 ≡ key = one_root task.root.now root.now bad.0 key (sym same.0) bad.1.0 of in
         let beside : task.outboard ≡ None = none_there task.outboard (sym same.4) in
         let grain = if task.salvage then ByChunk else ByGroup in
@@ -588,18 +594,21 @@ module _ {words : List Text} {at after : List ℕ → FileState} {old new : Opti
         subst (λ (T : Type 0). T) (λ i. IsRefusedGathering sure at plain grain (sym same.3 i) (sym same.2 i) (beside i) task.files.items task.out.now (key_is i)) bad.1.1 in
         let item = named_too task.files.items among.0 among.1 (ap (λ (paths : List (List ℕ)). slice_get paths among.0) (sym same.8) ∙ among.2) in
         let pair : HasCollision (IsFromFile Slices (fixed_as key plain 65536) false at task.files.items) (fixed_as key plain 65536) blob =
-        none there (ran.known task.out.now) blob is (inr fits)
+        none there (ran.known task.out.now) blob (record { bytes = are; root = is }) (inr fits)
         (inl ((among.0, item.0, item.1.0, ap is_regular item.1.1 ∙ among.3, ap at item.1.1 ∙ among.4), small blob fits)) in
         record {
-          piece = pair.piece;
-          from = (
+          start = pair.piece.start;
+          len = pair.piece.len;
+          slice = pair.piece.text;
+          cut = (
             most_bytes Slices pair.from.0,
             pair.from.2.place,
             pair.from.2.holder.now,
             ap (λ (paths : List (List ℕ)). slice_get paths pair.from.2.place) same.8 ∙ named_back task.files.items pair.from.2.place pair.from.2.holder pair.from.2.there,
-            pair.from.2.given,
+            cut_known (taken_bytes (is_regular pair.from.2.holder.now) (most_bytes Slices pair.from.0) (at pair.from.2.holder.now)) pair.piece.start pair.piece.len pair.piece.text pair.from.2.given,
           );
-          accepted = pair.accepted;
+          bytes = pair.accepted.bytes;
+          accepted = pair.accepted.accepted;
           pair = pair.pair;
         }
-    gather_enough there key of other same bad blob is fits among = absurd same
+    gather_enough there key of other same bad blob are is fits among = absurd same

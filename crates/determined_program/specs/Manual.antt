@@ -1,19 +1,17 @@
 -- What the manual says of a command, over files in memory.
-use Rattle.std.specs.Prelude.{◌≡◌, ◌≢◌, ◌⊎◌, ℕ, List, [], ◌∷◌, ◌++◌, length, take, codes, Some, slice_get, true, ⊤}
+use Rattle.std.specs.Prelude.{◌≡◌, ◌≢◌, ◌⊎◌, ℕ, List, [], ◌∷◌, ◌++◌, length, take, codes, Some, IfSome, slice_get, true, ◌^◌, ◌<◌}
 use Rattle.std.specs.Fmt.{decimal}
 use Rattle.clap.specs.Words.{Text}
 use Rattle.b3tree.specs.Hashing.{hash}
 use Rattle.b3tree.specs.Modes.{plain}
 use Rattle.b3tree.specs.Pieces.{piece}
 use Rattle.b3tree.specs.Valid.{AreBytes}
-use Rattle.bao_text.specs.Cut.{claimed}
+use Rattle.bao_text.specs.Cut.{claimed, cut_text}
 use Rattle.bao_text.specs.Texts.{combined_text, outboard_text, slice_text}
 use Rattle.bao_text.specs.declared.kinds.Encoding.{Encoding}
 use Rattle.bao_text.specs.declared.kinds.Encoding.TheVariants.{Combined, Outboard, Slice}
 use Rattle.bao_check.specs.Accepted.{IsAccepted, places_of, slice_nodes}
 use Rattle.bao_check.specs.Inputs.{NamesCollision}
-use Rattle.holders.specs.Places.{IsCutAt}
-use Rattle.holders.specs.declared.piece.Piece.{Piece}
 use Rattle.bao_tasks.specs.FromFiles.{is_regular, taken_bytes}
 use Rattle.bao_files.specs.Disks.{FileState, Stored}
 
@@ -59,9 +57,20 @@ abbrev pub IsDoneOrFailed : ℕ → Type 0
 IsDoneOrFailed status = (status ≡ 0) ⊎ (status ≡ 3) ⊎ (status ≡ 4)
 
 -- the slice is cut out of the contents of one of the files or, if that is standard input, out of a beginning of them
-abbrev pub IsCutOutOf : (List ℕ → FileState) → List (List ℕ) → Piece → Type 0
-IsCutOutOf at files piece =
-    (most : ℕ) × (k : ℕ) × (file : List ℕ) × (slice_get files k ≡ Some file) × IsCutAt (taken_bytes (is_regular file) most (at file)) ⊤ piece.start piece.len piece.text
+abbrev pub IsCutOutOf : (List ℕ → FileState) → List (List ℕ) → ℕ → ℕ → List ℕ → Type 0
+IsCutOutOf at files start len slice =
+    (most : ℕ) × (k : ℕ) × (file : List ℕ) × (slice_get files k ≡ Some file)
+    × IfSome (taken_bytes (is_regular file) most (at file)) (λ bytes. length bytes < 2 ^ 64 → slice ≡ cut_text bytes start len)
+
+-- A slice that is cut out of one of the files and accepted under the root has a collision with the blob: one input from each.
+pub record HasCollidingSlice (at : List ℕ → FileState) (files : List (List ℕ)) (root blob : List ℕ) : Type 0 where
+  pub start : ℕ
+  pub len : ℕ
+  pub slice : List ℕ
+  pub cut : IsCutOutOf at files start len slice
+  pub bytes : AreBytes slice
+  pub accepted : IsAccepted plain root slice (slice_nodes slice start len)
+  pub pair : NamesCollision plain blob slice (places_of (slice_nodes slice start len))
 
 -- one of the files, which isn't standard input, is the combined encoding of the blob
 abbrev pub IsAmongThem : (List ℕ → FileState) → List (List ℕ) → List ℕ → Type 0

@@ -11,13 +11,12 @@ ghost use Rattle.b3tree.specs.Valid.{AreBytes};
 ghost use Rattle.bao_text.specs.Choice.{chunk_count};
 ghost use Rattle.bao_text.specs.Texts.{combined_text, slice_text};
 ghost use Rattle.bao_text.specs.declared.kinds.Encoding.TheVariants.{Slice};
-ghost use Rattle.holders.specs.Blobs.{HasCollision, IsBlob, fixed_as};
 ghost use Rattle.bao_files.specs.Disks.{KeepsFiles, Puts, Stored};
 ghost use Rattle.bao_files.specs.Encoded.{encoding_text};
 ghost use Rattle.bao_files.specs.HeldFiles.{held_at};
 ghost use Rattle.bao_files.specs.Printed.{digits_line, ok_line};
 ghost use Rattle.bao_command.specs.Tasks.{IsNoOutput};
-ghost use Rattle.determined_program.specs.Manual.{HasRange, IsAmongThem, IsBlobSlice, IsCommand, IsCopyOf, IsCutOutOf, IsDoneOrFailed, IsEncodingOf, words_for};
+ghost use Rattle.determined_program.specs.Manual.{HasCollidingSlice, HasRange, IsAmongThem, IsBlobSlice, IsCommand, IsCopyOf, IsDoneOrFailed, IsEncodingOf, words_for};
 
 use b3tree::{Hash, Mode, bytes_are};
 use bao_command::command;
@@ -252,9 +251,9 @@ pub fn gather_is<R: AllocGlobal + Threads + Sync, O: Write, E: Write, P: Progres
     ensures files { KeepsFiles (held_at disk.old.files) (held_at disk.new.files) ⊎ ((blob : List ℕ) × (hash plain blob ≡ root.now.0)
         × Puts (held_at disk.old.files) (held_at disk.new.files) path.now (Some blob)) }
     ensures kept { result ≡ 1 → KeepsFiles (held_at disk.old.files) (held_at disk.new.files) × Keeps (O.contents out.old) (O.contents out.new) }
-    ensures enough { result ≡ 1 → (blob : List ℕ) → IsBlob (fixed_as root.now plain 65536) blob → chunk_count (length blob) ≤ 65536
+    ensures enough { result ≡ 1 → (blob : List ℕ) → AreBytes blob → hash plain blob ≡ root.now.0 → chunk_count (length blob) ≤ 65536
         → IsAmongThem (held_at disk.old.files) (map (λ file. file.now) files.now.items) blob
-        → HasCollision (IsCutOutOf (held_at disk.old.files) (map (λ file. file.now) files.now.items)) (fixed_as root.now plain 65536) blob }
+        → HasCollidingSlice (held_at disk.old.files) (map (λ file. file.now) files.now.items) root.now.0 blob }
     ensures status { IsNoOutput path.now → IsDoneOrFailed result ⊎ (result ≡ 1) }
 {
     // A law, so that the proof has what it says: nothing runs.
