@@ -19,7 +19,7 @@ import sys
 import threading
 import time
 
-SECONDS = 600
+SECONDS = 3600
 FOREVER = 3600
 FLIPPED = bytes(it ^ 1 for it in range(256))
 
@@ -67,6 +67,10 @@ class Mirror(http.server.BaseHTTPRequestHandler):
             with open(self.server.log, "ab", buffering=0) as file:
                 file.write(f"{self.server.server_port} {self.headers.get('Range', '-')} {self.path} {self.headers.get('X-Token', '-')}\n".encode())
 
+    def asked_for(self):
+        """How many bytes."""
+        return sum(end - start for start, end in ranges_of(self.headers.get("Range"), 1 << 62) or [])
+
     # --- Answers that need no file
 
     def redirect(self, to):
@@ -101,7 +105,7 @@ class Mirror(http.server.BaseHTTPRequestHandler):
         """Closes each connection for some seconds, from the first request for data on."""
         server, now = self.server, time.monotonic()
         with server.lock:
-            if server.until is None and sum(end - start for start, end in ranges_of(self.headers.get("Range"), 1 << 62) or []) > 20_000:
+            if server.until is None and self.asked_for() > 20_000:
                 server.until = now + float(self.value)
             out = server.until is not None and now < server.until
         self.close_connection |= out
@@ -120,6 +124,14 @@ class Mirror(http.server.BaseHTTPRequestHandler):
         if fails:
             self.send_error(500)
         return fails
+
+    def waits_for_others(self):
+        """The first two requests are answered once each mirror of this mode has got as many."""
+        with self.server.lock:
+            self.server.asked += 1
+            waits = self.server.asked <= 2
+        if waits:
+            self.server.together.wait(FOREVER)
 
     def is_refused(self):
         """Whether another connection has an answer under way: then this one gets 503."""
@@ -140,7 +152,7 @@ class Mirror(http.server.BaseHTTPRequestHandler):
     def later(self):
         """Asks the first request to wait for some seconds, in the mode's way; who doesn't is never answered. Whether the answer was given."""
         server, how, seconds = self.server, self.mode, int(self.value)
-        if how == "laterdata" and sum(end - start for start, end in ranges_of(self.headers.get("Range"), 1 << 62) or []) < 20_000:
+        if how == "laterdata" and self.asked_for() < 20_000:
             return False
         date = int(time.time()) + seconds
         clock, until = (time.time(), date) if how == "laterdate" else (time.monotonic(), time.monotonic() + seconds)
@@ -199,6 +211,10 @@ class Mirror(http.server.BaseHTTPRequestHandler):
             return self.path.endswith(".obao") and self.fails_each(3)
         elif mode == "oneconnection":
             return self.is_refused()
+        elif mode == "together":
+            return self.waits_for_others()
+        elif mode == "after" and self.asked_for() > 20_000:
+            return not self.server.given[self.value].wait(FOREVER)
         elif mode in ("later", "laterdata", "laterdate"):
             return self.later()
         else:
@@ -319,6 +335,8 @@ class Mirror(http.server.BaseHTTPRequestHandler):
             if mode == "late":
                 time.sleep(float(self.value))
             self.wfile.write(body)
+            if len(body) > 20_000:
+                self.server.given[str(self.server.server_port)].set()
 
 
 class Server(socketserver.ThreadingMixIn, http.server.HTTPServer):
@@ -337,7 +355,8 @@ class Mirrors:
     """The servers, one for each mode, in threads of this process."""
 
     def __init__(self, folder, modes, handler=Mirror, log=None):
-        self.servers, self.ports = [], []
+        self.servers, self.ports, given = [], [], {}
+        together = threading.Barrier(max(1, modes.count("together")))
         for word in modes:
             way, _, rest = word.partition(":") if word.startswith(("tls:", "mutual:", "six:")) else ("", "", word)
             mode, _, value = rest.partition("=")
@@ -350,11 +369,12 @@ class Mirrors:
                     context.verify_mode = ssl.CERT_REQUIRED
                 server.socket = context.wrap_socket(server.socket, server_side=True, do_handshake_on_connect=False)
             server.log, server.lock, server.until, server.impatient = log, threading.Lock(), None, False
-            server.asked, server.busy = 0, False
+            server.asked, server.busy, server.together, server.given = 0, False, together, given
             server.folder, server.mode, server.ended = str(folder), mode, threading.Event()
             server.value = str(self.ports[int(value[1:])]) if value.startswith("#") else value
             self.servers.append(server)
             self.ports.append(server.server_port)
+            given[str(server.server_port)] = threading.Event()     # whether it has given more than 20 KB at once
             threading.Thread(target=server.serve_forever, args=(0.05,), daemon=True).start()
 
     def end(self):

@@ -88,7 +88,7 @@ def run_case(place, number, mode, words, environment, statuses):
     filled = lambda it: it.replace("FOLDER", str(place.folder)).replace("PORT", port).replace("@/", address)
     clean = {name: value for name, value in os.environ.items() if name.lower() not in OF_CURL}
     env = {**clean, **dict(filled(it).split("=", 1) for it in environment.split())}
-    words = [place.fetch, "-v", "--stall", "60", "--patience", "0.1", "--retries", "1", place.root, out, *filled(words).split()]
+    words = [*place.fetch, "-v", "--patience", "0.1", "--retries", "1", place.root, out, *filled(words).split()]
     ran = subprocess.run(words, capture_output=True, timeout=hostile.LONGEST, env=env)
     them.end()
     said = ran.stderr.decode(errors="replace")
