@@ -478,23 +478,32 @@ static bool ask_one(fetch *f, peer *m, uint64_t now) {
     return true;
 }
 
+/* Those that lie or fail are asked while few exchanges are under way. */
+static void ask(fetch *f, peer *m, uint64_t now) {
+    const bool is_good = m->rank != LAST && !has_failed(m);
+    const uint64_t most = is_good ? UINT64_MAX : IN_MOST * f->set->connections;
+    judge(f, m);
+    if (!m->is_in || (f->believed && m != f->believed)) return;
+    if (m->at.kind == PLAIN && f->lacks_lines) return; /* nobody waits for it */
+    if (m->later > now) fetch_wait(f, m->later);
+    const bool is_known = m->seen == f->changes && now < m->wait;
+    const bool is_put_off = !is_known && m->rank == LAST && f->live > m->busy &&
+                            now < m->asked + SHORT_WAIT; /* while others are asked */
+    if (is_put_off) fetch_wait(f, m->asked + SHORT_WAIT);
+    while (f->status == GOES_ON && !is_known && !is_put_off && m->busy < m->at.most &&
+           f->live < most && m->later <= now && ask_one(f, m, now))
+        continue;
+    if (m->wait != UINT64_MAX && m->wait > now && m->busy < m->at.most) fetch_wait(f, m->wait);
+}
+
+/* Those that mostly fail get what the others leave. */
 void exchange_ask_all(fetch *f, uint64_t now) {
     f->lacks_lines = true;
     for (const peer *line = f->lines; line; line = line->next)
         f->lacks_lines &= !line->is_in || fetch_has_left_out(f, line);
     end_waits(f, now);
-    for (peer *m = f->peers; m != f->lines && f->status == GOES_ON; m = m->next) {
-        judge(f, m);
-        if (!m->is_in || (f->believed && m != f->believed)) continue;
-        if (m->at.kind == PLAIN && f->lacks_lines) continue; /* nobody waits for it */
-        if (m->later > now) fetch_wait(f, m->later);
-        const bool is_known = m->seen == f->changes && now < m->wait;
-        const bool is_put_off = !is_known && m->rank == LAST && f->live > m->busy &&
-                                now < m->asked + SHORT_WAIT; /* while others are asked */
-        if (is_put_off) fetch_wait(f, m->asked + SHORT_WAIT);
-        while (f->status == GOES_ON && !is_known && !is_put_off && m->busy < m->at.most &&
-               m->later <= now && ask_one(f, m, now))
-            continue;
-        if (m->wait != UINT64_MAX && m->wait > now && m->busy < m->at.most) fetch_wait(f, m->wait);
+    for (int last = 0; last < 2; last++) {
+        for (peer *m = f->peers; m != f->lines && f->status == GOES_ON; m = m->next)
+            if (has_failed(m) == last) ask(f, m, now);
     }
 }

@@ -163,6 +163,11 @@ bool is_doubtful(const peer *it) {
     return lies || (it->lost >= LOST_ENOUGH && (uint64_t)it->lost * UNIT_GROUPS > it->good);
 }
 
+/* Whether more of its requests failed, or were overtaken, than it gave units. */
+bool has_failed(const peer *it) {
+    return ((uint64_t)it->at.faults + it->lost) * UNIT_GROUPS > it->good;
+}
+
 uint32_t rank_of(const fetch *f, const peer *it) {
     if (it->at.kind == PLAIN && f->lacks_lines) return USELESS;
     if (it == f->believed) return 0;
@@ -184,24 +189,29 @@ static void let_in(fetch *f, peer *it) {
     if (it->is_in && is_line) fetch_report(f, &of, bw_plan_lacks, all_from(f, 0), NULL);
 }
 
-/* Lets one more mirror in, with its outboard encoding. False: there is none. */
+/* Lets one more mirror in, with its outboard encoding; where all are in, one more of these. False:
+ * there is none. */
 bool fetch_admit(fetch *f) {
-    peer *m = f->next_in;
-    if (m == f->lines) return false;
+    peer *m = f->next_in, *line = f->lines;
+    if (m == f->lines) {
+        while (line && line->is_in) line = line->next;
+        if (line) let_in(f, line);
+        return line && line->is_in;
+    }
     f->next_in = m->next;
-    peer *line = f->has_own_lines ? m->line : f->lines;
+    if (f->has_own_lines) line = m->line;
     for (int i = 0; i < (f->has_own_lines ? 1 : IN_MOST) && line; i++, line = line->next)
         if (!line->is_in) let_in(f, line);
     let_in(f, m);
     return true;
 }
 
-/* Whether some mirror is in. */
+/* Whether some mirror is in. Those that lie or fail leave their place to others. */
 static bool admit_all(fetch *f) {
     size_t in = 0;
     bool some = false;
     for (peer *m = f->peers; m != f->next_in; m = m->next)
-        in += m->is_in && !fetch_has_left_out(f, m);
+        in += m->is_in && !is_doubtful(m) && !has_failed(m) && !fetch_has_left_out(f, m);
     for (; in < IN_MOST && f->next_in != f->lines; in++) fetch_admit(f);
     for (peer *m = f->peers; m != f->next_in; m = m->next) some |= m->is_in;
     return some;
@@ -386,12 +396,21 @@ static void resume_turn(fetch *f) {
 
 /* --- The end */
 
-/* Those whose faults were the network's are asked again, after a while. Parents that no outboard
- * encoding had may be had then. */
+/* Parents that no outboard encoding had may be had now. */
+static void ask_lines_again(fetch *f) {
+    f->changes++;
+    for (peer *m = f->peers; m != f->lines; m = m->next) {
+        const booking of = booking_of(f, m);
+        if (m->is_holder && m->at.kind == PLAIN)
+            fetch_report(f, &of, bw_plan_has, all_from(f, 0), NULL);
+    }
+}
+
+/* Those whose faults were the network's are asked again, after a while. */
 static void forgive(fetch *f, uint64_t now) {
     const uint64_t pause = least((uint64_t)ROUND_MS << least(f->rounds, 4), ROUND_MOST_MS);
     f->rounds++;
-    f->changes++;
+    ask_lines_again(f);
     for (peer *it = f->peers; it; it = it->next) {
         const booking of = booking_of(f, it);
         it->later = now + pause;
@@ -399,8 +418,6 @@ static void forgive(fetch *f, uint64_t now) {
         if (it->at.kind != OUTBOARD && !it->at.no_ranges)
             it->at.most = (unsigned)f->set->connections;
         if (it->is_holder && it->at.is_far) fetch_must(f, bw_plan_forgive(of.plan, of.holder));
-        const bool may_have_lines = it->is_holder && it->at.kind == PLAIN;
-        if (may_have_lines) fetch_report(f, &of, bw_plan_has, all_from(f, 0), NULL);
     }
     for (opener *it = f->openers; it && !f->is_settled; it = it->next)
         if (it->from->at.is_far) fetch_must(f, bw_plan_forgive(&f->length, it->booked.holder));
@@ -412,6 +429,10 @@ static void give_up(fetch *f, uint64_t now) {
     bool some = false, may_pass = false; /* the network is to blame: then it may be there later */
     if (f->believed) return doubt(f);
     if (!f->is_settled && open_believe(f, now)) return;
+    if (fetch_admit(f)) {
+        ask_lines_again(f);
+        return fetch_wait(f, now);
+    }
     for (const peer *it = f->peers; it; it = it->next) {
         const bool is_far = it->at.is_far && it->at.faults;
         some |= is_far && it->is_in;

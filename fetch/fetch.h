@@ -287,6 +287,7 @@ void fetch_say(const fetch *f, const peer *of, const char *what);
 bool fetch_admit(fetch *f);
 bool fetch_has_left_out(fetch *f, const peer *it);
 bool is_doubtful(const peer *it);
+bool has_failed(const peer *it);
 uint32_t rank_of(const fetch *f, const peer *it);
 
 /* --- exchange.c */

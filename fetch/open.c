@@ -75,22 +75,23 @@ static void begin(fetch *f, opener *it) {
     exchange_get(e, it->from, &e->parts);
 }
 
-/* Asks whoever may be asked. How many may be asked at some time. */
+/* Asks whoever may be asked. How many that haven't failed may be asked at some time. */
 static size_t ask_openers(fetch *f, uint64_t now) {
     size_t alive = 0;
     for (opener *it = f->openers; it && f->status == GOES_ON && !f->is_settled; it = it->next) {
         uint64_t until = it->from->later > now ? it->from->later : 0;
-        const bool may_ask = !until && !it->booked.is_open && it->from->busy < it->from->at.most;
+        const bool may_ask = !until && !it->booked.is_open && f->live < IN_MOST &&
+                             it->from->busy < it->from->at.most;
         if (may_ask) until = fetch_book(f, &it->booked, now);
         if (may_ask && it->booked.is_open) begin(f, it);
-        alive += until != UINT64_MAX;
+        alive += until != UINT64_MAX && !has_failed(it->from);
         if (until && until != UINT64_MAX) fetch_wait(f, until);
     }
     return alive;
 }
 
 void open_all(fetch *f, uint64_t now) {
-    for (int i = 0; i < IN_MOST && !f->openers && fetch_admit(f); i++) continue;
+    for (int i = 0; i < IN_MOST && !f->openers && f->next_in != f->lines; i++) fetch_admit(f);
     for (bool more = true; more && f->status == GOES_ON;) {
         add_openers(f);
         more = ask_openers(f, now) < IN_MOST && !f->is_settled && fetch_admit(f);

@@ -146,6 +146,8 @@ CASES = [
     ("a third of all requests for parents fail", 20_000_000, "plain@thirdobao", "", 0),
     ("an outboard encoding that is busy, late", 3_000_000, "plain@busylate=1 plain@busylate=1", "", 6),
     ("nobody listens, for a while", 300_000, "bao@dead", "--patience 3", 6),
+    ("a true one behind 16 that lie", 3_000_000, "bao@from=2200000 " * 16 + "bao", "", 0),
+    ("a true one behind 16 that never answer", 3_000_000, "bao@never " * 16 + "bao", "--stall 1 --retries 100", 0),
     ("parts in another order", 5_000_000, "bao@reversed", "", 0),
     ("parts of a short file put together", 60_000, "bao@coalesced", "", 0),
     ("parts that claim more than they have", 5_000_000, "bao@badparts bao", "", 0),
@@ -617,6 +619,16 @@ def two_outboards(place):
     place.run(["--outboard", place.folder / "one", "--outboard", place.folder / "two"], urls, 0)
 
 
+def outboard_behind_others(place):
+    """More outboard encodings are false than are asked at a time, of the length or of all else."""
+    urls = place.serve("bare")
+    obao = bytearray((place.folder / "blob.obao").read_bytes())
+    obao[100_000] ^= 1
+    place.put("one", obao)
+    for name in ("false.obao", "one"):
+        place.run([it for name in [name] * 17 + ["blob.obao"] for it in ("--outboard", place.folder / name)], urls, 0)
+
+
 def local_mirrors(place):
     """A local path is a mirror, too; one that isn't there is left out."""
     place.run([], [place.folder / "none.bao", place.folder / "blob.bao"], 0)
@@ -962,7 +974,7 @@ def usage(place):
 LONGER = [
     (resumes, 9_000_000, ""), (the_rest_alone, 9_000_000, ""), (local_alone, 3_000_000, ""), (part_is_not_trusted, 3_000_000, ""), (keeps_salvage, 3_000_000, ""),
     (keeps_old_out, 300_000, ""), (sigint, 9_000_000, ""), (sigterm, 9_000_000, ""), (keyed, 300_000, KEY), (under_a_context, 300_000, CONTEXT), (mirrors_in_a_file, 300_000, ""),
-    (outboard_elsewhere, 3_000_000, ""), (two_outboards, 3_000_000, ""), (local_mirrors, 3_000_000, ""), (blame_is_exact, 20_000_000, ""),
+    (outboard_elsewhere, 3_000_000, ""), (two_outboards, 3_000_000, ""), (outboard_behind_others, 3_000_000, ""), (local_mirrors, 3_000_000, ""), (blame_is_exact, 20_000_000, ""),
     (unwritable, 3_000_000, ""), (kinds_of_out, 300_000, ""), (no_room, 3_000_000, ""), (one_at_a_time, 9_000_000, ""), (usage, 10, ""), (one_round_trip, 6_000_000, ""), (short_in_one_request, 10_000, ""), (no_unit_twice, 6_000_000, ""),
     (near_ranges, 6_000_000, ""), (sighup, 9_000_000, ""), (sigkill, 9_000_000, ""), (a_full_disk_keeps, 9_000_000, ""), (own_part_as_a_mirror, 9_000_000, ""),
     (resume_asks_for_the_rest, 9_000_000, ""), (damaged_part, 9_000_000, ""), (right_out, 300_000, ""), (no_outboard_ends, 300_000, ""), (queries, 300_000, ""),
