@@ -7,15 +7,18 @@
 #endif
 
 /* NEAR: gaps of so many bytes are asked for as well, by one range */
-enum { NEAR = 65536, BUFFER_LEN = 131072, HOPS_MOST = 5, RATE_LEAST = 1024 };
+enum { NEAR = 65536, BUFFER_LEN = 131072, HOPS_MOST = 5, RATE_LEAST = 1024, CREDIT_MS = 1000 };
 enum { DAY = 86400, POLL_MS = 200, LIMITED_MS = 20, READERS_MOST = 64, COMPUTERS_MOST = 16 };
 
 /* --- What libcurl calls; `with` is NULL once the request is left alone */
 
-/* Whether a limit holds up what comes. */
-static bool is_held_up(const hub *it) {
-    const uint64_t rate = it->set->limit_rate;
-    return rate && it->bytes * 1000 / rate > now_ms() - it->began;
+/* Whether a limit holds up what comes. What it would have allowed is lost after a second. */
+static bool is_held_up(hub *it) {
+    const uint64_t rate = it->set->limit_rate, now = now_ms();
+    if (!rate) return false;
+    const uint64_t used = it->bytes * 1000 / rate, took = now - it->began;
+    if (took > used + CREDIT_MS) it->began = now - used - CREDIT_MS;
+    return used > took;
 }
 
 static size_t on_header(char *line, size_t one, size_t len, void *with) {
@@ -354,11 +357,11 @@ bool hub_free(hub *it) {
     return true;
 }
 
-/* Whether it gave less than the least rate for a stall's time, while no limit held it up. */
+/* Whether it gave less than the least rate for a stall's time. */
 static bool stalls(leg *it, uint64_t now) {
     const settings *s = it->hub->set;
     const uint64_t came = it->answer.came, took = now - it->since;
-    const bool is_quick = (double)(came - it->mark) >= s->stall * RATE_LEAST || s->limit_rate;
+    const bool is_quick = (double)(came - it->mark) >= s->stall * RATE_LEAST;
     if (it->streams && are_whole(it->wanted)) it->since = now;
     else if (it->is_local) it->of->hangs |= (double)took > s->stall * 500;
     else if (is_quick) {
@@ -371,6 +374,7 @@ static bool stalls(leg *it, uint64_t now) {
 /* What a leg waits to be told. Whether it has ended by that. */
 static bool look_at(leg *it, uint64_t now) {
     if (it->is_cut) return false;
+    if (it->is_paused) it->since = now; /* a limit holds it up */
     if (it->is_paused && !is_held_up(it->hub)) {
         it->is_paused = false;
         curl_easy_pause(it->easy, CURLPAUSE_CONT);

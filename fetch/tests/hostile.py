@@ -79,6 +79,7 @@ CASES = [
     ("stalls", 9_000_000, "bao@stall bao", "--stall 60", 0),
     ("stalls, plain", 9_000_000, "plain@stall plain", "--stall 60", 0),
     ("stalls, alone", 3_000_000, "bao@stall", "--stall 0.5", 6),
+    ("never answers, alone, under a limit", 3_000_000, "bao@never bao@stall", "--stall 0.5 --limit-rate 1G", 6),
     ("drips", 3_000_000, "bao@drip plain", "--stall 60", 0),
     ("drips, alone", 3_000_000, "bao@drip", "--stall 0.5", 6),
     ("never answers", 8_000_000, "bao@never plain", "--stall 60", 0),
@@ -519,11 +520,11 @@ def private_redirects(place):
 
 
 def bounds(place):
-    """--max-time ends it, with a status of its own; --limit-rate holds it up."""
+    """--max-time ends it, with a status of its own; --limit-rate holds it up, also after a time when nothing came."""
     place.run(["--max-time", "1"], place.serve("bao@never"), 6)
     began = time.monotonic()
-    place.run(["--limit-rate", "200K"], place.serve("bao"), 0)
-    want(time.monotonic() - began > 1, "it was too quick")
+    place.run(["--limit-rate", "200K"], place.serve("bao@late=1.5"), 0)
+    want(time.monotonic() - began > 3.7, "it was too quick")
 
 
 def local_first(place):
