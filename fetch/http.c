@@ -93,10 +93,7 @@ static bool set_options(leg *it) {
     SET(CURLOPT_OPENSOCKETDATA, it);
     SET(CURLOPT_ERRORBUFFER, it->why);
     SET(CURLOPT_PRIVATE, it);
-    SET(CURLOPT_SSLCERT, s->certificate);
-    SET(CURLOPT_SSLKEY, s->key);
     if (s->proxy) SET(CURLOPT_PROXY, s->proxy);
-    if (s->netrc) SET(CURLOPT_NETRC, (long)CURL_NETRC_OPTIONAL);
     SET(CURLOPT_SSL_VERIFYPEER, (long)!s->unchecked);
     SET(CURLOPT_SSL_VERIFYHOST, s->unchecked ? 0L : 2L);
     if (!s->authorities && !s->authorities_in) return !r;
@@ -148,6 +145,7 @@ static const char *address_of(const leg *it) {
 
 static void request(leg *it) {
     source *of = it->of;
+    const settings *s = it->hub->set;
     CURLcode r = CURLE_OK;
     const char *to = address_of(it);
     const bool is_own = to == of->url || url_same_server(to, of->url);
@@ -161,7 +159,10 @@ static void request(leg *it) {
     SET(CURLOPT_URL, to);
     SET(CURLOPT_RANGE, it->streams ? NULL : it->range);
     SET(CURLOPT_FRESH_CONNECT, (long)(it->is_guarded && it->url));
-    SET(CURLOPT_HTTPHEADER, is_own ? it->hub->set->headers : it->hub->set->plain);
+    SET(CURLOPT_HTTPHEADER, is_own ? s->headers : s->plain);
+    SET(CURLOPT_SSLCERT, is_own ? s->certificate : NULL);
+    SET(CURLOPT_SSLKEY, is_own ? s->key : NULL);
+    if (s->netrc) SET(CURLOPT_NETRC, (long)(is_own ? CURL_NETRC_OPTIONAL : CURL_NETRC_IGNORED));
     if (!r && !curl_multi_add_handle(it->hub->multi, it->easy)) return;
     source_note(of, true, "%s", r ? curl_easy_strerror(r) : "libcurl refuses the request");
     it->error = ENOMEM; /* its end is told by hub_wait */

@@ -232,7 +232,7 @@ class Place:
                                        stdout=subprocess.PIPE, text=True)
         ports = iter(self.server.stdout.readline().split())
         ports = [1 if mode == "dead" else next(ports) for mode in modes]
-        schemes = ["https" if mode.startswith("tls:") else "http" for mode in modes]
+        schemes = ["https" if mode.startswith(("tls:", "mutual:")) else "http" for mode in modes]
         return [f"{scheme}://127.0.0.1:{port}/{FILES[file]}" for (file, _, _), scheme, port in zip(asked, schemes, ports) if file != "-"]
 
     def requests(self, url):
@@ -737,6 +737,21 @@ def over_https(place):
     place.run([], urls[3:], 1, **believing(place))
 
 
+def credentials_stay(place):
+    """Passwords of ~/.netrc and a client's certificate are for a mirror's own server, and not for another one that it leads to."""
+    make_certificate(place)
+    place.put("client.pem", (place.folder / "cert.pem").read_bytes())
+    place.put(".netrc", b"default login me password secret\n")
+    env = {**believing(place)["env"], "HOME": str(place.folder)}
+    urls = place.serve("bao@password=me:secret bao@redirect=#0")
+    words = ["--netrc", "--cert", place.folder / "cert.pem", "--cert-key", place.folder / "key.pem"]
+    place.run(words, urls[:1], 0, env=env)
+    place.run(words, urls[1:], 1, env=env)
+    urls = place.serve("bao@mutual:good bao@upgrade=#0")
+    place.run(words, urls[:1], 0, env=env)
+    place.run(words, urls[1:], 6, env=env)
+
+
 def http2(place):
     """nginx over TLS is spoken to in HTTP/2, also for several ranges in one request."""
     make_certificate(place)
@@ -988,7 +1003,7 @@ LONGER = [
     (room_for_the_blob_alone, 3_000_000, ""), (disk_for_the_blob_alone, 9_000_000, ""), (little_memory, 300 << 20, ""),
 ]
 # function, length, programs that it needs
-WITH_PROGRAMS = [(over_https, 300_000, ["openssl"]), (http2, 6_000_000, ["openssl", "nginx"])]
+WITH_PROGRAMS = [(over_https, 300_000, ["openssl"]), (credentials_stay, 300_000, ["openssl"]), (http2, 6_000_000, ["openssl", "nginx"])]
 
 
 def isolate():
