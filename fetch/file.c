@@ -38,12 +38,14 @@ void source_free(source *it) {
     free(it->moved);
 }
 
-/* Why it failed last, and whether that may pass. */
+/* Why it failed last, and whether that may pass. A stranger may have written some of it. */
 void source_note(source *it, bool is_far, const char *format, ...) {
     va_list words;
     va_start(words, format);
     vsnprintf(it->why, sizeof it->why, format, words);
     va_end(words);
+    for (char *at = it->why; *at; at++)
+        if (*at < ' ' || *at > '~') *at = '?';
     it->is_far = is_far;
 }
 

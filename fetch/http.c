@@ -196,7 +196,8 @@ static void note_why(leg *it, CURLcode r) {
     const bool is_ours = !r || r == CURLE_WRITE_ERROR;
     const bool stays = is_ours || r == CURLE_UNSUPPORTED_PROTOCOL || r == CURLE_URL_MALFORMAT ||
                        r == CURLE_OUT_OF_MEMORY || r == CURLE_WEIRD_SERVER_REPLY ||
-                       r == CURLE_PEER_FAILED_VERIFICATION || r == CURLE_TOO_LARGE;
+                       r == CURLE_PEER_FAILED_VERIFICATION || r == CURLE_TOO_LARGE ||
+                       r == CURLE_SSL_CACERT_BADFILE || r == CURLE_SSL_CERTPROBLEM;
     const bool is_far = c >= 500 || c == 429 || c == 408 || !stays;
     if (answer_moves(&it->answer))
         source_note(of, is_far, "it leads elsewhere, where no redirect is followed");

@@ -234,6 +234,8 @@ int read_options(int argc, char **argv) {
     given.set.plain = curl_slist_append(NULL, "Accept-Encoding: identity");
     if (!given.set.headers || !given.set.plain) return no_memory();
     int status = take_all(argc, argv);
+    if (!status && given.set.authorities && access(given.set.authorities, R_OK))
+        status = file_fault(given.set.authorities);
     const bool asks = !given.set.authorities; /* --cacert alone decides where it is given */
     if (asks && file && *file) given.set.authorities = file;
     if (asks && folder && *folder) given.set.authorities_in = folder;

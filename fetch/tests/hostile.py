@@ -716,9 +716,9 @@ def progress(place):
     want(re.search(r"\r19\.1 of 19\.1 MiB  [\d.]+ MiB/s  0 s left  2 of 2 mirrors, 1 of them last ", said), said)
 
 
-def make_certificate(place):
+def make_certificate(place, name="127.0.0.1", more=("-addext", "subjectAltName=IP:127.0.0.1")):
     pair = ["-keyout", place.folder / "key.pem", "-out", place.folder / "cert.pem"]
-    words = ["openssl", "req", "-x509", "-newkey", "rsa:2048", "-nodes", "-days", "2", "-subj", "/CN=127.0.0.1", "-addext", "subjectAltName=IP:127.0.0.1"]
+    words = ["openssl", "req", "-x509", "-newkey", "rsa:2048", "-nodes", "-days", "2", "-subj", f"/CN={name}", *more]
     subprocess.run([*words, *pair], check=True, capture_output=True)
 
 
@@ -750,6 +750,13 @@ def credentials_stay(place):
     urls = place.serve("bao@mutual:good bao@upgrade=#0")
     place.run(words, urls[:1], 0, env=env)
     place.run(words, urls[1:], 6, env=env)
+
+
+def names_on_a_terminal(place):
+    """What a server calls itself is printed without what a terminal would act on."""
+    make_certificate(place, "a\x1b[31m\x7f", ())
+    place.run([], place.serve("bao@tls:good"), 1, **believing(place))
+    want("a?[31m?" in place.said and "\x1b" not in place.said, place.said)
 
 
 def http2(place):
@@ -1003,7 +1010,7 @@ LONGER = [
     (room_for_the_blob_alone, 3_000_000, ""), (disk_for_the_blob_alone, 9_000_000, ""), (little_memory, 300 << 20, ""),
 ]
 # function, length, programs that it needs
-WITH_PROGRAMS = [(over_https, 300_000, ["openssl"]), (credentials_stay, 300_000, ["openssl"]), (http2, 6_000_000, ["openssl", "nginx"])]
+WITH_PROGRAMS = [(over_https, 300_000, ["openssl"]), (credentials_stay, 300_000, ["openssl"]), (names_on_a_terminal, 300_000, ["openssl"]), (http2, 6_000_000, ["openssl", "nginx"])]
 
 
 def isolate():
