@@ -442,18 +442,35 @@ static void give_up(fetch *f, uint64_t now) {
     fetch_stop(f, f->no_memory ? NO_MEMORY : may_pass ? UNREACHED : LACKING);
 }
 
-/* What is there before anything is asked for. */
-static void begin(fetch *f) {
-    f->next_in = f->peers;
-    for (peer *m = f->peers, *line = f->lines; m != f->lines && !f->has_own_lines; m = m->next)
-        m->line = line = line->next ? line->next : f->lines;
-    f->is_settled = out_is_right(&f->out, &f->set->mode, &f->total);
-    if (f->is_settled || f->set->check) return fetch_stop(f, f->is_settled ? DONE : LACKING);
+/* What is there before anything is asked for. It may be long, or on a slow disk. */
+static void run_compare(job *of) {
+    fetch *f = of->with;
+    f->drain_status = out_compare(&f->out, &f->hasher, f->drain_bytes, &f->total);
+    if (f->drain_status == FILE_FAULT && f->set->check) file_fault(f->out.path);
+}
+
+static void was_compared(job *of) {
+    fetch *f = of->with;
+    f->is_draining = false;
+    if (f->status != GOES_ON) return;
+    f->is_settled = f->drain_status == DONE;
+    if (f->is_settled || f->set->check) return fetch_stop(f, f->drain_status);
     const int status = out_resume(&f->out);
     if (status > 0) return fetch_stop(f, status);
     if (!status && f->out.total <= f->set->most) return start_resuming(f);
     const bw_plan_policy policy = policy_of(f, 0);
     if (bw_plan_new(1, &policy, &f->length)) fetch_stop(f, NO_MEMORY);
+}
+
+static void begin(fetch *f) {
+    f->has_begun = f->is_draining = true;
+    f->next_in = f->peers;
+    for (peer *m = f->peers, *line = f->lines; m != f->lines && !f->has_own_lines; m = m->next)
+        m->line = line = line->next ? line->next : f->lines;
+    f->drain = (job){.run = run_compare, .done = was_compared, .with = f};
+    if (f->out.is_there) return pool_post(&f->hub->reading, &f->drain);
+    run_compare(&f->drain);
+    was_compared(&f->drain);
 }
 
 static void step(fetch *f, uint64_t now) {
@@ -471,10 +488,11 @@ bool fetch_turn(fetch *f, uint64_t now) {
     if (f->status != GOES_ON) return true;
     f->wake = now + LOOK_MS;
     f->waits = false;
-    if (!f->length.at && !f->is_settled) begin(f);
+    if (!f->has_begun) begin(f);
     const bool is_late = f->set->max_time > 0 && (double)(now - f->began) > f->set->max_time * 1000;
     if (f->status == GOES_ON && is_late) fetch_stop(f, say(UNREACHED, "--max-time is over"));
-    if (f->status == GOES_ON) step(f, now);
+    const bool is_compared = f->length.at || f->is_settled;
+    if (f->status == GOES_ON && is_compared) step(f, now);
     const bool is_idle = exchange_all_wait(f) && !f->waits && !f->is_draining && !f->is_resuming;
     const bool drains =
         f->is_settled && (f->drained == f->unit_count || fetch_has_unit(f, f->drained));

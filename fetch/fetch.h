@@ -139,7 +139,7 @@ typedef struct output {
 
 int out_new(output *it, const char *path, const uint8_t root[BW_HASH_LEN]);
 void out_free(output *it);
-bool out_is_right(const output *it, const bw_mode *mode, uint64_t *len);
+int out_compare(const output *it, bw_hasher *hasher, uint8_t bytes[DRAIN_LEN], uint64_t *len);
 bool out_has_root(const output *it, bw_hasher *hasher);
 int out_resume(output *it);
 int out_open(output *it, uint64_t total);
@@ -247,7 +247,8 @@ struct fetch {
     int status;
     bool is_one_of_many, is_told; /* of a manifest; how it ended was printed, */
     uint64_t ended, shown_at;     /* when it ended, and when its progress was printed last */
-    bool is_settled, is_resuming, no_memory, waits; /* waits: for a moment that a plan named */
+    bool has_begun, is_settled, is_resuming, no_memory;
+    bool waits; /* for a moment that a plan named */
     uint64_t total, unit_count, chunks_open, most_had, resumed, claimed_above;
     uint64_t began, wake; /* wake: when it has to be looked at again */
     uint64_t moved_at;    /* when a chunk came last */

@@ -18,7 +18,6 @@ static int find_target(output *it) {
     }
     if (!S_ISREG(of.st_mode))
         return say(FILE_FAULT, "%s: not a regular file; OUT may be -, for a pipe", it->path);
-    if (access(it->path, W_OK)) return file_fault(it->path);
     it->is_there = true;
     it->mode = of.st_mode & 0777;
     it->was = of;
@@ -65,21 +64,20 @@ bool out_has_root(const output *it, bw_hasher *hasher) {
            !memcmp(found, it->root, BW_HASH_LEN);
 }
 
-/* Whether OUT has the root already, and how long it is. */
-bool out_is_right(const output *it, const bw_mode *mode, uint64_t *len) {
-    static uint8_t bytes[DRAIN_LEN];
-    bw_hasher hasher = BW_EMPTY;
+/* Hashes OUT as it is, and tells its length. DONE, LACKING, or FILE_FAULT by errno. */
+int out_compare(const output *it, bw_hasher *hasher, uint8_t bytes[DRAIN_LEN], uint64_t *len) {
     const int fd = it->is_there ? open(it->path, O_RDONLY | O_CLOEXEC | O_NONBLOCK) : -1;
-    bool ok = fd >= 0 && !bw_hasher_new(mode, &hasher);
+    bool ok = fd >= 0;
     *len = 0;
-    for (size_t n = 1; ok && n; *len += n) {
-        n = read_at(fd, *len, bytes, sizeof bytes);
-        ok = !errno && !bw_hasher_update(&hasher, bytes, n);
+    if (!it->is_there) return LACKING;
+    for (size_t n = 1; ok && n && !atomic_load(&it->is_over); *len += n) {
+        n = read_at(fd, *len, bytes, DRAIN_LEN);
+        ok = !errno && !bw_hasher_update(hasher, bytes, n);
     }
-    ok = ok && out_has_root(it, &hasher);
-    bw_free(&hasher);
+    const int fault = errno;
     if (fd >= 0) close(fd);
-    return ok;
+    errno = fault;
+    return !ok ? FILE_FAULT : out_has_root(it, hasher) ? DONE : LACKING;
 }
 
 /* --- OUT.part.fetch: this user's, of one name, written by one run. What isn't so is removed. */
@@ -122,11 +120,15 @@ static void write_tail(const output *it, uint8_t bytes[TAIL_LEN]) {
 
 static uint64_t tail_at(uint64_t total) { return total + bw_outboard_len(total); }
 
-/* Opens what an earlier run left of the same root. 0, -1 where that is nothing, or a status. */
+/* Opens what an earlier run left of the same root. 0, -1 where that is nothing, or a status: OUT
+ * can't be written, or it. */
 int out_resume(output *it) {
     uint8_t bytes[TAIL_LEN], wanted[TAIL_LEN];
     struct stat of;
-    const int status = it->is_pipe ? -1 : lock_part(it, false);
+    if (it->is_pipe) return -1;
+    if (it->is_there && access(it->path, W_OK)) return file_fault(it->path);
+    if (access(it->folder, W_OK | X_OK)) return file_fault(it->folder);
+    const int status = lock_part(it, false);
     if (status) return status;
     const uint64_t size = fstat(it->fd, &of) ? 0 : (uint64_t)of.st_size;
     if (size > TAIL_LEN && read_at(it->fd, size - TAIL_LEN, bytes, TAIL_LEN) == TAIL_LEN) {

@@ -17,6 +17,7 @@ import random
 import subprocess
 import sys
 import tempfile
+import time
 
 sys.dont_write_bytecode = True
 import hostile
@@ -255,6 +256,7 @@ def refuse(fetch, mkbao):
         asked = sum(pool.map(lambda row: at_a_place(fetch, mkbao, row[0], refuse_each, row[1]), rows))
     at_a_place(fetch, mkbao, "bao plain", refuse_flush)
     at_a_place(fetch, mkbao, "bao@at=5000", other_ends)
+    at_a_place(fetch, mkbao, "bao", out_hangs)
     for fault in ("https", "threads", "hang"):
         at_a_place(fetch, mkbao, "bao plain", in_spite_of, fault)
     print(f"{asked} refusals passed")
@@ -287,6 +289,22 @@ def in_spite_of(place, fetch, urls, fault):
     ran = subprocess.run(words, capture_output=True, timeout=LONGEST, env={**os.environ, "BW_REFUSE": fault})
     if ran.returncode or place.out.read_bytes() != place.blob:
         sys.exit(f"drawn.py: {fault}: status {ran.returncode}\n{ran.stderr.decode(errors='replace')[-2000:]}")
+
+
+def out_hangs(place, fetch, urls):
+    """An OUT whose read never ends holds up no other line of a manifest, and no signal."""
+    place.put("hangs.bao", b"?")
+    place.put("manifest", "".join(f"{place.root} {place.folder}/{it} {urls[0]}\n" for it in ("hangs.bao", "out")).encode())
+    ran = subprocess.Popen([fetch, "--manifest", place.folder / "manifest"], stderr=subprocess.DEVNULL, env={**os.environ, "BW_REFUSE": "hang"})
+    try:
+        end = time.monotonic() + LONGEST
+        while not place.out.exists() and time.monotonic() < end:
+            time.sleep(0.02)
+        ran.terminate()
+        if ran.wait(LONGEST) != 7 or place.out.read_bytes() != place.blob:
+            sys.exit(f"drawn.py: a read of OUT hangs: status {ran.returncode}")
+    finally:
+        ran.kill()
 
 
 def refuse_each(place, fetch, urls, tail):

@@ -414,6 +414,23 @@ def right_out(place):
     want(ran.returncode == 1 and b"hasn't the root" in ran.stderr, f"status {ran.returncode}")
 
 
+def read_only_out(place):
+    """An OUT that may not be written is found to be right, or to be another; then nobody is asked. One that may not be read tells nothing."""
+    may_not = ["setpriv", "--bounding-set", "-dac_override,-dac_read_search"]
+    if not shutil.which("setpriv") or subprocess.run([*may_not, "true"], capture_output=True).returncode:
+        print("hostile.py: not run, since setpriv isn't here: read only out")
+        return
+    urls = place.serve("bao")
+    for content, mode, words, status in ((place.blob, 0o444, ["--check"], 0), (b"?", 0o444, ["--check"], 1), (place.blob, 0o200, ["--check"], 3), (place.blob, 0o444, [], 0),
+                                         (b"?", 0o444, [], 3)):
+        place.out.unlink(missing_ok=True)
+        place.put("out", content)
+        place.out.chmod(mode)
+        ran = subprocess.run([*may_not, *place.fetch, *words, place.root, place.out, *urls], capture_output=True, timeout=LONGEST)
+        want(ran.returncode == status, f"status {ran.returncode}, and not {status} of {words} and mode {mode:o}")
+    want(not place.requests(urls[0]), "the mirror was asked")
+
+
 def no_outboard_ends(place):
     """A plain file without an outboard encoding ends, alone and beside a mirror that nobody hears of."""
     for words in ([place.folder / "bare"], ["--outboard", place.folder / "none", place.folder / "bare"]):
@@ -927,7 +944,7 @@ def unwritable(place):
     """OUT in a folder that isn't there, and a pipe that nobody reads."""
     urls = place.serve("bao")
     ran = subprocess.run([*place.fetch, place.root, place.folder / "none" / "out", *urls], capture_output=True, timeout=LONGEST)
-    want(ran.returncode == 3, f"status {ran.returncode}")
+    want(ran.returncode == 3 and not place.requests(urls[0]), f"status {ran.returncode}, or the mirror was asked")
     end, other = os.pipe()
     os.close(end)
     ran = subprocess.run([*place.fetch, place.root, "-", *urls], stdout=other, stderr=subprocess.PIPE, timeout=LONGEST)
@@ -1000,7 +1017,7 @@ LONGER = [
     (outboard_elsewhere, 3_000_000, ""), (two_outboards, 3_000_000, ""), (outboard_behind_others, 3_000_000, ""), (local_mirrors, 3_000_000, ""), (blame_is_exact, 20_000_000, ""),
     (unwritable, 3_000_000, ""), (kinds_of_out, 300_000, ""), (no_room, 3_000_000, ""), (one_at_a_time, 9_000_000, ""), (usage, 10, ""), (one_round_trip, 6_000_000, ""), (short_in_one_request, 10_000, ""), (no_unit_twice, 6_000_000, ""),
     (near_ranges, 6_000_000, ""), (sighup, 9_000_000, ""), (sigkill, 9_000_000, ""), (a_full_disk_keeps, 9_000_000, ""), (own_part_as_a_mirror, 9_000_000, ""),
-    (resume_asks_for_the_rest, 9_000_000, ""), (damaged_part, 9_000_000, ""), (right_out, 300_000, ""), (no_outboard_ends, 300_000, ""), (queries, 300_000, ""),
+    (resume_asks_for_the_rest, 9_000_000, ""), (damaged_part, 9_000_000, ""), (right_out, 300_000, ""), (read_only_out, 300_000, ""), (no_outboard_ends, 300_000, ""), (queries, 300_000, ""),
     (silent_name_server, 300_000, ""), (closed_output, 20_000, ""), (part_of_others, 300_000, ""), (pipe_that_nobody_reads, 3_000_000, ""),
     (few_descriptors, 3_000_000, ""), (no_secrets, 300_000, ""), (private_redirects, 300_000, ""), (bounds, 400_000, ""), (local_first, 3_000_000, ""),
     (many_at_once, 20_000, ""), (headers, 300_000, ""), (progress_in_json, 300_000, ""),
