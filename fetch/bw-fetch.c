@@ -41,6 +41,7 @@ static int add_mirror(void *with, char *url) {
 /* Makes a fetch of what the command line, or a line of a manifest, has. */
 static int make_fetch(fetch **f, char **argv) {
     if (!argv[0] || !argv[1]) return usage("ROOT OUT URL ..");
+    if (given.manifest && !strcmp(argv[1], "-")) return usage("OUT in a manifest is a file");
     if (!strcmp(argv[1], "-") && !has_output) {
         errno = EBADF;
         return file_fault("standard output");
@@ -70,7 +71,7 @@ static void drop(fetch **f) {
 /* Fills a free place with the next line that can be begun. */
 static void start_next(fetch **f) {
     while (manifest && !*f && !interrupted) {
-        char *argv[MIRRORS_MOST + 3] = {0}, *line = next_line(manifest, &text, &room);
+        char *argv[MIRRORS_MOST + 4] = {0}, *line = next_line(manifest, &text, &room);
         size_t n = 0;
         if (!line) {
             if (ferror(manifest)) note(file_fault(given.manifest));
@@ -78,10 +79,12 @@ static void start_next(fetch **f) {
             manifest = NULL;
             return;
         }
-        while (n < MIRRORS_MOST + 2 && (argv[n] = strtok(n ? NULL : line, " \t"))) n++;
+        while (n < MIRRORS_MOST + 3 && (argv[n] = strtok(n ? NULL : line, " \t"))) n++;
         const int status = make_fetch(f, argv);
         note(status);
-        if (status) drop(f);
+        if (!status) continue;
+        say(status, "%s: the line of %s is left out", given.manifest, argv[argv[1] ? 1 : 0]);
+        drop(f);
     }
 }
 

@@ -61,7 +61,7 @@ static void put_peers(FILE *to, fetch *f, const char *name, const peer *from, co
 
 static void print_json(fetch *f) {
     FILE *to = f->out.is_pipe ? stderr : stdout;
-    const uint64_t lacking = f->status ? f->chunks_open * BW_CHUNK_LEN : 0;
+    const uint64_t lacking = f->status ? least(f->chunks_open * BW_CHUNK_LEN, f->total) : 0;
     fputs("{\"out\":", to);
     put_text(to, f->name);
     fprintf(to, ",\"status\":%d,\"length\":", f->status);

@@ -571,6 +571,18 @@ def many_at_once(place):
     want(told[0]["mirrors"][0]["bytes"] > 0 and any(it["mirrors"][0]["http"] == 404 for it in told), f"{told[0]}")
 
 
+def lines_left_out(place):
+    """A line that can't be begun is told, and stops no other. Standard output takes no line: several would be mixed there."""
+    good, = place.serve("bao")
+    lines = [f"{place.root} - {good}", f"{place.root[1:]} {place.folder}/short {good}", place.root, f"{place.root} {place.folder}/many {' '.join([good] * 1001)}"]
+    place.put("manifest", "\n".join([*lines, f"{place.root} {place.out} {good}"]).encode())
+    ran = subprocess.run([*place.fetch, "--manifest", place.folder / "manifest"], capture_output=True, timeout=LONGEST)
+    place.said = ran.stderr.decode()
+    want(ran.returncode == 2 and not ran.stdout and place.out.read_bytes() == place.blob, f"status {ran.returncode}")
+    for it in ("-", f"{place.folder}/short", place.root, f"{place.folder}/many"):
+        want(f"manifest: the line of {it} is left out" in place.said, it)
+
+
 def headers(place):
     """A header goes to a mirror's own server, and not to another one that it leads to."""
     place.put("headers", b"X-Token: abc\n")
@@ -1020,7 +1032,7 @@ LONGER = [
     (resume_asks_for_the_rest, 9_000_000, ""), (damaged_part, 9_000_000, ""), (right_out, 300_000, ""), (read_only_out, 300_000, ""), (no_outboard_ends, 300_000, ""), (queries, 300_000, ""),
     (silent_name_server, 300_000, ""), (closed_output, 20_000, ""), (part_of_others, 300_000, ""), (pipe_that_nobody_reads, 3_000_000, ""),
     (few_descriptors, 3_000_000, ""), (no_secrets, 300_000, ""), (private_redirects, 300_000, ""), (bounds, 400_000, ""), (local_first, 3_000_000, ""),
-    (many_at_once, 20_000, ""), (headers, 300_000, ""), (progress_in_json, 300_000, ""),
+    (many_at_once, 20_000, ""), (lines_left_out, 20_000, ""), (headers, 300_000, ""), (progress_in_json, 300_000, ""),
     (left_alone, 3_000_000, ""), (progress, 20_000_000, ""), (lines_are_blamed, 3_000_000, ""), (false_below_its_spine, 20_000_000, ""),
     (streamed_once, 9_000_000, ""), (streamed_for_a_chunk, 9_000_000, ""), (streamed_and_kept, 9_000_000, ""),
     (a_hole_near_the_start, 9_000_000, ""), (keeps_all_but_a_chunk, 3_000_000, ""),
