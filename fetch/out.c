@@ -87,7 +87,7 @@ static bool is_own(const output *it) {
     struct stat ours, named;
     if (fstat(it->fd, &ours) || lstat(it->part, &named)) return false;
     return ours.st_dev == named.st_dev && ours.st_ino == named.st_ino && S_ISREG(ours.st_mode) &&
-           ours.st_nlink == 1 && ours.st_uid == geteuid() && !(ours.st_mode & 077);
+           ours.st_nlink == 1 && ours.st_uid == geteuid() && !(ours.st_mode & 022);
 }
 
 /* What was there is opened, or what is made. Another run that ended between opening and locking has
@@ -103,12 +103,12 @@ static int lock_part(output *it, bool makes) {
         if (it->fd >= 0 && is_own(it)) return 0;
         close_part(it);
         if (!makes) return -1;
-        if (is_there && unlink(it->part) && errno != ENOENT) break;
+        if (is_there && unlink(it->part) && errno != ENOENT) return file_fault(it->part);
         it->fd = open(it->part, O_RDWR | O_CREAT | O_EXCL | O_CLOEXEC | O_NOFOLLOW, 0600);
-        if (it->fd < 0 && errno != EEXIST) break;
+        if (it->fd < 0 && errno != EEXIST) return file_fault(it->part);
         close_part(it);
     }
-    return file_fault(it->part);
+    return say(FILE_FAULT, "%s: others may write it, however it is made", it->part);
 }
 
 /* Magic, length and root, at the end of the file. */

@@ -381,8 +381,9 @@ def own_part_as_a_mirror(place):
 
 
 def resume_asks_for_the_rest(place):
-    """A run that was killed late costs little more than what was lacking."""
+    """A run that was killed late costs little more than what was lacking; also on a file system that lets others read every file."""
     place.run([], place.serve("bao@at=1500000 bao@at=1500000"), 1)
+    (place.folder / "out.part.fetch").chmod(0o755)
     urls = place.serve("bao")
     place.run([], urls, 0)
     came = sum(end - start for it in place.requests(urls[0]) for start, end in it)
