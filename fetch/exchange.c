@@ -40,7 +40,7 @@ exchange *exchange_new(fetch *f, peer *from, booking *of) {
     const size_t image_len = f->out.is_pipe ? UNIT_LEN : 0;
     exchange *e = malloc(sizeof *e + BYTES_MOST + HEAD_LEN + image_len);
     if (!e && of) {
-        f->no_memory = true;
+        f->hindrance = NO_MEMORY;
         fetch_close(f, of, BW_ENDED_OVER, 0);
     }
     if (!e) return NULL;

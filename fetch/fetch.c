@@ -184,7 +184,7 @@ static void let_in(fetch *f, peer *it) {
     it->rank = rank_of(f, it);
     it->is_holder = it->is_in =
         !bw_plan_add_holder(plan, &it->holder) && !bw_plan_rank(plan, it->holder, it->rank);
-    f->no_memory |= !it->is_in;
+    if (!it->is_in) f->hindrance = NO_MEMORY;
     const booking of = booking_of(f, it);
     if (it->is_in && is_line) fetch_report(f, &of, bw_plan_lacks, all_from(f, 0), NULL);
 }
@@ -239,7 +239,7 @@ static bw_plan_policy policy_of(const fetch *f, uint32_t patience_ms) {
 }
 
 /* What went to a pipe is true, whatever its length. OUT.part.fetch is verified anew. */
-static void begin_anew(fetch *f, uint64_t total) {
+static int begin_anew(fetch *f, uint64_t total) {
     const bw_plan_policy of_chunks = policy_of(f, OVERTAKE_MS), of_parents = policy_of(f, 0);
     f->total = total;
     f->unit_count = units_of(total);
@@ -249,11 +249,10 @@ static void begin_anew(fetch *f, uint64_t total) {
     if (!f->known || bw_plan_new(total, &of_chunks, &f->chunks) ||
         (f->lines && bw_plan_new(total, &of_parents, &f->parents)) ||
         (!f->out.is_pipe && bw_hasher_new(&f->set->mode, &f->hasher)))
-        return fetch_stop(f, NO_MEMORY);
+        return NO_MEMORY;
     if (!f->out.is_pipe) f->drained = 0;
-    const int status = f->out.fd < 0 || f->out.total != total ? out_open(&f->out, total) : 0;
-    if (status) fetch_stop(f, status);
     for (peer *it = f->peers; it; it = it->next) it->is_holder = false;
+    return f->out.fd < 0 || f->out.total != total ? out_open(&f->out, total) : 0;
 }
 
 static void limit(fetch *f) {
@@ -263,14 +262,27 @@ static void limit(fetch *f) {
     f->changes++;
 }
 
+/* A length isn't believed any more. */
+static void doubt(fetch *f) {
+    f->is_settled = false;
+    f->believed = NULL;
+    f->changes++;
+    fetch_wait(f, now_ms());
+}
+
 /* A length is certified, or believed: makes the plans and, where there is none yet, OUT.part.fetch.
- * What came under the same length stays. */
+ * What came under the same length stays. A length for which there is no room isn't believed. */
 void fetch_settle(fetch *f, uint64_t total) {
     const bool is_new = !f->chunks.at || f->total != total;
+    const int status = is_new ? begin_anew(f, total) : DONE;
     uint64_t taken;
     f->is_settled = true;
-    if (is_new) begin_anew(f, total);
-    if (f->status != GOES_ON) return;
+    if (status && f->believed) {
+        f->hindrance = status;
+        bw_free(&f->chunks);
+        return doubt(f);
+    }
+    if (status) return fetch_stop(f, status);
     let_all_in(f);
     if (!admit_all(f)) return fetch_stop(f, NO_MEMORY); /* what is resumed needs a holder, too */
     for (uint64_t g = 0; is_new && g < f->drained * UNIT_GROUPS && f->status == GOES_ON; g++) {
@@ -279,15 +291,6 @@ void fetch_settle(fetch *f, uint64_t total) {
     }
     limit(f);
     if (!f->believed) certify(f);
-}
-
-/* A length that was believed wasn't certified. */
-static void doubt(fetch *f) {
-    if (!end_all(f)) return;
-    f->is_settled = false;
-    f->believed = NULL;
-    f->changes++;
-    fetch_wait(f, now_ms());
 }
 
 /* Takes chunks of a group as there. A pipe's bytes go to its window; a file's were written already.
@@ -427,7 +430,10 @@ static void forgive(fetch *f, uint64_t now) {
 /* Nothing is under way, and nobody is to be asked. */
 static void give_up(fetch *f, uint64_t now) {
     bool some = false, may_pass = false; /* the network is to blame: then it may be there later */
-    if (f->believed) return doubt(f);
+    if (f->believed) {
+        if (end_all(f)) doubt(f);
+        return;
+    }
     if (!f->is_settled && open_believe(f, now)) return;
     if (fetch_admit(f)) {
         ask_lines_again(f);
@@ -439,7 +445,7 @@ static void give_up(fetch *f, uint64_t now) {
         may_pass |= is_far;
     }
     if (some && (double)(now - f->moved_at) < f->set->patience * 1000) return forgive(f, now);
-    fetch_stop(f, f->no_memory ? NO_MEMORY : may_pass ? UNREACHED : LACKING);
+    fetch_stop(f, f->hindrance ? f->hindrance : may_pass ? UNREACHED : LACKING);
 }
 
 /* What is there before anything is asked for. It may be long, or on a slow disk. */

@@ -244,10 +244,10 @@ struct fetch {
     peer *believed; /* where nobody certifies the length: it claims it, and knows no ranges */
     exchange *exchanges;
     unsigned live;
-    int status;
+    int status, hindrance;        /* hindrance: its status where nobody has what is lacking */
     bool is_one_of_many, is_told; /* of a manifest; how it ended was printed, */
     uint64_t ended, shown_at;     /* when it ended, and when its progress was printed last */
-    bool has_begun, is_settled, is_resuming, no_memory;
+    bool has_begun, is_settled, is_resuming;
     bool waits; /* for a moment that a plan named */
     uint64_t total, unit_count, chunks_open, most_had, resumed, claimed_above;
     uint64_t began, wake; /* wake: when it has to be looked at again */

@@ -32,7 +32,7 @@ static void add_opener(fetch *f, peer *from, peer *by) {
         f->openers = it;
         return;
     }
-    f->no_memory = true;
+    f->hindrance = NO_MEMORY;
     free(it);
 }
 

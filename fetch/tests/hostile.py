@@ -987,6 +987,14 @@ def kinds_of_out(place):
     want((place.folder / "old").stat().st_mode & 0o777 == 0o640 and not list(place.folder.glob("*.part*")), "other permissions, or files are left")
 
 
+def no_room_for_a_claim(place):
+    """A length that a mirror without ranges claims, for which no file may be long enough, costs no other mirror."""
+    limit = {"preexec_fn": lambda: resource.setrlimit(resource.RLIMIT_FSIZE, (20_000_000, 20_000_000))}
+    place.run([], place.serve("bao@norange bao@wholeclaim=16000000000"), 0, **limit)
+    place.run([], place.serve("bao@wholeclaim=16000000000 bao@norange"), 0, **limit)
+    place.run([], place.serve("bao@wholeclaim=16000000000"), 3, **limit)
+
+
 def no_room(place):
     """OUT that may not become as long as the blob."""
     urls = place.serve("bao")
@@ -1028,7 +1036,7 @@ LONGER = [
     (resumes, 9_000_000, ""), (the_rest_alone, 9_000_000, ""), (local_alone, 3_000_000, ""), (part_is_not_trusted, 3_000_000, ""), (keeps_salvage, 3_000_000, ""),
     (keeps_old_out, 300_000, ""), (sigint, 9_000_000, ""), (sigterm, 9_000_000, ""), (keyed, 300_000, KEY), (under_a_context, 300_000, CONTEXT), (mirrors_in_a_file, 300_000, ""),
     (outboard_elsewhere, 3_000_000, ""), (two_outboards, 3_000_000, ""), (outboard_behind_others, 3_000_000, ""), (local_mirrors, 3_000_000, ""), (blame_is_exact, 20_000_000, ""),
-    (unwritable, 3_000_000, ""), (kinds_of_out, 300_000, ""), (no_room, 3_000_000, ""), (one_at_a_time, 9_000_000, ""), (usage, 10, ""), (one_round_trip, 6_000_000, ""), (short_in_one_request, 10_000, ""), (no_unit_twice, 6_000_000, ""),
+    (unwritable, 3_000_000, ""), (kinds_of_out, 300_000, ""), (no_room, 3_000_000, ""), (no_room_for_a_claim, 3_000_000, ""), (one_at_a_time, 9_000_000, ""), (usage, 10, ""), (one_round_trip, 6_000_000, ""), (short_in_one_request, 10_000, ""), (no_unit_twice, 6_000_000, ""),
     (near_ranges, 6_000_000, ""), (sighup, 9_000_000, ""), (sigkill, 9_000_000, ""), (a_full_disk_keeps, 9_000_000, ""), (own_part_as_a_mirror, 9_000_000, ""),
     (resume_asks_for_the_rest, 9_000_000, ""), (damaged_part, 9_000_000, ""), (right_out, 300_000, ""), (read_only_out, 300_000, ""), (no_outboard_ends, 300_000, ""), (queries, 300_000, ""),
     (silent_name_server, 300_000, ""), (closed_output, 20_000, ""), (part_of_others, 300_000, ""), (pipe_that_nobody_reads, 3_000_000, ""),
