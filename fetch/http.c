@@ -1,6 +1,7 @@
 #include "http.h"
 
 #include <stddef.h>
+#include <sys/statvfs.h>
 
 #if LIBCURL_VERSION_NUM < 0x080600
 #define CURLE_TOO_LARGE 100
@@ -27,12 +28,19 @@ static size_t on_header(char *line, size_t one, size_t len, void *with) {
     return it && answer_header(&it->answer, line, len) ? len : 0;
 }
 
-/* The bytes of a file that is copied whole. */
+static bool has_room(int fd, uint64_t len) {
+    struct statvfs disk;
+    return !fstatvfs(fd, &disk) && (uint64_t)disk.f_bavail * disk.f_frsize >= len;
+}
+
+/* The bytes of a file that is copied whole: an outboard encoding, while there is room for its blob,
+ * which is sixteen times as long. */
 static bool copy_bytes(leg *it, const char *bytes, size_t len) {
     const uint64_t end = it->answer.came;
     if (!it->copy_to || it->several || end > it->copy_most) return false;
     if (it->fd < 0) it->fd = open(it->copy_to, O_TMPFILE | O_RDWR | O_CLOEXEC, 0600);
-    return it->fd >= 0 && write_at(it->fd, end - len, bytes, len) == len;
+    return it->fd >= 0 && has_room(it->fd, 16 * it->copy_most) &&
+           write_at(it->fd, end - len, bytes, len) == len;
 }
 
 /* What a file that streams has behind the pieces waits until these are others. */

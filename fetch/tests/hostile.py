@@ -186,7 +186,7 @@ CASES = [
     ("longer than wanted, plain", 100_000, "plain", "--max 99999", 1),
 ]
 
-FILES = {"bao": "blob.bao", "plain": "blob", "bare": "bare", "parents": "parents", "false": "false", "short": "short"}
+FILES = {"bao": "blob.bao", "plain": "blob", "bare": "bare", "parents": "parents", "false": "false", "short": "short", "long": "long"}
 
 
 class Failure(Exception):
@@ -357,13 +357,21 @@ def sigkill(place):
     keeps(place, lambda ran: ran.kill())
 
 
-def a_full_disk_keeps(place):
-    """Status 3 in the middle, on a disk that has no room: what came is kept. It needs a mount of its own."""
+def disk_of(place, size, name):
+    """A folder for a disk of so many bytes, and the command that mounts it; None where that isn't allowed, which is said."""
     disk = place.folder / "disk"
     disk.mkdir()
-    mount = f"mount -t tmpfs -o size=6000000 none {disk}"
-    if not shutil.which("unshare") or subprocess.run(["unshare", "-m", "sh", "-c", mount], capture_output=True).returncode:
-        print("hostile.py: not run, since no mount is allowed here: a full disk keeps")
+    mount = f"mount -t tmpfs -o size={size} none {disk}"
+    if shutil.which("unshare") and subprocess.run(["unshare", "-m", "sh", "-c", mount], capture_output=True).returncode == 0:
+        return disk, mount
+    print(f"hostile.py: not run, since no mount is allowed here: {name}")
+    return disk, None
+
+
+def a_full_disk_keeps(place):
+    """Status 3 in the middle, on a disk that has no room: what came is kept. It needs a mount of its own."""
+    disk, mount = disk_of(place, 6000000, "a full disk keeps")
+    if not mount:
         return
     url, = place.serve("bao")
     words = f"{shlex.join(place.fetch)} {place.root} {disk}/out {url}"
@@ -929,15 +937,26 @@ def room_for_the_blob_alone(place):
 
 def disk_for_the_blob_alone(place):
     """The same, on a disk that is full: parents give way to the blob. It needs a mount of its own."""
-    disk = place.folder / "disk"
-    disk.mkdir()
-    mount = f"mount -t tmpfs -o size={len(place.blob) + 65_536} none {disk}"
-    if not shutil.which("unshare") or subprocess.run(["unshare", "-m", "sh", "-c", mount], capture_output=True).returncode:
-        print("hostile.py: not run, since no mount is allowed here: disk for the blob alone")
+    disk, mount = disk_of(place, len(place.blob) + 65_536, "disk for the blob alone")
+    if not mount:
         return
     for mirrors in ("bao", "plain"):
         url, = place.serve(mirrors)
         words = f"{mount} && {shlex.join(place.fetch)} {place.root} {disk}/out {url} && cmp {disk}/out {place.folder}/blob"
+        ran = subprocess.run(["unshare", "-m", "sh", "-c", words], capture_output=True, timeout=LONGEST)
+        want(ran.returncode == 0, f"status {ran.returncode}: {ran.stderr.decode(errors='replace')[-2000:]}")
+
+
+def disk_for_a_copy(place):
+    """The same disk, beside an outboard encoding that its server gives as a whole: what it claims to be of is longer, or shorter, than the blob."""
+    disk, mount = disk_of(place, len(place.blob) + 65_536, "disk for a copy")
+    if not mount:
+        return
+    place.put("long", b"")
+    for claim in (80_000_000, 8_500_000):
+        place.put("long.obao", claim.to_bytes(8, "little") + bytes(64 * ((claim - 1) // 1024)))
+        urls = place.serve("long@norange bao@after=#0")
+        words = f"{mount} && {shlex.join(place.fetch)} {place.root} {disk}/out {' '.join(urls)} && cmp {disk}/out {place.folder}/blob"
         ran = subprocess.run(["unshare", "-m", "sh", "-c", words], capture_output=True, timeout=LONGEST)
         want(ran.returncode == 0, f"status {ran.returncode}: {ran.stderr.decode(errors='replace')[-2000:]}")
 
@@ -1045,7 +1064,7 @@ LONGER = [
     (left_alone, 3_000_000, ""), (progress, 20_000_000, ""), (lines_are_blamed, 3_000_000, ""), (false_below_its_spine, 20_000_000, ""),
     (streamed_once, 9_000_000, ""), (streamed_for_a_chunk, 9_000_000, ""), (streamed_and_kept, 9_000_000, ""),
     (a_hole_near_the_start, 9_000_000, ""), (keeps_all_but_a_chunk, 3_000_000, ""),
-    (room_for_the_blob_alone, 3_000_000, ""), (disk_for_the_blob_alone, 9_000_000, ""), (little_memory, 300 << 20, ""),
+    (room_for_the_blob_alone, 3_000_000, ""), (disk_for_the_blob_alone, 9_000_000, ""), (disk_for_a_copy, 9_000_000, ""), (little_memory, 300 << 20, ""),
 ]
 # function, length, programs that it needs
 WITH_PROGRAMS = [(over_https, 300_000, ["openssl"]), (credentials_stay, 300_000, ["openssl"]), (names_on_a_terminal, 300_000, ["openssl"]), (http2, 6_000_000, ["openssl", "nginx"])]

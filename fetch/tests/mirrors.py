@@ -334,9 +334,11 @@ class Mirror(http.server.BaseHTTPRequestHandler):
         else:
             if mode == "late":
                 time.sleep(float(self.value))
-            self.wfile.write(body)
-            if len(body) > 20_000:
-                self.server.given[str(self.server.server_port)].set()
+            try:
+                self.wfile.write(body)
+            finally:
+                if len(body) > 20_000:
+                    self.server.given[str(self.server.server_port)].set()
 
 
 class Server(socketserver.ThreadingMixIn, http.server.HTTPServer):
@@ -374,7 +376,7 @@ class Mirrors:
             server.value = str(self.ports[int(value[1:])]) if value.startswith("#") else value
             self.servers.append(server)
             self.ports.append(server.server_port)
-            given[str(server.server_port)] = threading.Event()     # whether it has given more than 20 KB at once
+            given[str(server.server_port)] = threading.Event()     # whether it has given, or tried to give, more than 20 KB at once
             threading.Thread(target=server.serve_forever, args=(0.05,), daemon=True).start()
 
     def end(self):
