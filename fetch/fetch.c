@@ -356,7 +356,7 @@ static void run_drain(job *of) {
 static void was_drained(job *of) {
     fetch *f = of->with;
     f->is_draining = false;
-    if (f->drain_status == OTHER_ROOT) say(OTHER_ROOT, "what was written hasn't the root");
+    if (f->drain_status == OTHER_ROOT) say(OTHER_ROOT, "what was written doesn't have the root");
     if (f->drain_status != GOES_ON) return fetch_stop(f, f->drain_status);
     f->drained++;
     f->moved_at = now_ms();
@@ -501,7 +501,7 @@ bool fetch_turn(fetch *f, uint64_t now) {
     f->waits = false;
     if (!f->has_begun) begin(f);
     const bool is_late = f->set->max_time > 0 && (double)(now - f->began) > f->set->max_time * 1000;
-    if (f->status == GOES_ON && is_late) fetch_stop(f, say(UNREACHED, "--max-time is over"));
+    if (f->status == GOES_ON && is_late) fetch_stop(f, say(UNREACHED, "--max-time is up"));
     const bool is_compared = f->length.at || f->is_settled;
     if (f->status == GOES_ON && is_compared) step(f, now);
     const bool is_idle = exchange_all_wait(f) && !f->waits && !f->is_draining && !f->is_resuming;

@@ -106,25 +106,25 @@ static const row rows[] = {
     {"outboard URL", "where the outboard encoding is, in place of URL.obao; may be given again",
      URL_OF, .least = OUTBOARD},
     {"mirrors FILE", "more URLs, one a line; # begins a comment", TEXT, .to = &given.mirrors_file},
-    {"manifest FILE", "many files: a line for each, ROOT OUT URL ..", TEXT, .to = &given.manifest},
-    {"check", "no network: only whether OUT has the root already", FLAG, .to = &given.check},
+    {"manifest FILE", "many files: a line for each, ROOT OUT URL .., where OUT is a file", TEXT,
+     .to = &given.manifest},
+    {"check", "asks no network, and tells whether OUT has the root", FLAG, .to = &given.check},
     {"connections N", "connections for each mirror, 1 to 8 (2)", NUMBER, 'c', &given.connections, 1,
      8},
     {"retries N", "failures in a row until a mirror is left out for a while (5)", NUMBER, 0,
      &given.retries, 1, 100},
     {"patience SECONDS",
-     "how long nothing may come before it gives up, where the network is to blame (300)", SECONDS,
-     0, &given.patience, 0, DAYS},
+     "how long it goes on while nothing comes, if the network is to blame (300)", SECONDS, 0,
+     &given.patience, 0, DAYS},
     {"stall SECONDS", "how long a mirror may give less than 1 KiB a second (5)", SECONDS, 0,
      &given.set.stall, 0.1, 3600},
-    {"max-time SECONDS", "how long all may take", SECONDS, 0, &given.max_time, 0, DAYS},
-    {"max BYTES", "the longest blob that is taken (17179869184)", NUMBER, 0, &given.most, 0,
-     MAX_MOST},
-    {"limit-rate BYTES", "at most so many a second", NUMBER, 0, &given.set.limit_rate, 1,
-     RATE_MOST},
+    {"max-time SECONDS", "how long one file may take", SECONDS, 0, &given.max_time, 0, DAYS},
+    {"max BYTES", "the longest blob that is accepted (16G)", NUMBER, 0, &given.most, 0, MAX_MOST},
+    {"limit-rate BYTES", "at most so many a second, all together", NUMBER, 0, &given.set.limit_rate,
+     1, RATE_MOST},
     {"key-file FILE", "a file with the key of keyed hashing: 64 hexadecimal digits", TEXT,
      .to = &given.key_file},
-    {"context TEXT", "derivation of keys for the use that TEXT names, in place of --key-file", TEXT,
+    {"context TEXT", "derives the key from TEXT, the name of its use, in place of --key-file", TEXT,
      .to = &given.context},
     {"header LINE", "a header for each mirror's own server; may be given again", A_HEADER,
      .letter = 'H'},
@@ -132,16 +132,16 @@ static const row rows[] = {
     {"netrc", "user and password from ~/.netrc, for each mirror's own server", FLAG,
      .to = &given.set.netrc},
     {"user-agent TEXT", "what it calls itself (bw-fetch)", TEXT, .to = &given.set.agent},
-    {"cacert FILE", "the authorities whose certificates are believed", TEXT,
+    {"cacert FILE", "the authorities to trust, in place of the system's", TEXT,
      .to = &given.set.authorities},
     {"cert FILE", "a client's certificate, for each mirror's own server", TEXT,
      .to = &given.set.certificate},
     {"cert-key FILE", "its private key", TEXT, .to = &given.set.key},
-    {"no-check-certificate", "any certificate is believed: the root decides about the bytes", FLAG,
-     .to = &given.set.unchecked},
-    {"proxy URL", "asks through a proxy", TEXT, .to = &given.set.proxy},
-    {"ipv4", "asks by IPv4 alone", CHOICE, '4', &given.set.family, CURL_IPRESOLVE_V4, 0},
-    {"ipv6", "asks by IPv6 alone", CHOICE, '6', &given.set.family, CURL_IPRESOLVE_V6, 0},
+    {"no-check-certificate", "accepts any certificate; the root still decides about the bytes",
+     FLAG, .to = &given.set.unchecked},
+    {"proxy URL", "a proxy to go through", TEXT, .to = &given.set.proxy},
+    {"ipv4", "uses IPv4 alone", CHOICE, '4', &given.set.family, CURL_IPRESOLVE_V4, 0},
+    {"ipv6", "uses IPv6 alone", CHOICE, '6', &given.set.family, CURL_IPRESOLVE_V6, 0},
     {"allow-private", "a redirect may lead from a public address to a private one", FLAG,
      .to = &given.set.allow_private},
     {"progress FD", "progress in JSON to a descriptor; json for standard error", A_DESCRIPTOR,
@@ -170,9 +170,9 @@ static const char before[] =
 
 static const char after[] =
     "\nStatuses: 0 done; 1 the mirrors lack or falsify some of it; 2 usage; 3 a file can't be read "
-    "or written;\n4 out of memory; 5 what was written hasn't the root; 6 the network failed, or "
-    "time was over: try later;\n7 interrupted. After any but 0 OUT.part.fetch has what came, and "
-    "the next run goes on with it.\n";
+    "or written;\n4 out of memory; 5 what was written doesn't have the root; 6 the network failed, "
+    "or time was up: try later;\n7 interrupted. After any but 0, OUT.part.fetch keeps what came, "
+    "and the next run goes on with it.\n";
 
 static void print_help(void) {
     fputs(before, stdout);

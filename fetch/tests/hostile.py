@@ -420,7 +420,7 @@ def right_out(place):
         want(not place.requests(urls[0]), "the mirror was asked")
     place.put("out", place.blob[:-1] + b"?")
     ran = subprocess.run([*place.fetch, "--check", place.root, place.out], capture_output=True, timeout=LONGEST)
-    want(ran.returncode == 1 and b"hasn't the root" in ran.stderr, f"status {ran.returncode}")
+    want(ran.returncode == 1 and b"doesn't have the root" in ran.stderr, f"status {ran.returncode}")
 
 
 def read_only_out(place):
