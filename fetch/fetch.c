@@ -475,7 +475,7 @@ static void was_compared(job *of) {
 
 static void begin(fetch *f) {
     f->has_begun = f->is_draining = true;
-    f->next_in = f->peers;
+    f->next_in = f->unopened = f->peers;
     for (peer *m = f->peers, *line = f->lines; m != f->lines && !f->has_own_lines; m = m->next)
         m->line = line = line->next ? line->next : f->lines;
     f->drain = (job){.run = run_compare, .done = was_compared, .with = f};

@@ -177,6 +177,7 @@ typedef struct peer {
     uint64_t tried, claimed; /* claimed: the length that it, or an outboard encoding, claims */
     uint64_t good, bad;      /* groups that were taken, and refused */
     unsigned lost;           /* requests that others overtook */
+    struct peer *beside;     /* of an outboard encoding: the next mirror to be asked beside it */
     uint8_t *spine, *head; /* the parents above its last chunk, then what it begins with, or NULL */
     size_t head_len;
 } peer;
@@ -235,7 +236,9 @@ struct fetch {
     char *name; /* OUT, as it was given */
     output out;
     peer *peers, *lines; /* local mirrors, others, and outboard encodings; the first of these */
-    peer *next_in;       /* the first mirror that isn't in yet */
+    peer *next_in;       /* the first mirror that isn't in yet, */
+    peer *unopened;      /* and the first that has no opener of its own */
+    size_t foreign;      /* undecided openers of plain files beside others' outboard encodings */
     peer own, own_line;  /* OUT.part.fetch, of an earlier run, and its parents */
     size_t mirror_count;
     bool has_own_lines, lacks_lines; /* each plain file has its own outboard encoding; none is in */

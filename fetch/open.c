@@ -20,15 +20,15 @@ static void decide(exchange *e, bool is_false) {
 
 /* --- Who is asked */
 
+/* Whether a plain file is asked beside an outboard encoding that isn't its own: that comes last. */
+static bool is_foreign(const opener *it) { return it->by && it->by != it->from->line; }
+
 static void add_opener(fetch *f, peer *from, peer *by) {
-    opener *it = f->openers;
-    while (it && (it->from != from || it->by != by)) it = it->next;
-    if (it || !(it = malloc(sizeof *it))) return;
-    *it = (opener){.next = f->openers, .from = from, .by = by};
-    it->booked = (booking){.plan = &f->length, .of = &from->at};
-    size_t *holder = &it->booked.holder;
-    if (!bw_plan_add_holder(&f->length, holder) &&
-        !bw_plan_rank(&f->length, *holder, !from->at.is_local)) {
+    opener *it = malloc(sizeof *it);
+    if (it) *it = (opener){.next = f->openers, .from = from, .by = by};
+    if (it) it->booked = (booking){.plan = &f->length, .of = &from->at};
+    if (it && !bw_plan_add_holder(&f->length, &it->booked.holder) &&
+        !bw_plan_rank(&f->length, it->booked.holder, is_foreign(it) ? LAST : !from->at.is_local)) {
         f->openers = it;
         return;
     }
@@ -36,14 +36,25 @@ static void add_opener(fetch *f, peer *from, peer *by) {
     free(it);
 }
 
+/* Each once. So few foreign ones are undecided at a time that their number doesn't grow with the
+ * square of that of mirrors. */
 static void add_openers(fetch *f) {
-    for (peer *line = f->lines; line; line = line->next) {
-        if (line->is_in) add_opener(f, line, NULL);
-        for (peer *m = f->peers; m != f->next_in && line->spine; m = m->next)
-            if (m->at.kind == PLAIN) add_opener(f, m, line);
-    }
-    for (peer *m = f->peers; m != f->next_in; m = m->next)
+    for (peer *m; (m = f->unopened) != f->next_in; f->unopened = m->next) {
         if (m->at.kind == COMBINED) add_opener(f, m, NULL);
+        else if (m->line->spine) add_opener(f, m, m->line);
+    }
+    for (peer *line = f->lines, *m; line; line = line->next) {
+        if (line->is_in && !line->beside) {
+            line->beside = f->peers;
+            add_opener(f, line, NULL);
+        }
+        for (; f->foreign < IN_MOST && line->spine && (m = line->beside) != f->next_in;
+             line->beside = m->next) {
+            if (m->at.kind != PLAIN || m->line == line) continue;
+            add_opener(f, m, line);
+            f->foreign++;
+        }
+    }
 }
 
 /* The parents are there; the last chunk is asked for. */
@@ -75,16 +86,19 @@ static void begin(fetch *f, opener *it) {
     exchange_get(e, it->from, &e->parts);
 }
 
-/* Asks whoever may be asked. How many that haven't failed may be asked at some time. */
+/* Asks whoever may be asked. How many that haven't failed may be asked at some time, but for the
+ * foreign ones. */
 static size_t ask_openers(fetch *f, uint64_t now) {
     size_t alive = 0;
+    f->foreign = 0;
     for (opener *it = f->openers; it && f->status == GOES_ON && !f->is_settled; it = it->next) {
         uint64_t until = it->from->later > now ? it->from->later : 0;
         const bool may_ask = !until && !it->booked.is_open && f->live < IN_MOST &&
                              it->from->busy < it->from->at.most;
         if (may_ask) until = fetch_book(f, &it->booked, now);
         if (may_ask && it->booked.is_open) begin(f, it);
-        alive += until != UINT64_MAX && !has_failed(it->from);
+        alive += until != UINT64_MAX && !has_failed(it->from) && !is_foreign(it);
+        f->foreign += until != UINT64_MAX && is_foreign(it);
         if (until && until != UINT64_MAX) fetch_wait(f, until);
     }
     return alive;
@@ -185,6 +199,8 @@ static void was_spine(exchange *e) {
         line->head_len = e->head_len;
         memcpy(line->spine, e->bytes, e->bytes_len);
         memcpy(line->head, e->head, e->head_len);
+        for (peer *m = e->fetch->peers; m != e->fetch->unopened; m = m->next)
+            if (m->at.kind == PLAIN && m->line == line) add_opener(e->fetch, m, line);
     }
     decide(e, false);
 }

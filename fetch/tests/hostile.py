@@ -668,6 +668,14 @@ def outboard_behind_others(place):
         place.run([it for name in [name] * 17 + ["blob.obao"] for it in ("--outboard", place.folder / name)], urls, 0)
 
 
+def behind_a_hundred(place):
+    """Plain files that are false at their end, each beside the true outboard encoding, aren't each asked beside all of these before the next."""
+    bad, good = place.serve("plain@at=2999999 plain")
+    place.put("list", "\n".join([*(f"{bad}?{i}" for i in range(100)), good]).encode())
+    place.run(["--mirrors", place.folder / "list"], [], 0)
+    want(len(place.requests(bad)) < 1000, f"{len(place.requests(bad))} requests")
+
+
 def local_mirrors(place):
     """A local path is a mirror, too; one that isn't there is left out."""
     place.run([], [place.folder / "none.bao", place.folder / "blob.bao"], 0)
@@ -1054,7 +1062,7 @@ def usage(place):
 LONGER = [
     (resumes, 9_000_000, ""), (the_rest_alone, 9_000_000, ""), (local_alone, 3_000_000, ""), (part_is_not_trusted, 3_000_000, ""), (keeps_salvage, 3_000_000, ""),
     (keeps_old_out, 300_000, ""), (sigint, 9_000_000, ""), (sigterm, 9_000_000, ""), (keyed, 300_000, KEY), (under_a_context, 300_000, CONTEXT), (mirrors_in_a_file, 300_000, ""),
-    (outboard_elsewhere, 3_000_000, ""), (two_outboards, 3_000_000, ""), (outboard_behind_others, 3_000_000, ""), (local_mirrors, 3_000_000, ""), (blame_is_exact, 20_000_000, ""),
+    (outboard_elsewhere, 3_000_000, ""), (two_outboards, 3_000_000, ""), (outboard_behind_others, 3_000_000, ""), (behind_a_hundred, 3_000_000, ""), (local_mirrors, 3_000_000, ""), (blame_is_exact, 20_000_000, ""),
     (unwritable, 3_000_000, ""), (kinds_of_out, 300_000, ""), (no_room, 3_000_000, ""), (no_room_for_a_claim, 3_000_000, ""), (one_at_a_time, 9_000_000, ""), (usage, 10, ""), (one_round_trip, 6_000_000, ""), (short_in_one_request, 10_000, ""), (no_unit_twice, 6_000_000, ""),
     (near_ranges, 6_000_000, ""), (sighup, 9_000_000, ""), (sigkill, 9_000_000, ""), (a_full_disk_keeps, 9_000_000, ""), (own_part_as_a_mirror, 9_000_000, ""),
     (resume_asks_for_the_rest, 9_000_000, ""), (damaged_part, 9_000_000, ""), (right_out, 300_000, ""), (read_only_out, 300_000, ""), (no_outboard_ends, 300_000, ""), (queries, 300_000, ""),
