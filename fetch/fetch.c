@@ -5,12 +5,6 @@ enum { BAD_ENOUGH = 4, LOST_ENOUGH = 3 };
 
 /* --- Made and freed */
 
-bool read_hash(const char *digits, uint8_t hash[BW_HASH_LEN]) {
-    if (strlen(digits) != 64 || strspn(digits, "0123456789abcdefABCDEF") != 64) return false;
-    for (int i = 0; i < BW_HASH_LEN; i++) sscanf(digits + 2 * i, "%2hhx", &hash[i]);
-    return true;
-}
-
 /* A fetch of the root to OUT. 0, or a status; then some message was written. */
 int fetch_new(fetch **it, hub *on, const options *set, const char *root, const char *name) {
     uint8_t bytes[BW_HASH_LEN];

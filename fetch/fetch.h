@@ -10,20 +10,12 @@
 #ifndef BW_FETCH_FETCH_H
 #define BW_FETCH_FETCH_H
 
-#include "http.h"
+#include "tree.h"
+#include "words.h"
 
-#include <stdatomic.h>
 #include <sys/stat.h>
-#include <sys/uio.h>
 
 enum {
-    UNIT_LEN = 1 << 20,
-    UNIT_CHUNKS = UNIT_LEN / BW_CHUNK_LEN,
-    UNIT_PARENTS = BW_NODES_MAX(UNIT_CHUNKS) - UNIT_CHUNKS,
-    GROUP_LEN = BW_GROUP_CHUNKS * BW_CHUNK_LEN,
-    UNIT_GROUPS = UNIT_LEN / GROUP_LEN,
-    GROUP_NODES = BW_NODES_MAX(BW_GROUP_CHUNKS),
-    GROUP_TEXT = BW_LENGTH_LEN + GROUP_LEN + (GROUP_NODES - BW_GROUP_CHUNKS) * BW_PARENT_LEN,
     WINDOW_UNITS = 16,  /* of a pipe */
     IN_MOST = 16,       /* mirrors, and outboard encodings, that are asked at a time */
     OVERTAKE_MS = 1000, /* what doesn't come so long is asked of another */
@@ -61,61 +53,7 @@ typedef struct options {
 
 extern options given;
 
-int usage(const char *what);
-char *next_line(FILE *from, char **text, size_t *room);
-int each_line(const char *path, int (*take)(void *, char *), void *with);
 int read_options(int argc, char **argv);
-
-/* --- tree.c: slices, put together of nodes that are known and that mirrors have. A slice is asked
- * by `start` and `len` as in berylwool.h. Nothing here hashes or verifies: bw_decode does. */
-
-typedef struct run {
-    uint64_t first, count; /* chunks */
-} run;
-
-/* A parent above units. Once it is known to be true it stays so. */
-typedef struct known {
-    atomic_uchar state;
-    uint8_t text[BW_PARENT_LEN];
-} known;
-
-/* The nodes of a slice of chunks of one group, in their order, and where each was found. */
-typedef struct slice {
-    size_t count;
-    bw_placed nodes[GROUP_NODES];
-    const uint8_t *found[GROUP_NODES];
-} slice;
-
-/* Where the nodes of a slice are taken from: known parents first, then what came of a file of some
- * kind, and of an outboard encoding. */
-typedef struct origin {
-    known *known;
-    kind as;
-    const pieces *seen, *parents;
-} origin;
-
-/* How many there are in a blob of `total` bytes: one where it is empty. */
-static inline uint64_t chunks_of(uint64_t total) {
-    return total ? (total - 1) / BW_CHUNK_LEN + 1 : 1;
-}
-static inline uint64_t units_of(uint64_t total) { return (chunks_of(total) - 1) / UNIT_CHUNKS + 1; }
-static inline uint64_t end_of(run it) { return it.first + it.count; }
-static inline uint64_t group_after(run it) {
-    return it.count ? (end_of(it) - 1) / BW_GROUP_CHUNKS + 1 : 0;
-}
-
-uint64_t length_claimed(const uint8_t claim[BW_LENGTH_LEN]);
-void claim_length(uint8_t claim[BW_LENGTH_LEN], uint64_t total);
-run run_of_unit(uint64_t total, uint64_t unit);
-run run_in(run it, uint64_t first, uint64_t count);
-uint64_t mask_in(uint64_t group, run it);
-bool slice_of(slice *it, uint64_t total, uint64_t start, uint64_t len);
-bool know(known *all, const bw_placed *it, const uint8_t *text);
-bool pieces_add(pieces *out, known *above, kind of, uint64_t total, uint64_t start, uint64_t len);
-const uint8_t *pieces_find(const pieces *in, uint64_t at, size_t len);
-bool slice_find(slice *it, const origin *from, uint64_t total, uint64_t start, uint64_t len);
-size_t slice_put(const slice *it, uint64_t total, uint8_t *out);
-int slice_chunks(const slice *it, struct iovec out[BW_GROUP_CHUNKS]);
 
 /* --- out.c: OUT while it comes together: OUT.part.fetch beside it, which is renamed at the end, or
  * for a pipe a window of the blob in memory. The file has the blob, with holes; after it the
@@ -269,7 +207,6 @@ struct fetch {
 /* What is told of chunks of a group, to a plan. */
 typedef bw_status report(bw_plan *, size_t, uint64_t, uint64_t);
 
-bool read_hash(const char *digits, uint8_t hash[BW_HASH_LEN]);
 int fetch_new(fetch **it, hub *on, const options *set, const char *root, const char *name);
 peer *fetch_add(fetch *f, const char *url, kind as);
 void fetch_free(fetch *f);
@@ -322,7 +259,6 @@ void verify(exchange *e);
 
 int say(int status, const char *format, ...) __attribute__((format(printf, 2, 3)));
 int no_memory(void);
-int file_fault(const char *path);
 void report_end(fetch *f);
 void report_progress(fetch *f, bool is_last);
 

@@ -4,8 +4,6 @@
  * each plain file in turn. */
 #include "fetch.h"
 
-static uint64_t last_chunk_at(uint64_t total) { return (chunks_of(total) - 1) * BW_CHUNK_LEN; }
-
 static bool add_last(exchange *e, pieces *to, kind of) {
     return pieces_add(to, NULL, of, e->claimed, last_chunk_at(e->claimed), BW_CHUNK_LEN);
 }

@@ -14,30 +14,6 @@ options given = {.connections = 2,
 
 int usage(const char *what) { return say(USAGE, "usage: %s (bw-fetch --help tells more)", what); }
 
-/* The next line of a file that isn't a comment, or NULL. */
-char *next_line(FILE *from, char **text, size_t *room) {
-    while (getline(text, room, from) >= 0) {
-        char *line = *text + strspn(*text, " \t");
-        line[strcspn(line, "\r\n")] = 0;
-        if (*line && *line != '#') return line;
-    }
-    return NULL;
-}
-
-/* Calls `take` with each such line. Its first status that isn't 0. */
-int each_line(const char *path, int (*take)(void *, char *), void *with) {
-    char *text = NULL, *line;
-    size_t room = 0;
-    int status = DONE;
-    FILE *file = fopen(path, "r");
-    if (!file) return file_fault(path);
-    while (!status && (line = next_line(file, &text, &room))) status = take(with, line);
-    if (!status && ferror(file)) status = file_fault(path);
-    free(text);
-    fclose(file);
-    return status;
-}
-
 /* --- What an option's word is */
 
 /* Digits, and a suffix K, M or G. */
@@ -56,18 +32,6 @@ static bool read_seconds(const char *text, double least, double most, double *se
     char *end;
     *seconds = strtod(text, &end);
     return isdigit((unsigned char)*text) && !*end && *seconds >= least && *seconds <= most;
-}
-
-static int read_key(const char *path) {
-    char text[80] = {0};
-    FILE *file = fopen(path, "r");
-    if (!file) return file_fault(path);
-    size_t len = fread(text, 1, sizeof text - 1, file);
-    fclose(file);
-    while (len && isspace((unsigned char)text[len - 1])) text[--len] = 0;
-    if (!read_hash(text, given.mode.key)) return usage("a key file has 64 hexadecimal digits");
-    given.mode.kind = BW_MODE_KEYED_HASH;
-    return DONE;
 }
 
 static int add_header(void *unused, char *line) {
@@ -229,20 +193,12 @@ static int take_all(int argc, char **argv) {
 }
 
 int read_options(int argc, char **argv) {
-    const char *file = getenv("SSL_CERT_FILE"), *folder = getenv("SSL_CERT_DIR");
     given.set.headers = curl_slist_append(NULL, "Accept-Encoding: identity");
     given.set.plain = curl_slist_append(NULL, "Accept-Encoding: identity");
     if (!given.set.headers || !given.set.plain) return no_memory();
     int status = take_all(argc, argv);
     if (!status && given.set.authorities && access(given.set.authorities, R_OK))
         status = file_fault(given.set.authorities);
-    const bool asks = !given.set.authorities; /* --cacert alone decides where it is given */
-    if (asks && file && *file) given.set.authorities = file;
-    if (asks && folder && *folder) given.set.authorities_in = folder;
-    if (status || (!given.key_file && !given.context)) return status;
-    if (given.key_file && given.context) return usage("--key-file or --context, and not both");
-    if (given.key_file) return read_key(given.key_file);
-    return bw_mode_derive((const uint8_t *)given.context, strlen(given.context), &given.mode)
-               ? usage("a context is a UTF-8 text")
-               : DONE;
+    if (!given.set.authorities) trust_environment(&given.set); /* else --cacert alone decides */
+    return status ? status : read_mode(given.key_file, given.context, &given.mode);
 }

@@ -1,4 +1,4 @@
-#include "fetch.h"
+#include "tree.h"
 
 enum { UNKNOWN, GETS_KNOWN, IS_KNOWN };
 
@@ -86,7 +86,7 @@ bool pieces_add(pieces *out, known *above, kind of, uint64_t total, uint64_t sta
         if (!place_in(of, it, &at) || known_text(above, it) || piece_with(out, at, it->size))
             continue;
         piece *last = out->count ? &out->list[out->count - 1] : NULL;
-        if (last && last->at + last->len == at) last->len += it->size;
+        if (last && !last->have && last->at + last->len == at) last->len += it->size;
         else if (out->count == PIECES_MOST) return false;
         else out->list[out->count++] = (piece){.at = at, .len = it->size};
     }
@@ -137,4 +137,17 @@ int slice_chunks(const slice *it, struct iovec out[BW_GROUP_CHUNKS]) {
         else *(last = last ? last + 1 : out) = (struct iovec){(void *)it->found[i], len};
     }
     return last ? (int)(last + 1 - out) : 0;
+}
+
+/* What is refused is tried in halves, out of the same bytes, down to a chunk. A half that has the
+ * refused node is false as well, and isn't hashed again. */
+void salvage(const trial *by, run of, const bw_placed *refused) {
+    const uint64_t half = (of.count + 1) / 2, first = refused->start / BW_CHUNK_LEN;
+    const run halves[] = {{of.first, half}, {of.first + half, of.count - half}};
+    if (of.count == 1) return by->blame(by->with, of, refused);
+    for (int i = 0; i < 2; i++) {
+        bw_placed it = *refused;
+        const bool has_it = run_in(halves[i], first, chunks_of(refused->len)).count;
+        if (has_it || by->take(by->with, halves[i], &it) != TAKEN) salvage(by, halves[i], &it);
+    }
 }

@@ -4,8 +4,6 @@
 static _Thread_local uint8_t text[GROUP_TEXT];
 static _Thread_local slice nodes;
 
-typedef enum taken { NOT_THERE, TAKEN, REFUTED } taken;
-
 static bw_slice slice_named(const fetch *f, uint64_t start, uint64_t len) {
     bw_slice it = {f->set->mode, {0}, start, len};
     memcpy(it.root, f->out.root, sizeof it.root);
@@ -36,7 +34,8 @@ static void keep(exchange *e, run of) {
 }
 
 /* Verifies chunks of a group, out of what came. What is refused first is at *refused. */
-static taken take(exchange *e, run it, bw_placed *refused) {
+static verdict take(void *with, run it, bw_placed *refused) {
+    exchange *e = with;
     const fetch *f = e->fetch;
     const bw_slice named = slice_named(f, it.first * BW_CHUNK_LEN, it.count * BW_CHUNK_LEN);
     const size_t text_len = put(e, f->known, f->total, &named);
@@ -49,7 +48,8 @@ static taken take(exchange *e, run it, bw_placed *refused) {
 }
 
 /* A chunk below a parent that an outboard encoding has falsely isn't told to be true or false. */
-static void blame(exchange *e, run of, const bw_placed *it) {
+static void blame(void *with, run of, const bw_placed *it) {
+    exchange *e = with;
     const uint64_t group = of.first / BW_GROUP_CHUNKS, mask = mask_in(group, of);
     if (it->kind == BW_NODE_CHUNK || !e->by) {
         e->refused[group % UNIT_GROUPS] |= mask;
@@ -62,35 +62,22 @@ static void blame(exchange *e, run of, const bw_placed *it) {
     e->wrong_parent = it->outboard_at;
 }
 
-/* What is refused is tried in halves, out of the same bytes, down to a chunk. A half that has the
- * refused node is false as well, and isn't hashed again. */
-static void salvage(exchange *e, run of, const bw_placed *refused) {
-    const uint64_t half = (of.count + 1) / 2, first = refused->start / BW_CHUNK_LEN;
-    const run halves[] = {{of.first, half}, {of.first + half, of.count - half}};
-    if (of.count == 1) return blame(e, of, refused);
-    for (int i = 0; i < 2; i++) {
-        bw_placed it = *refused;
-        const bool has_it = run_in(halves[i], first, chunks_of(refused->len)).count;
-        if (has_it || take(e, halves[i], &it) != TAKEN) salvage(e, halves[i], &it);
-    }
-}
-
 static void run_unit(job *of) {
     exchange *e = of->with;
     for (; e->next_group < UNIT_GROUPS; e->next_group++) {
         const uint64_t first = e->unit * UNIT_CHUNKS + (uint64_t)e->next_group * BW_GROUP_CHUNKS;
         const run it = run_in(e->proving, first, BW_GROUP_CHUNKS);
         bw_placed refused;
-        const taken r = it.count ? take(e, it, &refused) : TAKEN;
+        const verdict r = it.count ? take(e, it, &refused) : TAKEN;
         if (r == NOT_THERE) return;
-        if (r == REFUTED) salvage(e, it, &refused);
+        if (r == REFUTED) salvage(&(trial){take, blame, e}, it, &refused);
     }
 }
 
 /* What certifies the length: the slice of the last chunk. */
 static void run_proof(job *of) {
     exchange *e = of->with;
-    const uint64_t last = (chunks_of(e->claimed) - 1) * BW_CHUNK_LEN;
+    const uint64_t last = last_chunk_at(e->claimed);
     const bw_slice named = slice_named(e->fetch, last, BW_CHUNK_LEN);
     const size_t text_len = put(e, NULL, e->claimed, &named);
     uint64_t certified = 0, at = 0;
