@@ -4,7 +4,7 @@ SHELL := bash
 .SHELLFLAGS := -eu -o pipefail -c
 .DEFAULT_GOAL := help
 .DELETE_ON_ERROR:
-.PHONY: help build run try install uninstall dist deb deb-test deb-trial clean distclean quick sum doc test proofs refusals trials c-trials wrong-bodies scenarios program-scenarios docs c-library c-install c-test c-bench python wheel python-test fetch fetch-install fetch-test fetch-bench bench refuse replaced memory stress statement cites fmt FORCE
+.PHONY: help build run try install uninstall dist deb deb-test deb-trial clean distclean quick sum doc test proofs refusals trials c-trials wrong-bodies scenarios program-scenarios docs c-library c-install c-test c-bench python wheel python-test fetch fetch-install fetch-test fetch-bench nbd nbd-install nbd-test nbd-bench bench refuse replaced memory stress statement cites fmt FORCE
 
 PREFIX ?= /usr/local
 bindir ?= $(PREFIX)/bin
@@ -36,16 +36,19 @@ help:
 	@echo '                          words, the crates, statuses, the C reference, what was measured, manual pages and completions'
 	@echo 'make install PREFIX=DIR   copies bao_gather to DIR/bin, its manual page and completions to DIR/share (PREFIX is /usr/local if'
 	@echo '                          left out; bindir, libdir, includedir, datadir and mandir put files elsewhere; DESTDIR goes before all)'
-	@echo 'make uninstall PREFIX=DIR removes what make install, make c-install and make fetch-install copied, with the same variables'
+	@echo 'make uninstall PREFIX=DIR removes what make install, make c-install, make fetch-install and make nbd-install copied, with the'
+	@echo '                          same variables'
 	@echo 'make dist                 makes a release of a commit, as the folder out/dist and as an archive: programs and the C library'
 	@echo '                          for both processor levels, a wheel, manual pages, completions, checksums (needs cc and binutils)'
 	@echo 'make deb                  makes Debian packages in out/deb, of both processor levels: berylwool, libberylwool0, libberylwool-dev,'
-	@echo '                          python3-berylwool (needs dpkg-dev, cc and binutils; for bw-fetch also libcurl with its headers)'
+	@echo '                          python3-berylwool, nbdkit-plugin-berylwool (needs dpkg-dev, cc and binutils; for bw-fetch also libcurl'
+	@echo '                          with its headers, and for the plugin nbdkit with its headers too)'
 	@echo 'make deb-test             installs them in an empty root, uses them there, and removes them'
 	@echo 'make quick                checks within minutes what needs no proof, and runs scenarios and examples with an unproved program'
 	@echo 'make test                 the gate: a look at laws, wrong bodies and links, make doc, what make scenarios does, rt ci (every'
 	@echo '                          proof from nothing, the must-fail edits, the tests and the programs), and beside it what make'
-	@echo '                          docs, make refuse, make replaced, make memory, make c-test, make python-test, make fetch-test and make deb-test do'
+	@echo '                          docs, make refuse, make replaced, make memory, make c-test, make python-test, make fetch-test, make nbd-test and'
+	@echo '                          make deb-test do'
 	@echo 'make wrong-bodies         tries the wrong bodies, those that the gate leaves out too, of all crates or of CRATES="NAME .."'
 	@echo 'make docs                 runs the shell examples of the documents, and looks at their links'
 	@echo 'make statement CALL="b3tree::hash" prints a contract, of a call, a type or a crate, with every definition'
@@ -69,6 +72,11 @@ help:
 	@echo '                          DRAWN=N for another number of fetches from drawn mirrors than 4000'
 	@echo 'make fetch-bench          measures bw-fetch beside curl, b3sum and aria2c, on loopback and over links of 10 and 100 Mbit/s'
 	@echo '                          (needs nginx)'
+	@echo 'make nbd                  builds the nbdkit plugin berylwool, which reads a blob while it is fetched, as'
+	@echo '                          out/nbdkit-berylwool-plugin.so, as make fetch builds bw-fetch (needs also nbdkit with its headers)'
+	@echo 'make nbd-install          copies it to the folder of nbdkit'"'"'s plugins, or to nbdkitdir=DIR, and its manual page to DIR/share/man'
+	@echo 'make nbd-test             reads through nbdkit from hostile mirrors on loopback, with nbdcopy and qemu-img where they are installed'
+	@echo 'make nbd-bench            measures the plugin beside that for curl (needs nginx, nbdcopy and that plugin)'
 	@echo 'make bench                measures times and prints them with their ratios, beside b3sum where it is installed and'
 	@echo '                          beside what is wanted; with RECORD=1 it adds them to bench/history.tsv'
 	@echo 'make refuse               runs the tests of the libraries and each task where holders lie, and with one allocation, read,'
@@ -107,7 +115,7 @@ install: out/bao_gather doc
 
 # The manual pages of make doc say which pages were installed.
 uninstall: doc
-	@python3 scripts/dist.py uninstall $(INSTALLED) $(MADE) program fetch library
+	@python3 scripts/dist.py uninstall $(INSTALLED) $(MADE) program fetch library $(if $(nbdkitdir),'nbdkitdir=$(nbdkitdir)' nbd)
 
 # The processor levels of a release and of packages, the first of which every processor has that they are for. x86-64-v3 wants a machine that has it.
 LEVELS ?= x86-64 x86-64-v3
@@ -122,6 +130,10 @@ FIRST = out/levels/$(firstword $(LEVELS))
 with_fetch = fetch=; if $(HAS_CURL); then fetch=fetch; $(MAKE) --no-print-directory out/bw-fetch BERYLWOOL=$(FIRST)/$1; \
     else echo 'left out: bw-fetch, since libcurl with its headers is not installed here'; fi
 
+# $(call with_nbd,LIBRARY) does the same with the plugin, and sets nbd.
+with_nbd = nbd=; if $(HAS_CURL) && $(HAS_NBDKIT); then nbd=nbd; $(MAKE) --no-print-directory out/nbdkit-berylwool-plugin.so BERYLWOOL=$(FIRST)/$1; \
+    else echo 'left out: the nbdkit plugin, since nbdkit with its headers is not installed here'; fi
+
 dist: doc
 	$(call levels,bao_gather)
 	$(call levels,libberylwool.so)
@@ -130,13 +142,13 @@ dist: doc
 
 HAS_DPKG = command -v dpkg-shlibdeps > /dev/null
 
-# Debian's flags for what is C. bw-fetch is linked to the library of its package.
+# Debian's flags for what is C. bw-fetch and the plugin are linked to the library of its package.
 deb: doc
 	@$(HAS_DPKG) || { echo 'make deb needs dpkg-dev.' >&2; exit 1; }
 	$(call levels,bao_gather)
 	@eval "$$(dpkg-buildflags --export=sh)"; export LDFLAGS="$$LDFLAGS -Wl,-z,now"; \
 	    for file in $(LEVELS:%=out/levels/%/libberylwool.so) out/launcher; do $(MAKE) --no-print-directory "$$file"; done; \
-	    $(call with_fetch,libberylwool.so); python3 scripts/dist.py deb $(MADE) program library python $$fetch
+	    $(call with_fetch,libberylwool.so); $(call with_nbd,libberylwool.so); python3 scripts/dist.py deb $(MADE) program library python $$fetch $$nbd
 
 deb-test: deb
 	@packaging/test out/deb/*.deb
@@ -188,8 +200,9 @@ c-trials:
 	@python3 scripts/proved_by_ci.py berylwool
 	@nice -n 5 $(MAKE) --no-print-directory c-library
 	@if $(HAS_CURL); then fetch=fetch-test; else fetch=; echo 'left out: make fetch-test, since libcurl with its headers is not installed here'; fi; \
+	    if $(HAS_CURL) && $(HAS_NBDKIT); then nbd=nbd-test; else nbd=; echo 'left out: make nbd-test, since nbdkit with its headers is not installed here'; fi; \
 	    if $(HAS_CTYPES); then python=python-test; else python=; echo 'left out: make python-test, since python3 has no ctypes here'; fi; \
-	    $(MAKE) --no-print-directory -j 2 --output-sync=recurse c-test $$python $$fetch
+	    $(MAKE) --no-print-directory -j 2 --output-sync=recurse c-test $$python $$fetch $$nbd
 
 wrong-bodies:
 	@python3 scripts/wrong_bodies.py $(if $(JOBS),--jobs $(JOBS)) $(CRATES)
@@ -357,3 +370,31 @@ fetch-test:
 fetch-bench: fetch
 	@python3 fetch/tests/links.py out/bw-fetch
 	@python3 fetch/tests/measure.py out/bw-fetch
+
+# The plugin for nbdkit shares sources with bw-fetch, and isn't proved either. nbdkit loads it by name: it shows nothing but its entry, and stays loaded
+# where a name server hangs at the end.
+HAS_NBDKIT := pkg-config --atleast-version=1.30 nbdkit 2>/dev/null && command -v nbdkit > /dev/null
+NEEDS_NBDKIT = @$(HAS_NBDKIT) || { echo 'The plugin needs pkg-config and nbdkit 1.30 or later with its headers (of Debian: nbdkit nbdkit-plugin-dev).' >&2; exit 1; }
+NBD_FLAGS := -shared -fPIC -fvisibility=hidden -Wl,--exclude-libs,ALL -Wl,-z,nodelete
+NBD_SOURCES := $(wildcard nbd/*.c) $(patsubst %,fetch/%.c,answer file http pool tree url words)
+NBD_NEEDS = $(FETCH_NEEDS) nbdkit
+nbdkitdir ?= $(shell pkg-config --variable=plugindir nbdkit)
+
+out/nbdkit-berylwool-plugin.so: $(NBD_SOURCES) nbd/nbd.h $(wildcard fetch/*.h) c/berylwool.h out/flags out/fetch-flags $(filter-out installed,$(BERYLWOOL))
+	@cc $(FETCH_FLAGS) $(NBD_FLAGS) $(if $(IS_INSTALLED),,-Ic) $(CPPFLAGS) $(CFLAGS) $$(pkg-config --cflags $(NBD_NEEDS)) $(filter %.c %.a %.so,$^) \
+	    $(LDFLAGS) $$(pkg-config --libs $(NBD_NEEDS)) -o $@
+
+nbd:
+	$(NEEDS_CURL)
+	$(NEEDS_NBDKIT)
+	@$(MAKE) --no-print-directory out/nbdkit-berylwool-plugin.so
+
+nbd-install: nbd doc
+	@python3 scripts/dist.py install $(INSTALLED) 'nbdkitdir=$(nbdkitdir)' nbd
+
+nbd-test: nbd
+	@$(MAKE) --no-print-directory out/libberylwool.a
+	@python3 scripts/tests nbd/tests
+
+nbd-bench: nbd
+	@python3 nbd/tests/measure.py

@@ -167,7 +167,7 @@ def deb(parts, levels):
     log = f"berylwool ({numbered}) UNRELEASED; urgency=medium\n\n  * Built from the sources of this version.\n\n -- {owner}  {date}\n"
     write(f"{DEB}/debian/changelog", log)
     libdir = f"/usr/lib/{said('dpkg-architecture', '-qDEB_HOST_MULTIARCH')}"
-    dirs = dirs_of("/usr", libdir=libdir, zshdir="/usr/share/zsh/vendor-completions")
+    dirs = dirs_of("/usr", libdir=libdir, nbdkitdir=f"{libdir}/nbdkit/plugins", zshdir="/usr/share/zsh/vendor-completions")
     lay("deb", parts, levels, dirs, lambda package: f"{DEB}/debian/{package}")
     # (in this order, since the programs depend on the library)
     for package in re.findall(r"^Package: (.+)$", text_of(f"{DEB}/debian/control"), re.M):

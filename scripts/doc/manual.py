@@ -3,6 +3,7 @@
 Commands and options are those of the help texts in scripts/clap.txt, to which the tests hold the program. Statuses are those of the types of faults.
 FILES, LIMITS and EXAMPLES are the sections of docs/MANUAL.md that SECTIONS names, and DESCRIPTION is what stands before all of them.
 """
+import os
 import re
 import subprocess
 
@@ -20,6 +21,12 @@ SECTIONS = {"FILES": "Output files", "LIMITS": "Limits", "EXAMPLES": "Examples"}
 # What a completion says of an option by the name of its value: none, or a file; any other is a word.
 FILES = ("FILE", "LIST")
 MEANT = {"0": "Done.", "1": "What was given doesn't verify, or is unfinished.", "2": "Usage.", "3": "A file can't be read or written.", "4": "Out of memory."}
+
+# The pages that are written by hand, and the sections that each has to have.
+BY_HAND = {
+    "fetch/bw-fetch.1": ["NAME", "SYNOPSIS", "DESCRIPTION", "OPTIONS", "EXIT STATUS", "FILES", "EXAMPLES", "LIMITS"],
+    "nbd/nbdkit-berylwool-plugin.1": ["NAME", "SYNOPSIS", "DESCRIPTION", "EXAMPLES", "PARAMETERS", "SEE ALSO"],
+}
 
 
 def version():
@@ -179,15 +186,14 @@ def files(statuses):
         f"bash-completion/completions/{NAME}": bash(known),
         f"zsh/site-functions/_{NAME}": zsh(known),
         f"fish/vendor_completions.d/{NAME}.fish": fish(known),
-        "man/man1/bw-fetch.1": fetch(),
+        **{f"man/man1/{os.path.basename(it)}": by_hand(it) for it in BY_HAND},
     }
 
 
-def fetch():
-    """Returns the page of bw-fetch, which is written by hand, with its date."""
-    text = text_of("fetch/bw-fetch.1")
-    wanted = ["NAME", "SYNOPSIS", "DESCRIPTION", "OPTIONS", "EXIT STATUS", "FILES", "EXAMPLES", "LIMITS"]
-    missing = [it for it in wanted if f"\n.SH {it}\n" not in text]
-    if missing or not re.match(r'\.TH BW\\?-FETCH 1 "[^"]*"', text):
-        stop(f"fetch/bw-fetch.1 lacks {', '.join(missing) or 'its first line'}")
+def by_hand(file):
+    """Returns such a page, with its date."""
+    text, name = text_of(file), os.path.basename(file).removesuffix(".1").upper()
+    missing = [it for it in BY_HAND[file] if f"\n.SH {it}\n" not in text]
+    if missing or not re.match(rf'\.TH {name} 1 "[^"]*"', text.replace("\\-", "-")):
+        stop(f"{file} lacks {', '.join(missing) or 'its first line'}")
     return re.sub(r'^(\.TH \S+ 1) "[^"]*"', rf'\1 "{date()}"', text)

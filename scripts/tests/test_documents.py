@@ -16,7 +16,7 @@ INDENT, END = "    ", "the example ends"
 CODE = re.compile(r"(`+).+?\1")
 LINK = re.compile(r"!?\[([^\]]*)\]\([^)]*\)")
 # A file of the repository that is called by its name alone.
-NAMED = re.compile(r"`((?:scripts|crates|c|fetch|bench|python|packaging)/[\w/.-]+\.[a-z]\w*)`")
+NAMED = re.compile(r"`((?:scripts|crates|c|fetch|nbd|bench|python|packaging)/[\w/.-]+\.[a-z]\w*)`")
 DOCUMENTS = sorted(os.path.relpath(it, ROOT) for it in glob.glob(f"{ROOT}/*.md") + glob.glob(f"{ROOT}/docs/*.md"))
 
 
