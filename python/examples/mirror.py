@@ -3,7 +3,7 @@
     python3 mirror.py ROOT COPY ..
 
 ROOT is the blob's hash in hexadecimal digits, and each COPY a file with its combined encoding. A thread for each copy
-begins with that one. `mirror.c` does the same in C.
+begins with that one. `windows.c` does so in C, part by part.
 """
 import mmap
 import sys

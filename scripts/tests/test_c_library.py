@@ -26,7 +26,7 @@ BUILDS = {
     "tsan": ["cc", "-fsanitize=thread"],
 }
 
-# A program in Python that stands beside mirror.c, and where its module lies.
+# The example in Python, and where its module lies.
 MIRROR = [sys.executable, "python/examples/mirror.py"]
 MODULE = {"PYTHONPATH": f"{ROOT}/python", "PYTHONDONTWRITEBYTECODE": "1", "BERYLWOOL_LIBRARY": LIBRARY}
 
