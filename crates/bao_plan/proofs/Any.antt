@@ -1,11 +1,10 @@
 -- Whether some number below n passes a test.
-use Rattle.std.proofs.Common.{◌≡◌, ℕ, zero, suc, ◌+◌, ◌<◌, Bool, true, false, ◌&&◌, ◌||◌, ◌==◌, cond, List, length, slice_index, slice_set, refl, sym, ap, ◌∙◌, arith, add-one, inl, inr, get_or-set_same, get_or-set_other, not, w64, ◌%◌, ◌/◌, ◌^◌, ◌≤◌, ◌*◌}
-use Rattle.std.specs.Int.Bits.{bit_and, bit_or}
-use Rattle.std.specs.Int.{bit_not}
-use Rattle.std.proofs.lemmas.List.{get_or_past}
-use Rattle.std.proofs.lemmas.Bool.{or_cases, or_left, or_right, or_from, cases_eq, cases_Bool, eq-eqb, ne_eqb}
-use Rattle.bao_plan.specs.Sets.{any_below, contains, has_bit, is_some_bit}
-use Rattle.bao_plan.proofs.Bits.{has_bit-and, has_bit-not, has_bit-or, has_bit-zero}
+use Rattle.std.proofs.Common.{◌≡◌, ℕ, zero, suc, ◌+◌, ◌<◌, Bool, true, false, ◌||◌, refl, sym, ap, ◌∙◌, arith, add-one, inl, inr, ◌%◌, ◌/◌, ◌≤◌, ◌*◌}
+use Rattle.std.specs.Int.Bits.{bit_or}
+use Rattle.std.proofs.lemmas.Bool.{or_cases, or_left, or_right, or_from, cases_eq, cases_Bool}
+use Rattle.bao_plan.specs.declared.runs.Run.{Run}
+use Rattle.bao_plan.specs.Sets.{IsRunOf, any_below, has_bit, is_some_bit}
+use Rattle.bao_plan.proofs.Bits.{has_bit-or, has_bit-zero}
 
 pub any_none : (p : ℕ → Bool) → any_below 0 p ≡ false
 unfolding any_below
@@ -55,40 +54,9 @@ mask_none p j = has_bit-zero j ∙ sym (any_none p)
 pub mask_more : (m w j i : ℕ) (p : ℕ → Bool) → has_bit m j ≡ any_below i p → has_bit w j ≡ p i → has_bit (bit_or m w) j ≡ any_below (i + 1) p
 mask_more m w j i p before here = has_bit-or m w j ∙ (ap (λ b. b || has_bit w j) before ∙ (ap (λ b. any_below i p || b) here ∙ sym (any_more i p)))
 
-or-false : (b : Bool) → (b || false) ≡ b
-or-false true = refl
-or-false false = refl
-
--- times of groups, after one of them is set
-pub touched_none : (p : ℕ → Bool) (now x : ℕ) → x ≡ cond (any_below 0 p) now x
-touched_none p now x = sym (ap (λ b. cond b now x) (any_none p))
-
-pub touched_more : (ts : List ℕ) (at now g i x : ℕ) (p : ℕ → Bool) → at < length ts → p i ≡ (at == g) → slice_index ts g ≡ cond (any_below i p) now x → slice_index (slice_set ts at now) g ≡ cond (any_below (i + 1) p) now x
-touched_more ts at now g i x p within here before =
-    elim (cases_eq at g) [
-      | inl e ↦ ap (λ n. slice_index (slice_set ts at now) n) (sym e) ∙ (get_or-set_same ts at now 0 within ∙ sym (ap (λ b. cond b now x) (any_more i p ∙ or_right (any_below i p) (p i) (here ∙ eq-eqb at g e))))
-      | inr ne ↦ get_or-set_other ts at g now 0 (λ e. ne (sym e)) ∙ (before ∙ sym (ap (λ b. cond b now x) (any_more i p ∙ (ap (λ b. any_below i p || b) (here ∙ ne_eqb at g ne) ∙ or-false (any_below i p)))))
-    ]
-
--- no chunk of a group whose mask is empty, nor one past the words, passes the test
-pub no_bit : (mask g : ℕ) (test : ℕ → Bool) → ((c : ℕ) → c / 64 ≡ g → has_bit mask (c % 64) ≡ test c) → is_some_bit mask ≡ false → (c : ℕ) → c / 64 ≡ g → test c ≡ false
-no_bit mask g test bits none c here = sym (bits c here) ∙ any_not 64 (c % 64) (has_bit mask) none (omega arith)
-
-pub contains_past : (ws : List ℕ) (c : ℕ) → length ws ≤ c / 64 → contains ws c ≡ false
-contains_past ws c past = ap (λ w. has_bit w (c % 64)) (get_or_past ws (c / 64) 0 past) ∙ has_bit-zero (c % 64)
-
--- a mask with two others taken out, each of them where it is on
-pub taken_out : (w t l j : ℕ) → t < 2 ^ 64 → l < 2 ^ 64 → j < 64 → has_bit (bit_and (bit_and w (bit_not w64 t)) (bit_not w64 l)) j ≡ (has_bit w j && not (has_bit t j) && not (has_bit l j))
-taken_out w t l j a b below =
-    has_bit-and (bit_and w (bit_not w64 t)) (bit_not w64 l) j
-    ∙ (ap (λ x. x && has_bit (bit_not w64 l) j) (has_bit-and w (bit_not w64 t) j ∙ ap (λ x. has_bit w j && x) (has_bit-not t j a below))
-    ∙ ap (λ x. has_bit w j && not (has_bit t j) && x) (has_bit-not l j b below))
-
-pub not_both : (a b : Bool) → not (not a && b) ≡ (not b || a)
-not_both true true = refl
-not_both true false = refl
-not_both false true = refl
-not_both false false = refl
+-- no chunk passes the test, of the groups of a run whose mask is empty
+pub no_bit : (group : ℕ) (x : Run) (test : ℕ → Bool) → IsRunOf group x test → is_some_bit x.mask ≡ false → (c : ℕ) → group ≤ c / 64 → c / 64 < x.end → test c ≡ false
+no_bit group x test is none c from to = sym (is.bits c from to) ∙ any_not 64 (c % 64) (has_bit x.mask) none (omega arith)
 
 -- and a mask that isn't empty has a chunk that passes it
 pub some_bit : (mask g : ℕ) (test : ℕ → Bool) → ((c : ℕ) → c / 64 ≡ g → has_bit mask (c % 64) ≡ test c) → is_some_bit mask ≡ true → (c : ℕ) × (c / 64 ≡ g) × (test c ≡ true)

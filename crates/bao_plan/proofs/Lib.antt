@@ -1,5 +1,6 @@
 pub mod Bits
-pub mod SetLemmas
+pub mod RunLemmas
+pub mod Results
 pub mod Any
 pub mod PlanLemmas
 pub mod Histories

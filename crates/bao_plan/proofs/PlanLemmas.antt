@@ -1,18 +1,16 @@
 -- States of plans that are the same part by part, and a list of holders of which one is changed.
-use Rattle.std.proofs.Common.{◌≡◌, ℕ, zero, suc, ◌+◌, ◌/◌, ◌%◌, ◌<◌, ◌==◌, List, [], ◌∷◌, ◌++◌, length, slice_set, slice_get, slice_index_or, slice_index, replicate, None, Some, refl, sym, ap, ◌∙◌, arith, subst, ◌*◌, ◌-◌, ◌≤◌, cond, nat_lt, Bool, true, false, inl, inr}
+use Rattle.std.proofs.Common.{◌≡◌, ℕ, zero, suc, ◌+◌, ◌/◌, ◌<◌, ◌==◌, List, [], ◌∷◌, ◌++◌, length, slice_set, slice_get, slice_index_or, slice_index, None, Some, refl, sym, ap, ◌∙◌, arith, subst, ◌-◌, ◌≤◌, cond, nat_lt, Bool, true, false, inl, inr, get_or-set_same, get_or-set_other}
 use Rattle.std.proofs.lemmas.Bool.Decides.{nat_tests}
 use Rattle.std.proofs.lemmas.Option.{slice_get_cases, slice_get_past, slice_get_read}
 use Rattle.std.proofs.lemmas.Bool.{and_parts, cases_eq, cases_lt, eq-eqb, ne_eqb}
 use Rattle.std.specs.List.{All}
-use Rattle.bao_plan.proofs.Any.{contains_past}
 use Rattle.bao_plan.specs.declared.holder.Holder.{Holder}
 use Rattle.bao_plan.specs.declared.policy.Next.{Next}
 use Rattle.bao_plan.specs.declared.policy.Next.TheVariants.{Fetch, WaitUntil, Nothing}
 use Rattle.bao_plan.specs.Events.{Did, IfFetch, IsWhole, after_asking, put}
 use Rattle.bao_plan.specs.Events.Event.{Asked}
-use Rattle.bao_plan.specs.Sets.{contains, has_bit, in_range}
-use Rattle.bao_plan.proofs.Bits.{has_bit-zero}
-use Rattle.bao_plan.specs.Holders.{IsRoomy, seen, seen_at, seen_or}
+use Rattle.bao_plan.specs.Sets.{contains, in_range}
+use Rattle.bao_plan.specs.Holders.{IsAskedBelow, seen, seen_at, seen_or}
 use Rattle.bao_plan.specs.States.{HolderState, State, is_left_out, is_ready, is_wanted, unknown}
 
 pub state_is : (s t : State) → s.policy ≡ t.policy → s.chunks ≡ t.chunks → s.end ≡ t.end → ((c : ℕ) → s.is_open c ≡ t.is_open c) → ((g : ℕ) → s.since g ≡ t.since g) → s.count ≡ t.count → ((k : ℕ) → s.holder k ≡ t.holder k) → s ≡ t
@@ -53,6 +51,20 @@ read_at hs h x within is = ap seen_or (slice_get_read hs (length hs) h x refl wi
 pub changed : (hs : List Holder) (h : ℕ) (x y : Holder) (f : HolderState → HolderState) → h < length hs → x ≡ slice_index_or hs h x → seen y ≡ f (seen x) → (k : ℕ) → seen_at (slice_set hs h y) k ≡ put (seen_at hs) h (f (seen_at hs h)) k
 changed hs h x y f within is by = seen_put hs h y (f (seen_at hs h)) within (by ∙ ap f (sym (read_at hs h x within is)))
 
+-- or seems as it was
+pub unchanged : (hs : List Holder) (h : ℕ) (x y : Holder) → h < length hs → x ≡ slice_index_or hs h x → seen y ≡ seen x → (k : ℕ) → seen_at (slice_set hs h y) k ≡ seen_at hs k
+unchanged hs h x y within is same k = seen_put hs h y (seen_at hs h) within (same ∙ sym (read_at hs h x within is)) k ∙ (elim (cases_eq k h) [
+  | inl e ↦ ap (λ b. cond b (seen_at hs h) (seen_at hs k)) (eq-eqb k h e) ∙ sym (ap (seen_at hs) e)
+  | inr ne ↦ ap (λ b. cond b (seen_at hs h) (seen_at hs k)) (ne_eqb k h ne)
+])
+
+-- a time is set
+pub timed : (ts : List ℕ) (u now v : ℕ) → u < length ts → slice_index (slice_set ts u now) v ≡ cond (v == u) now (slice_index ts v)
+timed ts u now v within = elim (cases_eq v u) [
+  | inl e ↦ ap (slice_index (slice_set ts u now)) e ∙ (get_or-set_same ts u now 0 within ∙ sym (ap (λ b. cond b now (slice_index ts v)) (eq-eqb v u e)))
+  | inr ne ↦ get_or-set_other ts u v now 0 ne ∙ sym (ap (λ b. cond b now (slice_index ts v)) (ne_eqb v u ne))
+]
+
 same_suc : (m n : ℕ) → (m == n) ≡ (suc m == suc n)
 same_suc m n = grind (arith, nat_tests)
 
@@ -69,15 +81,6 @@ added hs x is k = ap seen_or (get_append hs x k) ∙ (elim (cases_eq k (length h
   | inr other ↦ ap (λ b. seen_or (cond b (Some x) (slice_get hs k))) (ne_eqb k (length hs) other)
 ])
 
--- sets of no chunks
-pub zeros_at : (n i : ℕ) → slice_index (replicate n 0) i ≡ 0
-zeros_at zero i = refl
-zeros_at (suc n) zero = refl
-zeros_at (suc n) (suc i) = zeros_at n i
-
-pub none_in : (n k : ℕ) (ws : List ℕ) → ws ≡ replicate n 0 → contains ws k ≡ false
-none_in n k ws is = ap (λ xs. contains xs k) is ∙ (ap (λ w. has_bit w (k % 64)) (zeros_at n (k / 64)) ∙ has_bit-zero (k % 64))
-
 pub in_whole : (n c : ℕ) → in_range 0 n c ≡ nat_lt c n
 in_whole n c = grind (arith, nat_tests)
 
@@ -88,21 +91,17 @@ wanted_is_open s h c is = (and_parts _ _ (and_parts _ _ (and_parts _ _ is).0).0)
 pub ready_is_wanted : (s : State) (h now : ℕ) (o : Bool) (c : ℕ) → is_ready s h now o c ≡ true → is_wanted s h c ≡ true
 ready_is_wanted s h now o c is = (and_parts _ _ (and_parts _ _ is).0).0
 
--- a chunk of a set lies in its words
-pub contains_within : (ws : List ℕ) (c : ℕ) → contains ws c ≡ true → c / 64 < length ws
-contains_within ws c is = elim (cases_lt (c / 64) (length ws)) [
-  | inl within ↦ within
-  | inr past ↦ absurd (let h : true ≡ false = sym is ∙ contains_past ws c past in cc)
-]
+pub ready_is_open : (s : State) (h now : ℕ) (o : Bool) (c : ℕ) → is_ready s h now o c ≡ true → s.is_open c ≡ true
+ready_is_open s h now o c is = wanted_is_open s h c (ready_is_wanted s h now o c is)
 
 pub last_in : (first count : ℕ) → 0 < count → in_range first count (first + count - 1) ≡ true
 last_in first count some = grind (arith, nat_tests)
 
-pub range_within : (ws : List ℕ) (first count : ℕ) → 0 < count → ((c : ℕ) → in_range first count c ≡ true → contains ws c ≡ true) → first + count ≤ 64 * length ws
-range_within ws first count some all = omega (arith, contains_within ws (first + count - 1) (all (first + count - 1) (last_in first count some)))
+pub range_below : (first count end : ℕ) (p : ℕ → Bool) → 0 < count → ((c : ℕ) → p c ≡ true → c < end) → ((c : ℕ) → in_range first count c ≡ true → p c ≡ true) → first + count ≤ end
+range_below first count end p some below all = omega (arith, below (first + count - 1) (all (first + count - 1) (last_in first count some)))
 
-pub roomy_at : (groups : ℕ) (hs : List Holder) (h : ℕ) (x : Holder) → h < length hs → x ≡ slice_index_or hs h x → All (IsRoomy groups) hs → IsRoomy groups x
-roomy_at groups hs h x within is all = subst (IsRoomy groups) (sym is) (all h x within)
+pub below_at : (end : ℕ) (hs : List Holder) (h : ℕ) (x : Holder) → h < length hs → x ≡ slice_index_or hs h x → All (IsAskedBelow end) hs → IsAskedBelow end x
+below_at end hs h x within is all = subst (IsAskedBelow end) (sym is) (all h x within)
 
 -- one more chunk of a range
 pub range_more : (first n c : ℕ) (p : ℕ → Bool) → ((c : ℕ) → in_range first n c ≡ true → p c ≡ true) → p (first + n) ≡ true → in_range first (n + 1) c ≡ true → p c ≡ true
@@ -111,20 +110,20 @@ range_more first n c p before here is = elim (cases_lt c (first + n)) [
   | inr above ↦ (let e : c ≡ first + n = grind (arith, nat_tests) in ap p e ∙ here)
 ]
 
--- a request under way lies within the groups
-pub asked_within : (groups : ℕ) (hs : List Holder) (h first count : ℕ) → h < length hs → All (IsRoomy groups) hs → 0 < count → ((c : ℕ) → in_range first count c ≡ true → (seen_at hs h).asked c ≡ true) → first + count ≤ 64 * groups
-asked_within groups hs h first count within all some asked = elim ((slice_get_cases hs h).1) [
-  | inl there ↦ (let room = subst (IsRoomy groups) there.3 (all h there.0 within) in
+-- a request under way lies within the blob
+pub asked_within : (end : ℕ) (hs : List Holder) (h first count : ℕ) → h < length hs → All (IsAskedBelow end) hs → 0 < count → ((c : ℕ) → in_range first count c ≡ true → (seen_at hs h).asked c ≡ true) → first + count ≤ end
+asked_within end hs h first count within all some asked = elim ((slice_get_cases hs h).1) [
+  | inl there ↦ (let room = subst (IsAskedBelow end) there.3 (all h there.0 within) in
       let is = seen_at_read hs h there.0 there.2 in
-      omega (arith, range_within there.0.asked.items first count some (λ c here. sym (ap (λ (y : HolderState). y.asked c) is) ∙ asked c here), room.asked))
+      range_below first count end (λ c. contains there.0.asked.runs.items c) some room.below (λ c here. sym (ap (λ (y : HolderState). y.asked c) is) ∙ asked c here))
   | inr past ↦ absurd (omega arith)
 ]
 
 -- a request that is right
 pub did_fetch : (s t : State) (h now : ℕ) (o : Bool) (answer : Next) → h < s.count → is_left_out s.policy (s.holder h) ≡ false → (s.holder h).later ≤ now → (o ≡ true → (c : ℕ) → is_ready s h now false c ≡ false)
-    → IfFetch answer (λ first count. (0 < count) × (count ≤ 1024) × IsWhole s h now o first count × ((c : ℕ) → in_range first count c ≡ true → is_ready s h now o c ≡ true) × (t ≡ after_asking s h now answer))
+    → IfFetch answer (λ first count. (0 < count) × (count ≤ 1024) × ((first + count - 1) / 1024 ≡ first / 1024) × IsWhole s h now o first count × ((c : ℕ) → in_range first count c ≡ true → is_ready s h now o c ≡ true) × (t ≡ after_asking s h now answer))
     → Did s t (Asked h now answer)
 did_fetch s t h now o (Fetch first count) within is_in later only is =
-    record { right = (within, record { some = is.0; most = is.1; is_in = is_in; later = later; overtakes = o; whole = is.2; ready = is.3; only_then = only }); after = is.4 }
+    record { right = (within, record { some = is.0; most = is.1; within = is.2; is_in = is_in; later = later; overtakes = o; whole = is.3; ready = is.4; only_then = only }); after = is.5 }
 did_fetch s t h now o (WaitUntil until) within is_in later only is = absurd is
 did_fetch s t h now o Nothing within is_in later only is = absurd is

@@ -1,5 +1,5 @@
 -- The events of a plan: for each call which answer is right, and what is known after it.
-use Rattle.std.specs.Prelude.{◌≡◌, ◌⊎◌, ℕ, zero, suc, ◌+◌, ◌*◌, ◌/◌, ◌%◌, ◌<◌, ◌≤◌, ◌^◌, min, max, ◌==◌, Bool, true, false, not, ◌&&◌, ◌||◌, if◌then◌else◌}
+use Rattle.std.specs.Prelude.{◌≡◌, ◌⊎◌, ℕ, zero, suc, ◌+◌, ◌-◌, ◌*◌, ◌/◌, ◌%◌, ◌<◌, ◌≤◌, ◌^◌, min, max, ◌==◌, Bool, true, false, not, ◌&&◌, ◌||◌, if◌then◌else◌}
 use Rattle.bao_plan.specs.declared.policy.Policy.{Policy}
 use Rattle.bao_plan.specs.declared.policy.Next.{Next}
 use Rattle.bao_plan.specs.declared.policy.Next.TheVariants.{Fetch, WaitUntil, Nothing}
@@ -84,7 +84,7 @@ after_request policy x first count outcome now failed = record x {
 -- the state when a holder is asked
 abbrev pub after_asking : State → ℕ → ℕ → Next → State
 after_asking s h now (Fetch first count) = record s {
-  since = λ g. if any_below count (λ i. (first + i) / 64 == g) then now else s.since g;
+  since = λ u. if u == first / 1024 then now else s.since u;
   holder = put s.holder h (record (s.holder h) { asked = λ c. (s.holder h).asked c || in_range first count c });
 }
 after_asking s h now (WaitUntil t) = s
@@ -116,11 +116,12 @@ pub record IsMaskOf (group mask : ℕ) (test : ℕ → Bool) : Type 0 where
 abbrev pub IsWhole : State → ℕ → ℕ → Bool → ℕ → ℕ → Type 0
 IsWhole s h now overtakes first count = (count ≡ 1024) ⊎ ((first + count) % 1024 ≡ 0) ⊎ (is_ready s h now overtakes (first + count) ≡ false)
 
--- Who is asked isn't left out, nor to be left alone, and each chunk is ready. It overtakes another holder only where nothing
--- else is ready for it.
+-- Who is asked isn't left out, nor to be left alone, and each chunk is ready. All are of one unit of 1,024. It overtakes another
+-- holder only where nothing else is ready for it.
 pub record IsRightFetch (s : State) (h now first count : ℕ) : Type 0 where
   pub some : 0 < count
   pub most : count ≤ 1024
+  pub within : (first + count - 1) / 1024 ≡ first / 1024
   pub is_in : is_left_out s.policy (s.holder h) ≡ false
   pub later : (s.holder h).later ≤ now
   pub overtakes : Bool

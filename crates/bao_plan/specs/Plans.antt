@@ -10,8 +10,8 @@ state_of p = record {
   policy = p.policy;
   chunks = p.chunks;
   end = p.end;
-  is_open = λ c. contains p.missing.items c;
-  since = λ g. slice_index p.since.items g;
+  is_open = λ c. contains p.missing.runs.items c;
+  since = λ u. slice_index p.since.items u;
   count = length p.holders.items;
   holder = λ h. seen_at p.holders.items h;
 }

@@ -26,7 +26,7 @@ pub record State : Type 0 where
   pub end : ℕ
   -- the chunks that are lacking
   pub is_open : ℕ → Bool
-  -- when a group was last asked for
+  -- when chunks of a unit of 1,024 were last asked for
   pub since : ℕ → ℕ
   -- how many holders there are
   pub count : ℕ
@@ -38,7 +38,7 @@ unknown = record { refused = λ c. false; absent = λ c. false; asked = λ c. fa
 
 -- all is lacking, and there are no holders
 abbrev pub start : Policy → ℕ → State
-start policy chunks = record { policy = policy; chunks = chunks; end = chunks; is_open = λ c. nat_lt c chunks; since = λ g. 0; count = 0; holder = λ h. unknown }
+start policy chunks = record { policy = policy; chunks = chunks; end = chunks; is_open = λ c. nat_lt c chunks; since = λ u. 0; count = 0; holder = λ h. unknown }
 
 abbrev pub is_left_out : Policy → HolderState → Bool
 is_left_out policy x = nat_le policy.faults x.in_row
@@ -59,9 +59,9 @@ is_wanted s h c = is_undecided s h c && not ((s.holder h).asked c) && nat_lt c s
 abbrev pub is_under_way : State → ℕ → Bool
 is_under_way s c = any_below s.count (λ k. (s.holder k).asked c)
 
--- whether who was asked for the chunk's group last has had his time
+-- whether who was asked last for chunks of the chunk's unit has had his time
 abbrev pub is_late : State → ℕ → ℕ → Bool
-is_late s now c = nat_le s.policy.patience (now - s.since (c / 64))
+is_late s now c = nat_le s.policy.patience (now - s.since (c / 1024))
 
 -- whether it is of a lower rank than this, and may be asked now
 abbrev pub is_better : Policy → ℕ → ℕ → HolderState → Bool

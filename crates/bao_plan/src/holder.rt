@@ -1,21 +1,20 @@
-ghost use Rattle.std.specs.Prelude.{◌≡◌, ℕ, ◌+◌, ◌*◌, ◌/◌, ◌%◌, ◌^◌, ◌<◌, ◌≤◌, ◌==◌, not, true, false, ◌&&◌, ◌||◌, length, IfOk, IsTrue, ◌↔◌};
-ghost use Rattle.bao_plan.specs.Sets.{contains, has_bit, in_mask, in_range};
+ghost use Rattle.std.specs.Prelude.{◌≡◌, ℕ, ◌+◌, ◌*◌, ◌/◌, ◌%◌, ◌^◌, ◌<◌, ◌≤◌, ◌==◌, not, true, false, ◌&&◌, ◌||◌, OnErr, OnOk, IsTrue, ◌↔◌};
+ghost use Rattle.bao_plan.specs.Sets.{IsRunOf, in_mask, in_range};
 ghost use Rattle.bao_plan.specs.States.{is_better, is_left_out, may_have, unknown};
 ghost use Rattle.bao_plan.specs.Events.{after_chunks, after_request, pause_after, pause_of};
 
 use crate::policy::{Outcome, Policy};
-use crate::sets::{
-    has_range, insert_all, insert_range, is_some_bit, no_chunks, remove_all, remove_range, word,
-};
+use crate::runs::{ChunkSet, Run};
+use crate::sets::is_some_bit;
 use std::alloc::{AllocError, Global};
 
 // What is known of a holder.
 #[derive(Drop)]
 pub(crate) struct Holder {
     // The chunks that it gave falsely, those that it said it lacks, and those of its requests under way.
-    refused: Vec<u64>,
-    absent: Vec<u64>,
-    pub(crate) asked: Vec<u64>,
+    refused: ChunkSet,
+    absent: ChunkSet,
+    asked: ChunkSet,
     // Its failures since it last gave a chunk truly.
     in_row: u32,
     // The moment before which it isn't asked.
@@ -53,20 +52,21 @@ fn pause_after(policy: Policy, outcome: Outcome, in_row: u32) -> u64
 }
 
 impl Holder {
-    ghost use Rattle.bao_plan.specs.Holders.{IsRoomy, seen};
+    ghost use Rattle.bao_plan.specs.Holders.{IsAskedBelow, seen};
 
     // A holder that may have all.
-    pub(crate) fn new(alloc: Global, groups: usize) -> Result<Holder, AllocError>
-        ensures { IfOk result (λ x. (seen x ≡ unknown) × IsRoomy groups x) }
+    pub(crate) fn new(alloc: Global) -> Holder
+        ensures seen { seen result ≡ unknown }
+        ensures below { (end : ℕ) → IsAskedBelow end result }
     {
-        Ok(Holder {
-            refused: no_chunks(alloc, groups)?,
-            absent: no_chunks(alloc, groups)?,
-            asked: no_chunks(alloc, groups)?,
+        Holder {
+            refused: ChunkSet::new(alloc),
+            absent: ChunkSet::new(alloc),
+            asked: ChunkSet::new(alloc),
             in_row: 0,
             later: 0,
             rank: 0,
-        })
+        }
     }
 
     // Whether it has failed too often.
@@ -83,17 +83,28 @@ impl Holder {
         self.rank < rank && !self.is_left_out(policy) && self.later <= now
     }
 
-    // Which chunks of a group it may have.
-    pub(crate) fn may_have(&self, group: usize) -> u64
-        ensures { (c : ℕ) → c / 64 ≡ group → has_bit result (c % 64) ≡ may_have (seen self.now) c }
+    // Which chunks it may have, from a group on.
+    pub(crate) fn may_have(&self, group: usize) -> Run
+        requires { group < 2 ^ 63 }
+        ensures { IsRunOf group result (may_have (seen self.now)) }
     {
-        !word(self.refused.as_slice(), group) & !word(self.absent.as_slice(), group)
+        let refused = self.refused.run_at(group);
+        let absent = self.absent.run_at(group);
+        refused.others().and(absent.others())
+    }
+
+    // Which chunks it is asked for, from a group on.
+    pub(crate) fn is_asked_from(&self, group: usize) -> Run
+        requires { group < 2 ^ 63 }
+        ensures { IsRunOf group result (seen self.now).asked }
+    {
+        self.asked.run_at(group)
     }
 
     // It gave chunks truly, and nobody before it.
     pub(crate) fn gave(&mut self, policy: Policy, taken: u64)
         ensures seen { seen self.new ≡ after_chunks policy taken (seen self.old) }
-        ensures roomy { (groups : ℕ) → IsRoomy groups self.old → IsRoomy groups self.new }
+        ensures below { (end : ℕ) → IsAskedBelow end self.old → IsAskedBelow end self.new }
     {
         if is_some_bit(taken) && !self.is_left_out(policy) {
             self.in_row = 0;
@@ -101,36 +112,39 @@ impl Holder {
     }
 
     // It gave chunks falsely.
-    pub(crate) fn refuse(&mut self, group: usize, mask: u64)
-        requires { IsRoomy (length self.old.refused.items) self.old × (group < length self.old.refused.items) }
-        ensures seen { seen self.new ≡ record (seen self.old) { refused = λ c. (seen self.old).refused c || in_mask group mask c } }
-        ensures roomy { (groups : ℕ) → IsRoomy groups self.old → IsRoomy groups self.new }
+    pub(crate) fn refuse(&mut self, group: usize, mask: u64) -> Result<(), AllocError>
+        requires { group < 2 ^ 63 }
+        ensures ok { OnOk result (seen self.new ≡ record (seen self.old) { refused = λ c. (seen self.old).refused c || in_mask group mask c }) }
+        ensures err { OnErr result (seen self.new ≡ seen self.old) }
+        ensures below { (end : ℕ) → IsAskedBelow end self.old → IsAskedBelow end self.new }
     {
-        insert_all(self.refused.as_mut_slice(), group, mask);
+        self.refused.insert_all(group, mask)
     }
 
     // It said that it lacks chunks.
-    pub(crate) fn lack(&mut self, group: usize, mask: u64)
-        requires { IsRoomy (length self.old.absent.items) self.old × (group < length self.old.absent.items) }
-        ensures seen { seen self.new ≡ record (seen self.old) { absent = λ c. (seen self.old).absent c || in_mask group mask c } }
-        ensures roomy { (groups : ℕ) → IsRoomy groups self.old → IsRoomy groups self.new }
+    pub(crate) fn lack(&mut self, group: usize, mask: u64) -> Result<(), AllocError>
+        requires { group < 2 ^ 63 }
+        ensures ok { OnOk result (seen self.new ≡ record (seen self.old) { absent = λ c. (seen self.old).absent c || in_mask group mask c }) }
+        ensures err { OnErr result (seen self.new ≡ seen self.old) }
+        ensures below { (end : ℕ) → IsAskedBelow end self.old → IsAskedBelow end self.new }
     {
-        insert_all(self.absent.as_mut_slice(), group, mask);
+        self.absent.insert_all(group, mask)
     }
 
     // It said that it has chunks.
-    pub(crate) fn has(&mut self, group: usize, mask: u64)
-        requires { IsRoomy (length self.old.absent.items) self.old × (group < length self.old.absent.items) }
-        ensures seen { seen self.new ≡ record (seen self.old) { absent = λ c. (seen self.old).absent c && not (in_mask group mask c) } }
-        ensures roomy { (groups : ℕ) → IsRoomy groups self.old → IsRoomy groups self.new }
+    pub(crate) fn has(&mut self, group: usize, mask: u64) -> Result<(), AllocError>
+        requires { group < 2 ^ 63 }
+        ensures ok { OnOk result (seen self.new ≡ record (seen self.old) { absent = λ c. (seen self.old).absent c && not (in_mask group mask c) }) }
+        ensures err { OnErr result (seen self.new ≡ seen self.old) }
+        ensures below { (end : ℕ) → IsAskedBelow end self.old → IsAskedBelow end self.new }
     {
-        remove_all(self.absent.as_mut_slice(), group, mask);
+        self.absent.remove_all(group, mask)
     }
 
     // Its failures are forgotten.
     pub(crate) fn forgive(&mut self)
         ensures seen { seen self.new ≡ record (seen self.old) { in_row = 0 } }
-        ensures roomy { (groups : ℕ) → IsRoomy groups self.old → IsRoomy groups self.new }
+        ensures below { (end : ℕ) → IsAskedBelow end self.old → IsAskedBelow end self.new }
     {
         self.in_row = 0;
     }
@@ -138,18 +152,22 @@ impl Holder {
     // It has this rank from now on.
     pub(crate) fn set_rank(&mut self, rank: u32)
         ensures seen { seen self.new ≡ record (seen self.old) { rank = rank } }
-        ensures roomy { (groups : ℕ) → IsRoomy groups self.old → IsRoomy groups self.new }
+        ensures below { (end : ℕ) → IsAskedBelow end self.old → IsAskedBelow end self.new }
     {
         self.rank = rank;
     }
 
     // It is asked for chunks.
-    pub(crate) fn ask_for(&mut self, first: u64, count: u64)
-        requires { (first + count ≤ 64 * length self.old.asked.items) × (first + count < 2 ^ 64) }
-        ensures seen { seen self.new ≡ record (seen self.old) { asked = λ c. (seen self.old).asked c || in_range first count c } }
-        ensures roomy { (groups : ℕ) → IsRoomy groups self.old → IsRoomy groups self.new }
+    pub(crate) fn ask_for(&mut self, first: u64, count: u64) -> Result<(), AllocError>
+        requires { first + count < 2 ^ 63 }
+        ensures ok { OnOk result (seen self.new ≡ record (seen self.old) { asked = λ c. (seen self.old).asked c || in_range first count c }) }
+        ensures err { OnErr result (seen self.new ≡ seen self.old) }
+        ensures below { (end : ℕ) → first + count ≤ end → IsAskedBelow end self.old → IsAskedBelow end self.new }
     {
-        insert_range(self.asked.as_mut_slice(), first, count);
+        let mut asked = self.asked.copy()?;
+        asked.insert_range(first, count)?;
+        self.asked = asked;
+        Ok(())
     }
 
     // Whether a request of these chunks is under way.
@@ -157,7 +175,7 @@ impl Holder {
         requires { first + count < 2 ^ 64 }
         ensures { IsTrue result ↔ ((c : ℕ) → in_range first count c ≡ true → (seen self.now).asked c ≡ true) }
     {
-        has_range(self.asked.as_slice(), first, count)
+        self.asked.has_range(first, count)
     }
 
     // Its request of these chunks has ended.
@@ -169,17 +187,21 @@ impl Holder {
         outcome: Outcome,
         now: u64,
         failed: bool,
-    )
-        requires room { (first + count ≤ 64 * length self.old.asked.items) × (first + count < 2 ^ 64) }
+    ) -> Result<(), AllocError>
+        requires fits { first + count < 2 ^ 63 }
         requires moment { now < 2 ^ 63 }
-        ensures seen { seen self.new ≡ after_request policy (seen self.old) first count outcome now failed }
-        ensures roomy { (groups : ℕ) → IsRoomy groups self.old → IsRoomy groups self.new }
+        ensures ok { OnOk result (seen self.new ≡ after_request policy (seen self.old) first count outcome now failed) }
+        ensures err { OnErr result (seen self.new ≡ seen self.old) }
+        ensures below { (end : ℕ) → IsAskedBelow end self.old → IsAskedBelow end self.new }
     {
-        remove_range(self.asked.as_mut_slice(), first, count);
+        let mut asked = self.asked.copy()?;
+        asked.remove_range(first, count)?;
+        self.asked = asked;
         if failed && !self.is_left_out(policy) {
             self.in_row += 1;
         }
         let row = if failed { self.in_row } else { 0 };
         self.later = self.later.max(now + pause_after(policy, outcome, row));
+        Ok(())
     }
 }

@@ -40,10 +40,16 @@ pub enum Outcome {
     Cut,
 }
 
-/// No such request is under way. Nothing has changed.
+/// Why the end of a request wasn't taken. Nothing has changed.
 #[derive(Clone, Copy, Debug, PartialEq, Eq, Error)]
-#[error("no such request is under way")]
-pub struct NoRequest;
+pub enum EndFault {
+    /// No such request is under way.
+    #[error("no such request is under way")]
+    NoRequest,
+    /// Out of memory.
+    #[error("out of memory")]
+    Memory,
+}
 
 impl Outcome {
     ghost use Rattle.bao_plan.specs.Events.{is_cut};

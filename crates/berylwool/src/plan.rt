@@ -10,7 +10,7 @@ ghost use Rattle.berylwool.specs.Plans.{HasPlan, PlanDid, at_group, at_holder, a
 use crate::handle::{BwHandle, put, take, with_held};
 use crate::owned::Held;
 use crate::status::{NO_GROUP, NO_HOLDER, NO_MEMORY, NO_REQUEST};
-use bao_plan::{Next, Outcome, Plan, Policy};
+use bao_plan::{EndFault, Next, Outcome, Plan, Policy};
 use bao_text::chunk_count;
 use std::alloc::Global;
 
@@ -166,15 +166,24 @@ pub extern "C" fn bw_plan_ask(
     next: &mut BwPlanNext,
 ) -> u32
     ensures did { result ≡ 0 → PlanDid (λ old new. Did old new (Asked holder (moment_of now_ms) (next_of next.new))) plan.old.held plan.new.held }
-    ensures status { result ≡ status_of (at_holder holder) plan.old.held }
-    ensures same { result ≢ 0 → (plan.new.held ≡ plan.old.held) × (next.new ≡ next.old) }
+    ensures memory { result ≡ 1203 → PlanDid (λ old new. (at_holder holder old ≡ 0) × (new ≡ old)) plan.old.held plan.new.held }
+    ensures status { result ≢ 1203 → result ≡ status_of (at_holder holder) plan.old.held }
+    ensures same { result ≢ 0 → result ≢ 1203 → plan.new.held ≡ plan.old.held }
+    ensures unchanged { result ≢ 0 → next.new ≡ next.old }
 {
     with_held!(plan, alloc, Plan, |it| {
         let status = holder_status(it, holder);
         if status == 0 {
-            *next = next_shown(it.ask(holder, moment(now_ms)));
+            match it.ask(holder, moment(now_ms)) {
+                Ok(answer) => {
+                    *next = next_shown(answer);
+                    0
+                }
+                Err(_) => NO_MEMORY,
+            }
+        } else {
+            status
         }
-        status
     })
 }
 
@@ -190,15 +199,24 @@ pub extern "C" fn bw_plan_kept(
     taken: &mut u64,
 ) -> u32
     ensures did { result ≡ 0 → PlanDid (λ old new. Did old new (Kept holder group mask taken.new)) plan.old.held plan.new.held }
-    ensures status { result ≡ status_of (at_place holder group) plan.old.held }
-    ensures same { result ≢ 0 → (plan.new.held ≡ plan.old.held) × (taken.new ≡ taken.old) }
+    ensures memory { result ≡ 1203 → PlanDid (λ old new. (at_place holder group old ≡ 0) × (new ≡ old)) plan.old.held plan.new.held }
+    ensures status { result ≢ 1203 → result ≡ status_of (at_place holder group) plan.old.held }
+    ensures same { result ≢ 0 → result ≢ 1203 → plan.new.held ≡ plan.old.held }
+    ensures unchanged { result ≢ 0 → taken.new ≡ taken.old }
 {
     with_held!(plan, alloc, Plan, |it| {
         let status = place_status(it, holder, group);
         if status == 0 {
-            *taken = it.kept(holder, group as usize, mask);
+            match it.kept(holder, group as usize, mask) {
+                Ok(counted) => {
+                    *taken = counted;
+                    0
+                }
+                Err(_) => NO_MEMORY,
+            }
+        } else {
+            status
         }
-        status
     })
 }
 
@@ -212,15 +230,20 @@ pub extern "C" fn bw_plan_refused(
     mask: u64,
 ) -> u32
     ensures did { result ≡ 0 → PlanDid (λ old new. Did old new (Refused holder group mask)) plan.old.held plan.new.held }
-    ensures status { result ≡ status_of (at_place holder group) plan.old.held }
-    ensures same { result ≢ 0 → plan.new.held ≡ plan.old.held }
+    ensures memory { result ≡ 1203 → PlanDid (λ old new. (at_place holder group old ≡ 0) × (new ≡ old)) plan.old.held plan.new.held }
+    ensures status { result ≢ 1203 → result ≡ status_of (at_place holder group) plan.old.held }
+    ensures same { result ≢ 0 → result ≢ 1203 → plan.new.held ≡ plan.old.held }
 {
     with_held!(plan, alloc, Plan, |it| {
         let status = place_status(it, holder, group);
         if status == 0 {
-            it.refused(holder, group as usize, mask);
+            match it.refused(holder, group as usize, mask) {
+                Ok(()) => 0,
+                Err(_) => NO_MEMORY,
+            }
+        } else {
+            status
         }
-        status
     })
 }
 
@@ -234,15 +257,20 @@ pub extern "C" fn bw_plan_lacks(
     mask: u64,
 ) -> u32
     ensures did { result ≡ 0 → PlanDid (λ old new. Did old new (Lacks holder group mask)) plan.old.held plan.new.held }
-    ensures status { result ≡ status_of (at_place holder group) plan.old.held }
-    ensures same { result ≢ 0 → plan.new.held ≡ plan.old.held }
+    ensures memory { result ≡ 1203 → PlanDid (λ old new. (at_place holder group old ≡ 0) × (new ≡ old)) plan.old.held plan.new.held }
+    ensures status { result ≢ 1203 → result ≡ status_of (at_place holder group) plan.old.held }
+    ensures same { result ≢ 0 → result ≢ 1203 → plan.new.held ≡ plan.old.held }
 {
     with_held!(plan, alloc, Plan, |it| {
         let status = place_status(it, holder, group);
         if status == 0 {
-            it.lacks(holder, group as usize, mask);
+            match it.lacks(holder, group as usize, mask) {
+                Ok(()) => 0,
+                Err(_) => NO_MEMORY,
+            }
+        } else {
+            status
         }
-        status
     })
 }
 
@@ -256,15 +284,20 @@ pub extern "C" fn bw_plan_has(
     mask: u64,
 ) -> u32
     ensures did { result ≡ 0 → PlanDid (λ old new. Did old new (Has holder group mask)) plan.old.held plan.new.held }
-    ensures status { result ≡ status_of (at_place holder group) plan.old.held }
-    ensures same { result ≢ 0 → plan.new.held ≡ plan.old.held }
+    ensures memory { result ≡ 1203 → PlanDid (λ old new. (at_place holder group old ≡ 0) × (new ≡ old)) plan.old.held plan.new.held }
+    ensures status { result ≢ 1203 → result ≡ status_of (at_place holder group) plan.old.held }
+    ensures same { result ≢ 0 → result ≢ 1203 → plan.new.held ≡ plan.old.held }
 {
     with_held!(plan, alloc, Plan, |it| {
         let status = place_status(it, holder, group);
         if status == 0 {
-            it.has(holder, group as usize, mask);
+            match it.has(holder, group as usize, mask) {
+                Ok(()) => 0,
+                Err(_) => NO_MEMORY,
+            }
+        } else {
+            status
         }
-        status
     })
 }
 
@@ -283,8 +316,9 @@ pub extern "C" fn bw_plan_ended(
 ) -> u32
     ensures did { result ≡ 0 → PlanDid (λ old new. Did old new (Ended holder first count (outcome_of outcome later_ms) (moment_of now_ms) (nat_eq failed.new 1))) plan.old.held plan.new.held }
     ensures no_request { result ≡ 1215 → PlanDid (λ old new. (new ≡ old) × (IsUnderWay old holder first count → ⊥)) plan.old.held plan.new.held }
-    ensures status { result ≢ 1215 → result ≡ status_of (at_holder holder) plan.old.held }
-    ensures same { result ≢ 0 → result ≢ 1215 → plan.new.held ≡ plan.old.held }
+    ensures memory { result ≡ 1203 → PlanDid (λ old new. (at_holder holder old ≡ 0) × (new ≡ old)) plan.old.held plan.new.held }
+    ensures status { result ≢ 1215 → result ≢ 1203 → result ≡ status_of (at_holder holder) plan.old.held }
+    ensures same { result ≢ 0 → result ≢ 1215 → result ≢ 1203 → plan.new.held ≡ plan.old.held }
     ensures flag { result ≡ 0 → failed.new ≤ 1 }
     ensures unchanged { result ≢ 0 → failed.new ≡ failed.old }
 {
@@ -297,7 +331,8 @@ pub extern "C" fn bw_plan_ended(
                     *failed = u32::from(has_failed);
                     0
                 }
-                Err(_) => NO_REQUEST,
+                Err(EndFault::NoRequest) => NO_REQUEST,
+                Err(EndFault::Memory) => NO_MEMORY,
             }
         } else {
             status

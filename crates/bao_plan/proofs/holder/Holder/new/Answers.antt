@@ -1,14 +1,16 @@
-use Rattle.std.proofs.Common.{refl, ap, ◌∙◌, length}
-use Rattle.std.proofs.lemmas.List.{length-replicate}
-use Rattle.bao_plan.proofs.PlanLemmas.{holder_is, none_in}
+use Rattle.std.proofs.Common.{◌≡◌, ℕ, ◌∙◌, List, [], ◌%◌, false, true, refl, ap, sym}
+use Rattle.bao_plan.specs.declared.runs.Run.{Run}
+use Rattle.bao_plan.specs.Sets.{contains}
+use Rattle.bao_plan.proofs.Bits.{has_bit-zero}
+use Rattle.bao_plan.proofs.PlanLemmas.{holder_is}
 use Rattle.bao_plan.proofs.holder.Holder.new.Goals as goal
 
-pub returns : goal.returns
-returns c =
-    let n = c.args.groups in
-    let refused = c.in_ok-no_chunks.ensures in
-    let absent = c.in_ok-no_chunks-2.ensures in
-    let asked = c.in_ok-no_chunks-3.ensures in (
-      holder_is _ _ (λ k. none_in n k c.in_ok-no_chunks.field-0.items refused) (λ k. none_in n k c.in_ok-no_chunks-2.field-0.items absent) (λ k. none_in n k c.in_ok-no_chunks-3.field-0.items asked) refl refl refl,
-      record { refused = ap length refused ∙ length-replicate n 0; absent = ap length absent ∙ length-replicate n 0; asked = ap length asked ∙ length-replicate n 0 },
-    )
+none_in : (k : ℕ) (runs : List Run) → runs ≡ [] → contains runs k ≡ false
+none_in k runs is = ap (λ rs. contains rs k) is ∙ has_bit-zero (k % 64)
+
+pub returns-clause-seen : goal.returns-clause-seen
+returns-clause-seen c =
+    holder_is _ _ (λ k. none_in k c.new.result.runs.items c.new.ensures) (λ k. none_in k c.new-2.result.runs.items c.new-2.ensures) (λ k. none_in k c.new-3.result.runs.items c.new-3.ensures) refl refl refl
+
+pub returns-clause-below : goal.returns-clause-below
+returns-clause-below c = λ end. record { below = λ k is. absurd (let h : true ≡ false = sym is ∙ none_in k c.new-3.result.runs.items c.new-3.ensures in cc) }

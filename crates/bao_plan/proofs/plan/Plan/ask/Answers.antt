@@ -2,10 +2,11 @@ use Rattle.std.proofs.Common.{◌≡◌, ◌≤◌, ◌∙◌, false, true, ap, 
 use Rattle.bao_plan.specs.Plans.{state_of}
 use Rattle.bao_plan.specs.States.{HolderState, is_left_out}
 use Rattle.bao_plan.proofs.PlanLemmas.{did_fetch, read_at}
+use Rattle.bao_plan.proofs.Results.{if_ok_map}
 use Rattle.bao_plan.proofs.plan.Plan.ask.Goals as goal
 
-pub returns-in-Some-first_ready-2 : goal.returns-in-Some-first_ready-2
-returns-in-Some-first_ready-2 c =
+pub returns-in-Some-first_ready-2-clause-ok : goal.returns-in-Some-first_ready-2-clause-ok
+returns-in-Some-first_ready-2-clause-ok c =
     let p = c.args.self.now in
     let hs = p.holders.items in
     let s = state_of p in
@@ -13,11 +14,12 @@ returns-in-Some-first_ready-2 c =
     ap (is_left_out p.policy) (read_at hs c.args.holder c.index.result.now c.requires.holder c.index.ensures) ∙ (sym c.is_left_out.ensures ∙ c.if-is_left_out.false) in
     let later : (s.holder c.args.holder).later ≤ c.args.now =
     omega (arith, ap (λ (x : HolderState). x.later) (read_at hs c.args.holder c.index-2.result.now c.requires.holder c.index-2.ensures), c.if-now-later.false) in
-    did_fetch s (state_of c.begin-in-Some-first_ready-2.new.self) c.args.holder c.args.now true c.begin-in-Some-first_ready-2.result c.requires.holder is_in later
-    (λ _. c.in-None-first_ready.ensures) c.begin-in-Some-first_ready-2.ensures
+    if_ok_map c.begin-in-Some-first_ready-2.result _ _
+    (λ next is. did_fetch s (state_of c.begin-in-Some-first_ready-2.new.self) c.args.holder c.args.now true next c.requires.holder is_in later (λ _. c.in-None-first_ready.ensures) is)
+    c.begin-in-Some-first_ready-2.ensures.ok
 
-pub returns : goal.returns
-returns c =
+pub returns-clause-ok : goal.returns-clause-ok
+returns-clause-ok c =
     let p = c.args.self.now in
     let is_in : is_left_out p.policy ((state_of p).holder c.args.holder) ≡ false =
     ap (is_left_out p.policy) (read_at p.holders.items c.args.holder c.index.result.now c.requires.holder c.index.ensures) ∙ (sym c.is_left_out.ensures ∙ c.if-is_left_out.false) in

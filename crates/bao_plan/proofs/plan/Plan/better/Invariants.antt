@@ -1,8 +1,8 @@
-use Rattle.std.proofs.Common.{◌≡◌, ℕ, ◌/◌, ◌%◌, ◌&&◌}
+use Rattle.std.proofs.Common.{◌&&◌}
 use Rattle.bao_plan.specs.Holders.{seen_at}
-use Rattle.bao_plan.specs.Sets.{any_below, has_bit}
+use Rattle.bao_plan.specs.Sets.{IsRunOf, any_below}
 use Rattle.bao_plan.specs.States.{is_better, may_have}
 use Rattle.bao_plan.proofs.plan.Plan.better.Given as goal
 
 abbrev pub invariant-loop-k : goal.invariant-loop-k
-invariant-loop-k l = (c : ℕ) → c / 64 ≡ l.group → has_bit l.mask (c % 64) ≡ any_below l.k (λ k. is_better l.self.policy l.now l.rank (seen_at l.self.holders.items k) && may_have (seen_at l.self.holders.items k) c)
+invariant-loop-k l = IsRunOf l.group l.run (λ c. any_below l.k (λ k. is_better l.self.policy l.now l.rank (seen_at l.self.holders.items k) && may_have (seen_at l.self.holders.items k) c))

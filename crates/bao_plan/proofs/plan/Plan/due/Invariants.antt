@@ -1,5 +1,5 @@
 use Rattle.std.proofs.Common.{◌<◌}
 use Rattle.bao_plan.proofs.plan.Plan.due.Given as goal
 
-abbrev pub invariant-loop-group : goal.invariant-loop-group
-invariant-loop-group l = l.now < l.due
+abbrev pub invariant-loop-unit : goal.invariant-loop-unit
+invariant-loop-unit l = l.now < l.due

@@ -1,6 +1,9 @@
-use Rattle.std.proofs.Common.{◌≡◌, ℕ, ◌/◌, ◌<◌, false}
-use Rattle.bao_plan.specs.Sets.{contains}
+use Rattle.std.proofs.Common.{◌≡◌, ℕ, ◌/◌, ◌<◌, ◌-◌, false}
+use Rattle.bao_plan.specs.Plans.{state_of}
 use Rattle.bao_plan.proofs.plan.Plan.is_done.Given as goal
 
-abbrev pub invariant-loop-group : goal.invariant-loop-group
-invariant-loop-group l = (c : ℕ) → c / 64 < l.group → contains l.self.missing.items c ≡ false
+abbrev pub invariant-runs : goal.invariant-runs
+invariant-runs l = (c : ℕ) → c / 64 < l.group → (state_of l.self).is_open c ≡ false
+
+abbrev pub decreases-runs : goal.decreases-runs
+decreases-runs l = l.groups - l.group

@@ -1,4 +1,4 @@
-use Rattle.std.proofs.Common.{◌∙◌, ◌+◌, ◌/◌, arith, sym, ap}
+use Rattle.std.proofs.Common.{◌∙◌, arith, sym, ap}
 use Rattle.bao_plan.specs.States.{HolderState}
 use Rattle.bao_plan.proofs.PlanLemmas.{asked_within, read_at}
 use Rattle.bao_plan.proofs.plan.Plan.is_request.Goals as goal
@@ -9,11 +9,11 @@ returns-then-count-eq0-clause-is c =
     let p = c.args.self.now in (
       λ h. absurd (cc),
       λ way.
-          let within = asked_within ((p.chunks + 63) / 64) p.holders.items c.args.holder c.args.first c.args.count c.requires p.roomy way.0 way.1 in
+          let within = asked_within p.chunks p.holders.items c.args.holder c.args.first c.args.count c.requires p.asks way.0 way.1 in
           absurd (elim c.then-count-eq0.branch [
             | then-count-eq0-via-then-count-eq0 w ↦ omega (arith, way.0)
-            | then-count-eq0-via-else-count-eq0+then-count-end w ↦ omega (arith, within, p.opens, p.missing.ok.0)
-            | then-count-eq0-via-else-count-eq0+else-count-end+then-first-end w ↦ omega (arith, within, p.opens, p.missing.ok.0)
+            | then-count-eq0-via-else-count-eq0+then-count-end w ↦ omega (arith, within)
+            | then-count-eq0-via-else-count-eq0+else-count-end+then-first-end w ↦ omega (arith, within)
           ]),
     )
 

@@ -1,31 +1,48 @@
-use Rattle.std.proofs.Common.{◌≡◌, ◌%◌, ◌&&◌, ◌||◌, not, false, sym, ap, ◌∙◌, arith}
+use Rattle.std.proofs.Common.{◌≡◌, ℕ, ◌&&◌, ◌||◌, Bool, false, true, not, ap, sym, subst, refl}
 use Rattle.bao_plan.specs.Plans.{state_of}
-use Rattle.bao_plan.specs.Sets.{has_bit}
-use Rattle.bao_plan.specs.States.{HolderState, has_better, is_late, is_ready, is_under_way, is_wanted}
-use Rattle.std.proofs.lemmas.Bool.{and_left}
-use Rattle.bao_plan.proofs.Bits.{has_bit-zero}
-use Rattle.bao_plan.proofs.Any.{not_both, taken_out}
+use Rattle.bao_plan.specs.Sets.{IsRunOf}
+use Rattle.bao_plan.specs.States.{HolderState, has_better, is_late, is_under_way, is_wanted}
 use Rattle.bao_plan.proofs.PlanLemmas.{read_at}
+use Rattle.bao_plan.proofs.RunLemmas.{run_is, run_none}
 use Rattle.bao_plan.proofs.plan.Plan.ready.Goals as goal
 
-pub returns : goal.returns
-returns c = λ k here.
-    let s = state_of c.args.self.now in
-    let t : has_bit c.only_if-taken.result (k % 64) ≡ (not (c.args.overtakes && is_late s c.args.now k) && is_under_way s k) =
-    c.only_if-taken.ensures (k % 64) ∙ (ap (λ b. not b && has_bit c.under_way.result (k % 64)) (c.may_overtake-may_overtake.ensures k here)
-    ∙ ap (λ b. not (c.args.overtakes && is_late s c.args.now k) && b) (c.under_way.ensures k here)) in
-    let l : has_bit c.better-left.result (k % 64) ≡ has_better s (s.holder c.args.holder).rank c.args.now k =
-    c.better-left.ensures k here ∙ sym (ap (λ (x : HolderState). has_better s x.rank c.args.now k) (read_at c.args.self.now.holders.items c.args.holder c.index.result.now c.requires c.index.ensures)) in
-    taken_out c.wanted-wanted.result c.only_if-taken.result c.better-left.result (k % 64) (omega arith) (omega arith) (omega arith)
-    ∙ (ap (λ b. b && not (has_bit c.only_if-taken.result (k % 64)) && not (has_bit c.better-left.result (k % 64))) (c.wanted-wanted.ensures k here)
-    ∙ (ap (λ b. is_wanted s c.args.holder k && not b && not (has_bit c.better-left.result (k % 64))) t
-    ∙ (ap (λ b. is_wanted s c.args.holder k && b && not (has_bit c.better-left.result (k % 64))) (not_both (c.args.overtakes && is_late s c.args.now k) (is_under_way s k))
-    ∙ ap (λ b. is_wanted s c.args.holder k && (not (is_under_way s k) || (c.args.overtakes && is_late s c.args.now k)) && not b) l)))
+none : (w f l : Bool) → w ≡ false → (w && f && l) ≡ false
+none w f l e = ap (λ b. b && f && l) e
+
+left_out : (w f l : Bool) → (w && l) ≡ false → (w && f && l) ≡ false
+left_out true true l e = e
+left_out true false l e = refl
+left_out false f l e = refl
+
+turned : (w f l : Bool) → (w && l && f) ≡ (w && f && l)
+turned true true true = refl
+turned true true false = refl
+turned true false true = refl
+turned true false false = refl
+turned false f l = refl
 
 pub returns-then-wanted-eq0 : goal.returns-then-wanted-eq0
-returns-then-wanted-eq0 c = λ k here.
+returns-then-wanted-eq0 c =
     let s = state_of c.args.self.now in
-    let none : is_wanted s c.args.holder k ≡ false = sym (c.wanted-wanted.ensures k here) ∙ (ap (λ m. has_bit m (k % 64)) c.if-wanted-eq0.true ∙ has_bit-zero (k % 64)) in
-    let unready : is_ready s c.args.holder c.args.now c.args.overtakes k ≡ false =
-    and_left _ _ (and_left (is_wanted s c.args.holder k) (not (is_under_way s k) || (c.args.overtakes && is_late s c.args.now k)) none) in
-    has_bit-zero (k % 64) ∙ sym unready
+    run_none c.args.group c.wanted-wanted.result (is_wanted s c.args.holder) _ c.wanted-wanted.ensures c.if-wanted-eq0.true (λ k. none _ _ _)
+
+pub returns-then-mine-eq0 : goal.returns-then-mine-eq0
+returns-then-mine-eq0 c =
+    let s = state_of c.args.self.now in
+    let g = c.args.group in
+    let better = subst (λ (y : HolderState). IsRunOf g c.better-left.result (has_better s y.rank c.args.now)) (sym (read_at c.args.self.now.holders.items c.args.holder c.index.result.now c.requires.holder c.index.ensures)) c.better-left.ensures in
+    let left = has_better s (s.holder c.args.holder).rank c.args.now in
+    run_none g c.and-mine.result (λ k. is_wanted s c.args.holder k && not (left k)) _
+    (c.and-mine.ensures g (is_wanted s c.args.holder) (λ k. not (left k)) c.wanted-wanted.ensures (c.others.ensures.others g left better)) c.if-mine-eq0.true (λ k. left_out (is_wanted s c.args.holder k) (not (is_under_way s k) || (c.args.overtakes && is_late s c.args.now k)) (not (left k)))
+
+pub returns : goal.returns
+returns c =
+    let s = state_of c.args.self.now in
+    let g = c.args.group in
+    let better = subst (λ (y : HolderState). IsRunOf g c.better-left.result (has_better s y.rank c.args.now)) (sym (read_at c.args.self.now.holders.items c.args.holder c.index.result.now c.requires.holder c.index.ensures)) c.better-left.ensures in
+    let left = has_better s (s.holder c.args.holder).rank c.args.now in
+    let late = λ (k : ℕ). c.args.overtakes && is_late s c.args.now k in
+    let mine = c.and-mine.ensures g (is_wanted s c.args.holder) (λ k. not (left k)) c.wanted-wanted.ensures (c.others.ensures.others g left better) in
+    let free = c.or.ensures g (λ k. not (is_under_way s k)) late (c.others-free.ensures.others g (is_under_way s) c.under_way.ensures) c.late.ensures in
+    run_is g c.and.result (λ k. is_wanted s c.args.holder k && not (left k) && (not (is_under_way s k) || late k)) _ (λ k. turned (is_wanted s c.args.holder k) (not (is_under_way s k) || late k) (not (left k)))
+    (c.and.ensures g (λ k. is_wanted s c.args.holder k && not (left k)) (λ k. not (is_under_way s k) || late k) mine free)

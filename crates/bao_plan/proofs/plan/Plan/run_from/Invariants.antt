@@ -1,8 +1,12 @@
-use Rattle.std.proofs.Common.{◌≡◌, ℕ, true}
+use Rattle.std.proofs.Common.{◌≡◌, ℕ, ◌*◌, ◌<◌, ◌≤◌, false, true}
 use Rattle.bao_plan.specs.Plans.{state_of}
-use Rattle.bao_plan.specs.Sets.{in_range}
 use Rattle.bao_plan.specs.States.{is_ready}
 use Rattle.bao_plan.proofs.plan.Plan.run_from.Given as goal
 
-abbrev pub invariant-loop-count : goal.invariant-loop-count
-invariant-loop-count l = (c : ℕ) → in_range l.first l.count c ≡ true → is_ready (state_of l.self) l.holder l.now l.overtakes c ≡ true
+abbrev pub invariant-loop-group : goal.invariant-loop-group
+invariant-loop-group l = record {
+  some : l.first < l.end;
+  top : l.end ≤ 64 * l.group;
+  ready : (c : ℕ) → l.first ≤ c → c < l.end → is_ready (state_of l.self) l.holder l.now l.overtakes c ≡ true;
+  last : l.end < 64 * l.group → is_ready (state_of l.self) l.holder l.now l.overtakes l.end ≡ false;
+}
