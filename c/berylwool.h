@@ -616,11 +616,16 @@ BW_USE bw_status bw_seat_finish(bw_seat *seat, uint8_t *out, size_t out_len,
  * 64 * group + j. Moments are milliseconds of any clock that doesn't go back; those from 2^63 on
  * count as 2^63 - 1.
  *
- * A request is a range of chunks that a holder was asked for. It is under way until bw_plan_ended,
- * which is called once for each. Only bw_plan_new and bw_plan_add_holder take memory: 16 bytes for
- * each group, and 24 for each group and holder. Every call but bw_plan_new may return BW_NO_HANDLE,
- * then BW_NO_HOLDER if it names a holder, then BW_NO_GROUP if it names a group. After a fault the
- * plan and all results are unchanged. */
+ * A request is a range of chunks that a holder was asked for, all of one unit of 1,024. It is under
+ * way until bw_plan_ended, which is called once for each. Every call but bw_plan_new may return
+ * BW_NO_HANDLE, then BW_NO_HOLDER if it names a holder, then BW_NO_GROUP if it names a group. After
+ * a fault the plan and all results are unchanged.
+ *
+ * A plan takes 8 bytes for each unit. The chunks that are lacking, and those that a holder is asked
+ * for, lacks or gave falsely, take 16 bytes for each row of groups with the same mask: few, where
+ * most chunks are asked for and reported in order. bw_plan_add_holder, bw_plan_ask, bw_plan_kept,
+ * bw_plan_refused, bw_plan_lacks, bw_plan_has and bw_plan_ended may return BW_MEMORY. The call may
+ * be repeated; a report that is given up is one that the plan doesn't know of. */
 
 /* What to do next with a holder. */
 #define BW_NEXT_NOTHING 0
@@ -637,7 +642,8 @@ typedef struct bw_plan_policy {
     uint32_t faults;           /* failures in a row after which a holder is left out */
     uint32_t pause_ms;         /* how long it is left alone after the first, doubled by each more */
     uint32_t longest_pause_ms; /* at most this long */
-    uint32_t patience_ms;      /* after so long another holder is asked for the same chunks too */
+    uint32_t patience_ms;      /* so long after a chunk of a unit was asked for last, another holder
+                                * is asked for those of it that are under way too */
 } bw_plan_policy;
 
 /* The answer of bw_plan_ask. */
@@ -657,7 +663,7 @@ BW_USE bw_status bw_plan_new(uint64_t total, const bw_plan_policy *policy,
 
 /* Adds a holder that may have every chunk.
  *
- * *holder is its number: 0, 1, 2 and so on. BW_MEMORY. */
+ * *holder is its number: 0, 1, 2 and so on. */
 BW_USE bw_status bw_plan_add_holder(bw_plan *plan, size_t *holder) BW_NONNULL(1, 2);
 
 /* Decides what to do next with a holder.

@@ -10,6 +10,7 @@
 /* How many requests are granted yet, or -1 for all; and whether all are after one was refused. */
 static long left = -1;
 static int once = 0;
+static size_t granted; /* bytes, of which none is counted as given back */
 
 void *__real_malloc(size_t len);
 void *__real_realloc(void *at, size_t len);
@@ -25,9 +26,15 @@ static int refuses(void) {
     return 0;
 }
 
-void *__wrap_malloc(size_t len) { return refuses() ? NULL : __real_malloc(len); }
+void *__wrap_malloc(size_t len) {
+    granted += len;
+    return refuses() ? NULL : __real_malloc(len);
+}
 
-void *__wrap_realloc(void *at, size_t len) { return refuses() ? NULL : __real_realloc(at, len); }
+void *__wrap_realloc(void *at, size_t len) {
+    granted += len;
+    return refuses() ? NULL : __real_realloc(at, len);
+}
 
 #define WANT(test)                                                                                 \
     do {                                                                                           \
@@ -79,38 +86,68 @@ static int gathers(const uint8_t *root, const uint8_t *blob, size_t blob_len, co
     return refused;
 }
 
-/* A plan and its holder; no other call of a plan takes memory. */
+/* The status of a call of a plan; of the same call once more, with memory, if it was refused. */
+static int was_refused;
+static bw_status given_memory(bw_status of) {
+    was_refused |= of == BW_MEMORY;
+    if (of == BW_MEMORY) left = -1;
+    return of;
+}
+#define DOES(call) (given_memory(call) == BW_MEMORY ? (call) : BW_OK) == BW_OK
+
+/* A plan and its holder. A call that is refused memory changes nothing. */
 static void plans(void) {
     const bw_plan_policy policy = {1, 1, 1, 1};
-    for (int refused = 1, n = 0; refused != 0; n++) {
+    was_refused = 1;
+    for (int n = 0; was_refused; n++) {
         bw_plan plan = BW_EMPTY;
         bw_plan_next next = {0, 0, 0, 0};
         size_t holder = 7;
-        uint64_t taken = 0;
-        uint32_t flag = 0;
+        uint64_t taken = 7, lacking = 7;
+        uint32_t flag = 7;
+        was_refused = 0;
         left = n;
-        bw_status made = bw_plan_new(70000, &policy, &plan),
-                  added = bw_plan_add_holder(&plan, &holder);
-        refused = made != BW_OK || added != BW_OK;
+        bw_status made = bw_plan_new(70000, &policy, &plan);
         WANT(made == BW_OK || (made == BW_MEMORY && plan.at == NULL));
-        WANT(added == BW_OK ? holder == 0
-                            : holder == 7 && added == (made == BW_OK ? BW_MEMORY : BW_NO_HANDLE));
+        if (made != BW_OK) WANT(bw_plan_add_holder(&plan, &holder) == BW_NO_HANDLE && holder == 7);
+        was_refused |= made != BW_OK;
+        if (made != BW_OK) left = -1;
+        if (made != BW_OK) WANT(bw_plan_new(70000, &policy, &plan) == BW_OK);
+        WANT(DOES(bw_plan_add_holder(&plan, &holder)) && holder == 0);
+        WANT(DOES(bw_plan_ask(&plan, 0, 0, &next)) && next.kind == BW_NEXT_FETCH &&
+             next.first == 0 && next.count == 69);
+        WANT(DOES(bw_plan_kept(&plan, 0, 0, 1, &taken)) && taken == 1);
+        WANT(DOES(bw_plan_refused(&plan, 0, 0, 2)));
+        WANT(DOES(bw_plan_lacks(&plan, 0, 0, 4)) && DOES(bw_plan_lacks(&plan, 0, 1, 1)));
+        WANT(DOES(bw_plan_has(&plan, 0, 1, 1)));
+        WANT(DOES(bw_plan_ended(&plan, 0, 0, 69, BW_ENDED_OVER, 0, 0, &flag)) && flag == 0);
+        WANT(DOES(bw_plan_ask(&plan, 0, 0, &next)) && next.kind == BW_NEXT_FETCH &&
+             next.first == 3 && next.count == 66);
         left = -1;
-        if (made == BW_OK && added != BW_OK)
-            WANT(bw_plan_add_holder(&plan, &holder) == BW_OK && holder == 0);
-        left = 0;
-        if (made == BW_OK) {
-            WANT(bw_plan_ask(&plan, 0, 0, &next) == BW_OK && next.kind == BW_NEXT_FETCH &&
-                 next.count == 69);
-            WANT(bw_plan_kept(&plan, 0, 0, 1, &taken) == BW_OK && taken == 1 &&
-                 bw_plan_refused(&plan, 0, 0, 2) == BW_OK);
-            WANT(bw_plan_lacks(&plan, 0, 1, 1) == BW_OK && bw_plan_has(&plan, 0, 1, 1) == BW_OK);
-            WANT(bw_plan_ended(&plan, 0, 0, 69, BW_ENDED_OVER, 0, 0, &flag) == BW_OK && flag == 0);
-        }
-        left = -1;
+        WANT(bw_plan_lacking(&plan, 0, &lacking) == BW_OK && lacking == UINT64_MAX - 1);
         bw_free(&plan);
         WANT(n < 100);
     }
+}
+
+/* What a thousand holders of 16 GiB take: each has a request under way, and one in a hundred lacks
+ * all. */
+static void many_holders(void) {
+    const bw_plan_policy policy = {1, 1, 1, 1};
+    const uint64_t groups = UINT64_C(1) << 18;
+    bw_plan plan = BW_EMPTY;
+    bw_plan_next next = {0, 0, 0, 0};
+    size_t holder = 7;
+    granted = 0;
+    WANT(bw_plan_new(groups * BW_GROUP_CHUNKS * BW_CHUNK_LEN, &policy, &plan) == BW_OK);
+    for (size_t k = 0; k < 1000; k++) {
+        WANT(bw_plan_add_holder(&plan, &holder) == BW_OK && holder == k);
+        WANT(bw_plan_ask(&plan, k, 0, &next) == BW_OK && next.first == k * 1024);
+        for (uint64_t g = 0; k % 100 == 0 && g < groups; g++)
+            WANT(bw_plan_lacks(&plan, k, g, UINT64_MAX) == BW_OK);
+    }
+    WANT(granted < 1 << 20);
+    bw_free(&plan);
 }
 
 int main(void) {
@@ -242,6 +279,7 @@ int main(void) {
         WANT(n < 1000);
     }
     plans();
+    many_holders();
     for (int alone = 0; alone < 2; alone++)
         for (long n = 0; gathers(root, blob, sizeof blob, text, used, n, alone); n++)
             WANT(n < 1000);

@@ -140,17 +140,17 @@ static void two_holders(void) {
          has_nothing(&plan, 1, 1000));
     WANT(bw_plan_forgive(&plan, 1) == BW_OK && is_left_out(&plan, 1, 0));
     WANT(waits(&plan, 1, 600, 700) && fetches(&plan, 1, 700, 64, 1));
-    /* Chunk 65 is of a group that was asked for just now; those from 128 on have been under way
-     * since 10. */
-    WANT(fetches(&plan, 1, 700, 128, 68));
-    WANT(takes(&plan, 1, 1, 1, 1) && ends(&plan, 1, 64, 1, BW_ENDED_OVER, 0, 710, 0));
+    /* Those from 65 on have been under way since 10, but chunk 64 of their unit was asked for just
+     * now. */
+    WANT(waits(&plan, 1, 700, 1200) && fetches(&plan, 1, 1200, 65, 131));
+    WANT(takes(&plan, 1, 1, 1, 1) && ends(&plan, 1, 64, 1, BW_ENDED_OVER, 0, 1210, 0));
     WANT(takes(&plan, 1, 2, UINT64_MAX, UINT64_MAX) && takes(&plan, 1, 3, UINT64_MAX, 15));
-    WANT(ends(&plan, 1, 128, 68, BW_ENDED_OVER, 0, 710, 0) && is_done(&plan, 0));
+    WANT(ends(&plan, 1, 65, 131, BW_ENDED_OVER, 0, 1210, 0) && is_done(&plan, 0));
     WANT(takes(&plan, 0, 1, UINT64_MAX, UINT64_MAX - 1) && is_done(&plan, 1) &&
          lacks_chunks(&plan, 3, 0));
     /* Others gave its chunks: that is no failure of its own. */
-    WANT(ends(&plan, 0, 65, 131, BW_ENDED_OVER, 0, 720, 0) && has_nothing(&plan, 0, 720) &&
-         has_nothing(&plan, 1, 720));
+    WANT(ends(&plan, 0, 65, 131, BW_ENDED_OVER, 0, 1220, 0) && has_nothing(&plan, 0, 1220) &&
+         has_nothing(&plan, 1, 1220));
     bw_free(&plan);
     WANT(plan.at == NULL);
 }

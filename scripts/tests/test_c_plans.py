@@ -61,7 +61,8 @@ class Holder:
 class Model:
     def __init__(self, chunks, policy):
         self.policy, self.chunks, self.end = policy, chunks, chunks
-        self.open, self.since, self.holders = bits(0, chunks), [0] * -(-chunks // 64), []
+        self.groups, self.since = -(-chunks // 64), [0] * -(-chunks // REQUEST)
+        self.open, self.holders = bits(0, chunks), []
 
     def is_left_out(self, it):
         return it.in_row >= self.policy.faults
@@ -79,9 +80,9 @@ class Model:
             if other.rank < it.rank and not self.is_left_out(other) and other.later <= now:
                 better |= self.may_have(other)
         if overtakes:
-            for group, since in enumerate(self.since):
+            for unit, since in enumerate(self.since):
                 if now - since >= self.policy.patience:
-                    taken &= ~bits(64 * group, 64)
+                    taken &= ~bits(REQUEST * unit, REQUEST)
         return self.wanted(it) & ~taken & ~better
 
     def ask(self, number, now, answer):
@@ -99,11 +100,10 @@ class Model:
         end = first + count
         if answer.kind != FETCH or not 0 < count <= REQUEST or asked & ~ready:
             return False
-        if count < REQUEST and end % REQUEST and ready >> end & 1:
+        if first // REQUEST != (end - 1) // REQUEST or end % REQUEST and ready >> end & 1:
             return False
         it.asked |= asked
-        for group in range(first // 64, (end - 1) // 64 + 1):
-            self.since[group] = now
+        self.since[first // REQUEST] = now
         return True
 
     def kept(self, number, group, mask):
@@ -157,10 +157,10 @@ def drawn_events(library, rng):
     plan, model, now = Plan(library, total, policy), Model(chunks, policy), 0
     for _ in range(rng.randrange(20, 250)):
         now += rng.choice((0, 0, 1, 30, 200))
-        number, group = rng.randrange(len(model.holders) + 1), rng.randrange(len(model.since) + (rng.randrange(10) == 0))
+        number, group = rng.randrange(len(model.holders) + 1), rng.randrange(model.groups + (rng.randrange(10) == 0))
         is_there, mask = number < len(model.holders), drawn_mask(rng)
         it = model.holders[number] if is_there else None
-        place = NO_HOLDER if not is_there else NO_GROUP if group >= len(model.since) else 0
+        place = NO_HOLDER if not is_there else NO_GROUP if group >= model.groups else 0
         way = rng.choice("aaaaaaaakkkkkreeeeelhfmx")
         if way == "a":
             answer = plan.told(Next, "ask", size(number), u64(now))
@@ -199,7 +199,7 @@ def drawn_events(library, rng):
             model.holders.append(Holder())
         assert plan.told(u32, "is_done").value == (model.open == 0)
         lacking = plan.told(u64, "lacking", u64(group))
-        assert lacking == NO_GROUP if group >= len(model.since) else lacking.value == model.open >> 64 * group & MASK
+        assert lacking == NO_GROUP if group >= model.groups else lacking.value == model.open >> 64 * group & MASK
         left_out = plan.told(u32, "is_left_out", size(number))
         assert left_out.value == model.is_left_out(model.holders[number]) if number < len(model.holders) else left_out == NO_HOLDER
     plan.free()

@@ -1,10 +1,8 @@
 -- Whether some number below n passes a test.
 use Rattle.std.proofs.Common.{◌≡◌, ℕ, zero, suc, ◌+◌, ◌<◌, Bool, true, false, ◌||◌, refl, sym, ap, ◌∙◌, arith, add-one, inl, inr, ◌%◌, ◌/◌, ◌≤◌, ◌*◌}
-use Rattle.std.specs.Int.Bits.{bit_or}
 use Rattle.std.proofs.lemmas.Bool.{or_cases, or_left, or_right, or_from, cases_eq, cases_Bool}
 use Rattle.bao_plan.specs.declared.runs.Run.{Run}
 use Rattle.bao_plan.specs.Sets.{IsRunOf, any_below, has_bit, is_some_bit}
-use Rattle.bao_plan.proofs.Bits.{has_bit-or, has_bit-zero}
 
 pub any_none : (p : ℕ → Bool) → any_below 0 p ≡ false
 unfolding any_below
@@ -46,13 +44,6 @@ any_none_of (suc n) p none = any_suc n p ∙ or_from _ _ (any_none_of n p (λ i 
 pub any_same : (n : ℕ) (p q : ℕ → Bool) → ((i : ℕ) → i < n → p i ≡ q i) → any_below n p ≡ any_below n q
 any_same zero p q same = any_none p ∙ sym (any_none q)
 any_same (suc n) p q same = any_suc n p ∙ (ap (λ b. b || p n) (any_same n p q (λ i below. same i (omega arith))) ∙ (ap (λ b. any_below n q || b) (same n (omega arith)) ∙ sym (any_suc n q)))
-
--- a mask that gathers those of holder after holder
-pub mask_none : (p : ℕ → Bool) (j : ℕ) → has_bit 0 j ≡ any_below 0 p
-mask_none p j = has_bit-zero j ∙ sym (any_none p)
-
-pub mask_more : (m w j i : ℕ) (p : ℕ → Bool) → has_bit m j ≡ any_below i p → has_bit w j ≡ p i → has_bit (bit_or m w) j ≡ any_below (i + 1) p
-mask_more m w j i p before here = has_bit-or m w j ∙ (ap (λ b. b || has_bit w j) before ∙ (ap (λ b. any_below i p || b) here ∙ sym (any_more i p)))
 
 -- no chunk passes the test, of the groups of a run whose mask is empty
 pub no_bit : (group : ℕ) (x : Run) (test : ℕ → Bool) → IsRunOf group x test → is_some_bit x.mask ≡ false → (c : ℕ) → group ≤ c / 64 → c / 64 < x.end → test c ≡ false

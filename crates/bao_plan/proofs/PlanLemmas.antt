@@ -1,8 +1,8 @@
 -- States of plans that are the same part by part, and a list of holders of which one is changed.
-use Rattle.std.proofs.Common.{◌≡◌, ℕ, zero, suc, ◌+◌, ◌/◌, ◌<◌, ◌==◌, List, [], ◌∷◌, ◌++◌, length, slice_set, slice_get, slice_index_or, slice_index, None, Some, refl, sym, ap, ◌∙◌, arith, subst, ◌-◌, ◌≤◌, cond, nat_lt, Bool, true, false, inl, inr, get_or-set_same, get_or-set_other}
+use Rattle.std.proofs.Common.{◌≡◌, ℕ, zero, suc, ◌+◌, ◌/◌, ◌<◌, ◌==◌, List, [], ◌∷◌, ◌++◌, length, slice_set, slice_get, slice_index_or, slice_index, None, Some, refl, sym, ap, ◌∙◌, arith, subst, ◌-◌, ◌≤◌, cond, Bool, true, false, inl, inr, get_or-set_same, get_or-set_other}
 use Rattle.std.proofs.lemmas.Bool.Decides.{nat_tests}
 use Rattle.std.proofs.lemmas.Option.{slice_get_cases, slice_get_past, slice_get_read}
-use Rattle.std.proofs.lemmas.Bool.{and_parts, cases_eq, cases_lt, eq-eqb, ne_eqb}
+use Rattle.std.proofs.lemmas.Bool.{and_parts, cases_eq, eq-eqb, ne_eqb}
 use Rattle.std.specs.List.{All}
 use Rattle.bao_plan.specs.declared.holder.Holder.{Holder}
 use Rattle.bao_plan.specs.declared.policy.Next.{Next}
@@ -81,9 +81,6 @@ added hs x is k = ap seen_or (get_append hs x k) ∙ (elim (cases_eq k (length h
   | inr other ↦ ap (λ b. seen_or (cond b (Some x) (slice_get hs k))) (ne_eqb k (length hs) other)
 ])
 
-pub in_whole : (n c : ℕ) → in_range 0 n c ≡ nat_lt c n
-in_whole n c = grind (arith, nat_tests)
-
 -- a chunk that is ready is lacking
 pub wanted_is_open : (s : State) (h c : ℕ) → is_wanted s h c ≡ true → s.is_open c ≡ true
 wanted_is_open s h c is = (and_parts _ _ (and_parts _ _ (and_parts _ _ is).0).0).0
@@ -99,16 +96,6 @@ last_in first count some = grind (arith, nat_tests)
 
 pub range_below : (first count end : ℕ) (p : ℕ → Bool) → 0 < count → ((c : ℕ) → p c ≡ true → c < end) → ((c : ℕ) → in_range first count c ≡ true → p c ≡ true) → first + count ≤ end
 range_below first count end p some below all = omega (arith, below (first + count - 1) (all (first + count - 1) (last_in first count some)))
-
-pub below_at : (end : ℕ) (hs : List Holder) (h : ℕ) (x : Holder) → h < length hs → x ≡ slice_index_or hs h x → All (IsAskedBelow end) hs → IsAskedBelow end x
-below_at end hs h x within is all = subst (IsAskedBelow end) (sym is) (all h x within)
-
--- one more chunk of a range
-pub range_more : (first n c : ℕ) (p : ℕ → Bool) → ((c : ℕ) → in_range first n c ≡ true → p c ≡ true) → p (first + n) ≡ true → in_range first (n + 1) c ≡ true → p c ≡ true
-range_more first n c p before here is = elim (cases_lt c (first + n)) [
-  | inl below ↦ before c (grind (arith, nat_tests))
-  | inr above ↦ (let e : c ≡ first + n = grind (arith, nat_tests) in ap p e ∙ here)
-]
 
 -- a request under way lies within the blob
 pub asked_within : (end : ℕ) (hs : List Holder) (h first count : ℕ) → h < length hs → All (IsAskedBelow end) hs → 0 < count → ((c : ℕ) → in_range first count c ≡ true → (seen_at hs h).asked c ≡ true) → first + count ≤ end

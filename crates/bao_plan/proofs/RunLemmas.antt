@@ -1,6 +1,10 @@
 -- Sets of chunks after a run is put in or taken out.
-use Rattle.std.proofs.Common.{◌≡◌, ℕ, zero, suc, ◌+◌, ◌/◌, ◌%◌, ◌^◌, ◌<◌, ◌≤◌, ◌==◌, nat_lt, List, [], ◌∷◌, length, drop, slice_get, slice_index_or, Option, Bor, None, Some, Bool, true, false, not, ◌&&◌, ◌||◌, cond, refl, sym, ap, ◌∙◌, arith, inl, inr, min, w64}
+use Rattle.std.proofs.Common.{◌≡◌, ℕ, zero, suc, ◌+◌, ◌/◌, ◌%◌, ◌^◌, ◌<◌, ◌≤◌, ◌==◌, nat_lt, List, [], ◌∷◌, length, slice_get, slice_index_or, get_or, subst, ◌-◌, Option, Bor, None, Some, Bool, true, false, not, ◌&&◌, ◌||◌, cond, refl, sym, ap, ◌∙◌, arith, inl, inr, min, w64}
 use Rattle.std.specs.List.{insert, remove}
+use Rattle.std.proofs.lemmas.List.{get_or_default}
+use Rattle.std.specs.List.Sorted.{IsNonDecreasingBy}
+use Rattle.std.proofs.lemmas.List.Sorted.{IsNonDecreasingBy-insert}
+use Rattle.std.proofs.lemmas.List.Edits.{get_or-insert_above, get_or-insert_at, get_or-insert_below, length-insert}
 use Rattle.std.specs.Option.{IfSome, is_some, option_copied}
 use Rattle.std.proofs.lemmas.Option.{slice_get_past, slice_get_read}
 use Rattle.std.specs.Int.{bit_not}
@@ -60,10 +64,6 @@ put_here (r ∷ runs) group g mask = elim (cases_lt group r.end) [
 empty_head : (g end m next n rest : ℕ) → next ≤ end → cond (nat_lt g end) m rest ≡ cond (nat_lt g end) m (cond (nat_lt g next) n rest)
 empty_head g end m next n rest le = grind (arith, nat_tests)
 
-pub first_empty : (runs : List Run) (g : ℕ) (x : Run) → slice_get runs 0 ≡ Some x → x.end ≤ 0 → mask_at (remove runs 0) g ≡ mask_at runs g
-first_empty [] g x is none = absurd (cc)
-first_empty (r ∷ runs) g x is none = grind (arith, nat_tests)
-
 pub next_empty : (runs : List Run) (i g : ℕ) (x y : Run) → slice_get runs i ≡ Some x → slice_get runs (suc i) ≡ Some y → y.end ≤ x.end → mask_at (remove runs (suc i)) g ≡ mask_at runs g
 next_empty [] i g x y is next le = absurd (cc)
 next_empty (r ∷ []) zero g x y is next le = absurd (cc)
@@ -121,21 +121,11 @@ index_next r runs group past = ap (λ b. cond b 0 (suc (index_of runs group))) (
 pub index_found : (r : Run) (runs : List Run) (group : ℕ) → group < r.end → index_of (r ∷ runs) group ≡ 0
 index_found r runs group below = ap (λ b. cond b 0 (suc (index_of runs group))) (is_below group r.end below)
 
-pub index_on : (runs : List Run) (i group : ℕ) (x : Run) → i < length runs → x ≡ slice_index_or runs i x → x.end ≤ group → index_of (drop i runs) group ≡ suc (index_of (drop (suc i) runs) group)
-index_on [] i group x within is past = absurd (omega arith)
-index_on (r ∷ runs) zero group x within is past = index_next r runs group (omega (arith, ap (λ (z : Run). z.end) is))
-index_on (r ∷ runs) (suc i) group x within is past = index_on runs i group x (omega arith) is past
-
-pub index_here : (runs : List Run) (i group : ℕ) (x : Run) → i < length runs → x ≡ slice_index_or runs i x → group < x.end → index_of (drop i runs) group ≡ 0
-index_here [] i group x within is below = absurd (omega arith)
-index_here (r ∷ runs) zero group x within is below = index_found r runs group (omega (arith, ap (λ (z : Run). z.end) is))
-index_here (r ∷ runs) (suc i) group x within is below = index_here runs i group x (omega arith) is below
-
-pub index_past : (runs : List Run) (i group : ℕ) → length runs ≤ i → index_of (drop i runs) group ≡ 0
-index_past [] zero group past = refl
-index_past [] (suc i) group past = refl
-index_past (r ∷ runs) zero group past = absurd (omega arith)
-index_past (r ∷ runs) (suc i) group past = index_past runs i group (omega arith)
+pub index_is : (runs : List Run) (i group : ℕ) → i ≤ length runs → ((k : ℕ) (d : Run) → k < i → (slice_index_or runs k d).end ≤ group) → ((d : Run) → i < length runs → group < (slice_index_or runs i d).end) → index_of runs group ≡ i
+index_is [] zero group most below above = refl
+index_is [] (suc i) group most below above = absurd (omega arith)
+index_is (r ∷ runs) zero group most below above = index_found r runs group (above r (omega arith))
+index_is (r ∷ runs) (suc i) group most below above = index_next r runs group (below 0 r (omega arith)) ∙ ap suc (index_is runs i group (omega arith) (λ k d less. below (suc k) d (omega arith)) (λ d less. above d (omega arith)))
 
 pub index_most : (runs : List Run) (group : ℕ) → index_of runs group ≤ length runs
 index_most [] group = omega arith
@@ -143,6 +133,71 @@ index_most (r ∷ runs) group = elim (cases_lt group r.end) [
   | inl below ↦ omega (arith, index_found r runs group below)
   | inr past ↦ omega (arith, index_next r runs group past, index_most runs group)
 ]
+
+-- what is before it ends no later than the group begins, and what is behind it ends later
+pub before_index : (runs : List Run) (group k : ℕ) (d : Run) → k < index_of runs group → (slice_index_or runs k d).end ≤ group
+before_index [] group k d less = absurd (omega arith)
+before_index (r ∷ runs) group zero d less = elim (cases_lt group r.end) [
+  | inl below ↦ absurd (omega (arith, index_found r runs group below))
+  | inr past ↦ past
+]
+before_index (r ∷ runs) group (suc k) d less = elim (cases_lt group r.end) [
+  | inl below ↦ absurd (omega (arith, index_found r runs group below))
+  | inr past ↦ before_index runs group k d (omega (arith, index_next r runs group past))
+]
+
+pub at_index : (runs : List Run) (group : ℕ) (d : Run) → index_of runs group < length runs → group < (slice_index_or runs (index_of runs group) d).end
+at_index [] group d less = absurd (omega arith)
+at_index (r ∷ runs) group d less = elim (cases_lt group r.end) [
+  | inl below ↦ subst (λ i. group < (slice_index_or (r ∷ runs) i d).end) (sym (index_found r runs group below)) below
+  | inr past ↦ subst (λ i. group < (slice_index_or (r ∷ runs) i d).end) (sym (index_next r runs group past)) (at_index runs group d (omega (arith, index_next r runs group past)))
+]
+
+abbrev pub AreSorted : List Run → Type 0
+AreSorted runs = IsNonDecreasingBy (λ (r : Run). r.end) runs
+
+pub from_index : (runs : List Run) (group k : ℕ) (d : Run) → AreSorted runs → index_of runs group ≤ k → k < length runs → group < (slice_index_or runs k d).end
+from_index runs group k d sorted from within = omega (arith, at_index runs group d (omega arith), sorted (index_of runs group) k d from within)
+
+pub sorted_either : (b : Bool) (xs ys : List Run) → AreSorted xs → AreSorted ys → AreSorted (cond b xs ys)
+sorted_either true xs ys x y = x
+sorted_either false xs ys x y = y
+
+-- what is before a run that ends no later than the group begins ends no later either, and what is behind one that ends later ends later
+pub before_middle : (runs : List Run) (i k group : ℕ) (x d : Run) → AreSorted runs → x ≡ slice_index_or runs i x → x.end ≤ group → i < length runs → k ≤ i → (slice_index_or runs k d).end ≤ group
+before_middle runs i k group x d sorted is past within le =
+    omega (arith, ap (λ (z : Run). z.end) is, ap (λ (z : Run). z.end) (get_or_default runs k d x (omega arith)), sorted k i x le within)
+
+pub from_middle : (runs : List Run) (i k group : ℕ) (x d : Run) → AreSorted runs → x ≡ slice_index_or runs i x → group < x.end → k < length runs → i ≤ k → group < (slice_index_or runs k d).end
+from_middle runs i k group x d sorted is below within le =
+    omega (arith, ap (λ (z : Run). z.end) is, ap (λ (z : Run). z.end) (get_or_default runs k d x within), sorted i k x le within)
+
+-- the two runs that are put in for a group
+pub sorted_begun : (runs : List Run) (group m : ℕ) → AreSorted runs → AreSorted (insert runs (index_of runs group) (run group m))
+sorted_begun runs group m sorted = IsNonDecreasingBy-insert (λ (r : Run). r.end) runs (index_of runs group) (run group m) sorted (index_most runs group)
+    (λ k d less. before_index runs group k d less) (λ k d from within. omega (arith, from_index runs group k d sorted from within))
+
+k_is : (k i : ℕ) → i ≤ k → k < suc i → k ≡ i
+k_is k i from less = omega arith
+
+pub sorted_put : (runs : List Run) (group m mask : ℕ) → AreSorted runs → AreSorted (insert (insert runs (index_of runs group) (run group m)) (suc (index_of runs group)) (run (group + 1) mask))
+sorted_put runs group m mask sorted =
+    let i = index_of runs group in
+    let most = index_most runs group in
+    let len = length-insert runs i (run group m) most in
+    IsNonDecreasingBy-insert (λ (r : Run). r.end) (insert runs i (run group m)) (suc i) (run (group + 1) mask) (sorted_begun runs group m sorted) (omega (arith, len, most))
+    (λ k d less. elim (cases_lt k i) [
+      | inl before ↦ omega (arith, ap (λ (z : Run). z.end) (get_or-insert_below runs i (run group m) d k before most), before_index runs group k d before)
+      | inr here ↦ omega (arith, ap (λ (z : Run). z.end) (ap (λ n. get_or (insert runs i (run group m)) n d) (k_is k i here less) ∙ get_or-insert_at runs i (run group m) d most))
+    ])
+    (λ k d from within.
+    let j : ℕ = k - 1 in
+    let e : k ≡ j + 1 = omega (arith, from) in
+    omega (
+      arith,
+      ap (λ (z : Run). z.end) (ap (λ n. get_or (insert runs i (run group m)) n d) e ∙ get_or-insert_above runs i (run group m) d j (omega (arith, from)) most),
+      from_index runs group j d sorted (omega (arith, from)) (omega (arith, within, len, from)),
+    ))
 
 pub mask_found : (runs : List Run) (group : ℕ) (x : Run) → slice_get runs (index_of runs group) ≡ Some x → x.mask ≡ mask_at runs group
 mask_found runs group x is = sym (run_mask runs group group x is (omega arith) (run_ahead runs group x is))

@@ -2,7 +2,7 @@ ghost use Rattle.std.specs.Prelude.{◌≡◌};
 
 use thiserror::Error;
 
-/// The most chunks of a request.
+/// The most chunks of a request. All are of one unit of so many.
 pub const REQUEST_CHUNKS: u64 = 1024;
 
 /// The numbers that a plan goes by. Times are in milliseconds.
@@ -14,7 +14,7 @@ pub struct Policy {
     pub pause: u32,
     /// The longest time that a holder is left alone, also where it asks for more.
     pub longest_pause: u32,
-    /// How long chunks are left to the holder that is asked for them, before another one is asked as well.
+    /// How long after some chunk of a unit was asked for last another holder is asked for those that are under way as well.
     pub patience: u32,
 }
 

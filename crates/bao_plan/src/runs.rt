@@ -1,5 +1,7 @@
 ghost use Rattle.std.specs.Prelude.{◌≡◌, ℕ, ◌+◌, ◌*◌, ◌/◌, ◌%◌, ◌<◌, ◌≤◌, ◌==◌, nat_lt, not, false, true, Bool, ◌&&◌, ◌||◌, [], ◌^◌, ◌↔◌, length, IfOk, OnErr, OnOk, IsTrue, Some, slice_get, if◌then◌else◌};
 ghost use Rattle.std.specs.List.{remove};
+ghost use Rattle.std.specs.List.Sorted.{IsNonDecreasingBy};
+ghost use Rattle.bao_plan.specs.declared.runs.Run.{Run};
 ghost use Rattle.bao_plan.specs.Sets.{IsRunOf, contains, has_bit, in_mask, in_range, index_of, mask_at};
 
 use crate::sets::{GROUP_LEN, has_bit, mask_below, mask_of};
@@ -16,6 +18,7 @@ pub(crate) struct Run {
 #[derive(Drop)]
 pub(crate) struct ChunkSet {
     runs: Vec<Run>,
+    ghost sorted: { IsNonDecreasingBy (λ (r : Run). r.end) runs.items },
 }
 
 // No chunk, from any group on.
@@ -131,12 +134,17 @@ impl ChunkSet {
     fn index_of(&self, group: usize) -> usize
         ensures { result ≡ index_of self.now.runs.items group }
     {
-        for i in 0..self.runs.len() {
-            if group < self.runs[i].end {
-                return i;
+        let mut low = 0;
+        let mut high = self.runs.len();
+        'halves: while low < high {
+            let middle = low + (high - low) / 2;
+            if group < self.runs[middle].end {
+                high = middle;
+            } else {
+                low = middle + 1;
             }
         }
-        self.runs.len()
+        low
     }
 
     // The mask of a group.

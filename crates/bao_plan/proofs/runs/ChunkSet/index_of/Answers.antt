@@ -1,15 +1,30 @@
-use Rattle.std.proofs.Common.{arith, add-one}
-use Rattle.bao_plan.proofs.RunLemmas.{index_here, index_on, index_past}
+use Rattle.std.proofs.Common.{◌+◌, ◌-◌, ◌/◌, ◌<◌, ℕ, length, sym, arith}
+use Rattle.bao_plan.proofs.RunLemmas.{before_middle, from_middle, index_is}
 use Rattle.bao_plan.proofs.runs.ChunkSet.index_of.Goals as goal
 
-pub loop-i-preserved : goal.loop-i-preserved
-loop-i-preserved c =
-    let on = index_on c.args.self.now.runs.items c.loop-i.i c.args.group c.index.result.now (omega (arith, c.args.self.now.runs.ok.0)) c.index.ensures c.if-group-index.false in
-    rw add-one (omega (arith, on, c.loop-i.invariant))
-
-pub returns-then-group-index : goal.returns-then-group-index
-returns-then-group-index c =
-    omega (arith, index_here c.args.self.now.runs.items c.loop-i.i c.args.group c.index.result.now (omega (arith, c.args.self.now.runs.ok.0)) c.index.ensures c.if-group-index.true, c.loop-i.invariant)
-
 pub returns : goal.returns
-returns c = omega (arith, index_past c.args.self.now.runs.items c.loop-i.i c.args.group (omega (arith, c.args.self.now.runs.ok.0)), c.loop-i.invariant, c.args.self.now.runs.ok.0)
+returns c =
+    let is = c.halves.invariant in
+    sym (index_is c.args.self.now.runs.items c.halves.low c.args.group (omega (arith, is.order, is.most)) is.below (λ d within. is.above c.halves.low d c.halves-test.false within))
+
+pub halves-preserved : goal.halves-preserved
+halves-preserved c =
+    let is = c.halves.invariant in
+    let middle : ℕ = c.halves.low + (c.halves.high - c.halves.low) / 2 in
+    let within : middle < length c.args.self.now.runs.items = omega (arith, is.order, is.most, c.halves-test.true) in
+    record {
+      order = omega (arith, is.order, c.halves-test.true);
+      most = is.most;
+      below = λ k d less. before_middle c.args.self.now.runs.items middle k c.args.group c.index.result.now d c.args.self.now.sorted c.index.ensures c.if-group-index.false within (omega (arith, less));
+      above = is.above;
+    }
+
+pub halves-preserved-then-group-index : goal.halves-preserved-then-group-index
+halves-preserved-then-group-index c =
+    let is = c.halves.invariant in
+    record {
+      order = omega (arith, is.order);
+      most = omega (arith, is.order, is.most, c.halves-test.true);
+      below = is.below;
+      above = λ k d from less. from_middle c.args.self.now.runs.items (c.halves.low + (c.halves.high - c.halves.low) / 2) k c.args.group c.index.result.now d c.args.self.now.sorted c.index.ensures c.if-group-index.true less from;
+    }

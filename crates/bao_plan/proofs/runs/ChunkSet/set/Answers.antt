@@ -1,9 +1,10 @@
-use Rattle.std.proofs.Common.{◌≡◌, ◌∙◌, ◌+◌, ℕ, List, ap, arith, add-one}
+use Rattle.std.proofs.Common.{◌≡◌, ◌∙◌, ◌+◌, ℕ, suc, List, ap, sym, subst, arith, add-one}
 use Rattle.std.specs.List.{insert}
+use Rattle.std.specs.Result.{is_ok}
 use Rattle.bao_plan.specs.declared.runs.Run.{Run}
 use Rattle.bao_plan.specs.Sets.{index_of, mask_at}
 use Rattle.bao_plan.proofs.Results.{on_err}
-use Rattle.bao_plan.proofs.RunLemmas.{index_most, put_here, run, split_same}
+use Rattle.bao_plan.proofs.RunLemmas.{AreSorted, index_most, put_here, run, sorted_begun, sorted_either, sorted_put, split_same}
 use Rattle.bao_plan.proofs.runs.ChunkSet.set.Goals as goal
 
 pub insert-requires : goal.insert-requires
@@ -24,6 +25,22 @@ overflow_add-index-3 c = omega (arith, index_most c.args.self.now.runs.items c.a
 -- the first run that is put in
 begun : (runs : List Run) (group index before : ℕ) → index ≡ index_of runs group → before ≡ mask_at runs group → insert runs index (run group before) ≡ insert runs (index_of runs group) (run group (mask_at runs group))
 begun runs group index before i m = ap (λ n. insert runs n (run group before)) i ∙ ap (λ n. insert runs (index_of runs group) (run group n)) m
+
+pub invariant_of-self-2 : goal.invariant_of-self-2
+invariant_of-self-2 c =
+    let runs = c.args.self.now.runs.items in
+    let group = c.args.group in
+    let first = run group (mask_at runs group) in
+    let last = run (group + 1) c.args.mask in
+    let is = c.in_ok-insert.ensures.items ∙ begun runs group c.index_of-index.result c.mask-before.result c.index_of-index.ensures c.mask-before.ensures in
+    let second : insert c.insert.new.self.items (c.index_of-index.result + 1) last ≡ insert (insert runs (index_of runs group) first) (suc (index_of runs group)) last =
+    ap (λ rs. insert rs (c.index_of-index.result + 1) last) is ∙ ap (λ n. insert (insert runs (index_of runs group) first) n last) (ap (λ n. n + 1) c.index_of-index.ensures ∙ add-one (index_of runs group)) in
+    record {
+      sorted = subst AreSorted (sym c.insert-2.ensures.items)
+          (sorted_either (is_ok c.insert-2.result) (insert c.insert.new.self.items (c.index_of-index.result + 1) last) c.insert.new.self.items
+          (subst AreSorted (sym second) (sorted_put runs group (mask_at runs group) c.args.mask c.args.self.now.sorted))
+          (subst AreSorted (sym is) (sorted_begun runs group (mask_at runs group) c.args.self.now.sorted)));
+    }
 
 pub returns-in_err-insert-2-clause-err : goal.returns-in_err-insert-2-clause-err
 returns-in_err-insert-2-clause-err c =
