@@ -85,7 +85,7 @@ void fetch_wait(fetch *f, uint64_t until) {
 
 /* No call of a plan fails but for memory: else this program has a fault. */
 void fetch_must(fetch *f, bw_status of) {
-    if (of) fetch_stop(f, OTHER_ROOT);
+    if (of) fetch_stop(f, of == BW_MEMORY ? NO_MEMORY : OTHER_ROOT);
 }
 
 booking booking_of(fetch *f, peer *it) {
@@ -297,7 +297,8 @@ void fetch_settle(fetch *f, uint64_t total) {
 void fetch_keep(fetch *f, size_t holder, uint64_t group, uint64_t mask, const uint8_t *bytes) {
     const uint64_t all = chunks_of(f->total), last = all - 1;
     uint64_t taken = 0, at = group * GROUP_LEN;
-    if (bw_plan_kept(&f->chunks, holder, group, mask, &taken)) return fetch_stop(f, OTHER_ROOT);
+    fetch_must(f, bw_plan_kept(&f->chunks, holder, group, mask, &taken));
+    if (f->status != GOES_ON) return;
     f->chunks_open -= (uint64_t)__builtin_popcountll(taken);
     if (all - f->chunks_open > f->most_had) {
         f->most_had = all - f->chunks_open;

@@ -35,11 +35,34 @@ static void print_peer(fetch *f, const peer *it) {
 
 /* --- JSON */
 
+/* How many bytes a character takes in UTF-8 (RFC 3629, section 4). 0: it is none. */
+static int utf8_len(const unsigned char *at) {
+    static const struct {
+        unsigned char from, to, next_from, next_to;
+        int len;
+    } rows[] = {{0xc2, 0xdf, 0x80, 0xbf, 2}, {0xe0, 0xe0, 0xa0, 0xbf, 3},
+                {0xe1, 0xec, 0x80, 0xbf, 3}, {0xed, 0xed, 0x80, 0x9f, 3},
+                {0xee, 0xef, 0x80, 0xbf, 3}, {0xf0, 0xf0, 0x90, 0xbf, 4},
+                {0xf1, 0xf3, 0x80, 0xbf, 4}, {0xf4, 0xf4, 0x80, 0x8f, 4}};
+    if (*at < 0x80) return 1;
+    for (size_t i = 0; i < sizeof rows / sizeof *rows; i++) {
+        if (*at < rows[i].from || *at > rows[i].to) continue;
+        int len = at[1] >= rows[i].next_from && at[1] <= rows[i].next_to ? 2 : 0;
+        while (len && len < rows[i].len) len = (at[len] & 0xc0) == 0x80 ? len + 1 : 0;
+        return len;
+    }
+    return 0;
+}
+
+/* A byte that is of no character is put as U+FFFD. */
 static void put_text(FILE *to, const char *text) {
     fputc('"', to);
-    for (; *text; text++) {
+    for (int len; *text; text += len ? len : 1) {
         const unsigned char c = (unsigned char)*text;
-        fprintf(to, c < 0x20 ? "\\u%04x" : c == '"' || c == '\\' ? "\\%c" : "%c", c);
+        len = utf8_len((const unsigned char *)text);
+        if (!len) fputs("\\ufffd", to);
+        else if (c < 0x20) fprintf(to, "\\u%04x", c);
+        else fprintf(to, c == '"' || c == '\\' ? "\\%.*s" : "%.*s", len, text);
     }
     fputc('"', to);
 }

@@ -25,16 +25,20 @@ char *url_tailed(const char *url, const char *tail) {
     return asprintf(&it, "%.*s%s%.*s", path, url, tail, query, url + path) < 0 ? NULL : it;
 }
 
-/* The same without user, password and query. */
+/* The same without user, password and query. What is before an '@' behind a port, or what isn't
+ * one, may be of a password that isn't escaped. */
 char *url_shown(const char *url) {
     const char *host = strstr(url, "://"), *at;
     char *it;
     if (!host || url_is_local(url)) return strdup(url);
     host += 3;
-    const char *end = url + path_len(url);
-    for (at = host + strcspn(host, "/?#"); at > host && at[-1] != '@';) at--;
-    const int start = (int)(host - url), rest = (int)(end - at);
-    const int len = asprintf(&it, "%.*s%.*s%s", start, url, rest, at, *end ? "?..." : "");
+    const char *after = host + strcspn(host, "/?#"), *last = strrchr(host, '@');
+    for (at = after; at > host && at[-1] != '@';) at--;
+    const bool hides = last && last > after && memchr(at, ':', (size_t)(after - at));
+    if (hides) at = last + 1;
+    const int start = (int)(host - url), rest = (int)path_len(at);
+    const int len = asprintf(&it, "%.*s%s%.*s%s", start, url, hides ? "...@" : "", rest, at,
+                             at[rest] ? "?..." : "");
     return len < 0 ? NULL : it;
 }
 
