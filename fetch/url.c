@@ -36,7 +36,7 @@ char *url_shown(const char *url) {
     for (at = after; at > host && at[-1] != '@';) at--;
     const bool hides = last && last > after && memchr(at, ':', (size_t)(after - at));
     if (hides) at = last + 1;
-    const int start = (int)(host - url), rest = (int)path_len(at);
+    const int start = (int)(host - url), rest = (int)strcspn(at, "?#");
     const int len = asprintf(&it, "%.*s%s%.*s%s", start, url, hides ? "...@" : "", rest, at,
                              at[rest] ? "?..." : "");
     return len < 0 ? NULL : it;

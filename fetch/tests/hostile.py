@@ -604,6 +604,16 @@ def headers(place):
     place.run(["-H", "X-Token: abc", "--user-agent", "me"], urls[:1], 0)
 
 
+def any_name_in_json(place):
+    """--json is UTF-8 whatever OUT's name is: a byte that is of no character is U+FFFD."""
+    urls = place.serve("bao")
+    for name, told in ((b"\xc3\xa9 \\\"\x01", "\u00e9 \\\"\x01"), (b"\xff.\xc3.\xed\xa0\x80", "\ufffd.\ufffd.\ufffd\ufffd\ufffd"), (b"\xf0\x9f\x90\x91\xe2\x82", "\U0001f411\ufffd\ufffd")):
+        out = os.fsencode(place.folder) + b"/" + name
+        ran = subprocess.run([*place.fetch, "--json", place.root, out, *urls], capture_output=True, timeout=LONGEST)
+        place.said = ran.stderr.decode(errors="replace")
+        want(ran.returncode == 0 and json.loads(ran.stdout.decode())["out"] == f"{place.folder}/{told}", f"{ran.stdout}")
+
+
 def progress_in_json(place):
     reader, writer = os.pipe()
     urls = place.serve("bao")
@@ -1068,7 +1078,7 @@ LONGER = [
     (resume_asks_for_the_rest, 9_000_000, ""), (damaged_part, 9_000_000, ""), (right_out, 300_000, ""), (read_only_out, 300_000, ""), (no_outboard_ends, 300_000, ""), (queries, 300_000, ""),
     (silent_name_server, 300_000, ""), (closed_output, 20_000, ""), (part_of_others, 300_000, ""), (pipe_that_nobody_reads, 3_000_000, ""),
     (few_descriptors, 3_000_000, ""), (no_secrets, 300_000, ""), (private_redirects, 300_000, ""), (bounds, 400_000, ""), (local_first, 3_000_000, ""),
-    (many_at_once, 20_000, ""), (lines_left_out, 20_000, ""), (headers, 300_000, ""), (progress_in_json, 300_000, ""),
+    (many_at_once, 20_000, ""), (lines_left_out, 20_000, ""), (headers, 300_000, ""), (progress_in_json, 300_000, ""), (any_name_in_json, 300_000, ""),
     (left_alone, 3_000_000, ""), (progress, 20_000_000, ""), (lines_are_blamed, 3_000_000, ""), (false_below_its_spine, 20_000_000, ""),
     (streamed_once, 9_000_000, ""), (streamed_for_a_chunk, 9_000_000, ""), (streamed_and_kept, 9_000_000, ""),
     (a_hole_near_the_start, 9_000_000, ""), (keeps_all_but_a_chunk, 3_000_000, ""),
