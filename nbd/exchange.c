@@ -1,6 +1,7 @@
 #include "nbd.h"
 
 enum { LATER_MOST_MS = 30000, FIRST_PAUSE_MS = 250, DOUBLED_MOST = 6, OVERTAKEN_MS = 16000 };
+enum { SPARE_MOST = 16 };
 enum { LOOK_LEN = GROUP_LEN + GROUP_LEN / 4 }; /* when so much more came, a group may be whole */
 
 /* A request of a plan: of a holder, for chunks of the window. */
@@ -23,6 +24,9 @@ struct exchange {
     uint8_t claim[BW_LENGTH_LEN], *bytes, *text;
 };
 
+static exchange *spare; /* with what libcurl has of their legs, which takes long to make */
+static unsigned spare_count;
+
 /* --- What came is verified and stored, in a thread of the pool */
 
 /* Puts a slice together of what came. Its length, or 0 where a node is lacking. */
@@ -39,9 +43,10 @@ static verdict take(void *with, run it, bw_placed *refused) {
     const uint64_t group = it.first / BW_GROUP_CHUNKS;
     slice nodes;
     const size_t used = put(e, &nodes, start, len);
+    bw_seat *seat = seat_at(e->of->w, e->of->seats, group % UNIT_GROUPS);
     uint64_t committed, at = 0;
-    if (!used) return NOT_THERE;
-    if (bw_seat_commit_chunks(&e->of->seat->at, start, len, e->text, used, &committed, &at))
+    if (!used || !seat) return NOT_THERE;
+    if (bw_seat_commit_chunks(seat, start, len, e->text, used, &committed, &at))
         return bw_node_at(e->total, start, len, at, refused) ? NOT_THERE : REFUTED;
     learn(&nodes);
     e->kept[group % UNIT_GROUPS] |= mask_in(group, it);
@@ -156,8 +161,11 @@ static bool ask_for(exchange *e, uint64_t start, uint64_t len) {
 void exchange_new(task *t, size_t number, run chunks) {
     const holder *h = &holders[number];
     const uint64_t from = chunks.first / BW_GROUP_CHUNKS;
-    exchange *e = calloc(1, sizeof *e);
-    if (!e) {
+    exchange *e = spare;
+    if (e) {
+        spare = e->next;
+        spare_count--;
+    } else if (!(e = calloc(1, sizeof *e))) {
         t->error = ENOMEM;
         return;
     }
@@ -175,17 +183,31 @@ void exchange_new(task *t, size_t number, run chunks) {
         t->error = EIO;
 }
 
+static void legs_free(exchange *e) {
+    leg_free(&e->data);
+    leg_free(&e->beside);
+    free(e);
+}
+
 void exchange_free(exchange *e) {
     exchange **at = &e->of->exchanges;
     while (*at != e) at = &(*at)->next;
     *at = e->next;
     cut(e, &e->data);
     cut(e, &e->beside);
-    leg_free(&e->data);
-    leg_free(&e->beside);
     free(e->bytes);
-    free(e);
     atomic_fetch_add(&changes, 1);
+    if (spare_count == SPARE_MOST) return legs_free(e);
+    *e = (exchange){.next = spare, .data = e->data, .beside = e->beside};
+    spare = e;
+    spare_count++;
+}
+
+void exchanges_stop(void) {
+    for (exchange *e = spare, *next; e; e = next) {
+        next = e->next;
+        legs_free(e);
+    }
 }
 
 /* Nothing more comes of it, and what came was reported. */
@@ -236,7 +258,10 @@ static void post(exchange *e) {
     e->of->is_verifying = true;
     see(e);
     e->job = (job){.run = verify, .done = was_verified, .with = e};
-    pool_post(&mirrors.computing, &e->job);
+    if (!task_is_alone(e->of) || e->chunks.count > BW_GROUP_CHUNKS)
+        return pool_post(&mirrors.computing, &e->job);
+    verify(&e->job); /* little, while nothing else is to be done: to wake another takes longer */
+    was_verified(&e->job);
 }
 
 /* Another gave all of it, while this one had more than its time. */

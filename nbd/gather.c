@@ -14,6 +14,7 @@ static server servers[2 * NAMES_MOST];
 static size_t server_count;
 static pthread_t thread;
 static pthread_cond_t work = PTHREAD_COND_INITIALIZER;
+static bool is_idle; /* the thread waits for `work`, and not for the mirrors */
 static task *posted, **posted_end = &posted, *tasks; /* linked and unlinked under the lock */
 
 /* --- Tasks, for those who read */
@@ -44,27 +45,37 @@ static task *new_task(uint64_t total) {
 
 task *task_of_length(void) { return new_task(1); }
 
-/* Claims for a seat what it can of so many groups from the first on, if of the one that is needed
- * some, if one is. NULL: there is nothing to claim or, then *error is set, no memory. */
-task *task_new(window *w, seat *of, const unsigned *needed, run groups, int *error) {
+/* Claims what it can of a group of a window. 0 also where there is no memory for its store. */
+static uint64_t claim(window *w, seats *of, unsigned group) {
+    bw_seat *it = seat_at(w, of, group);
+    uint64_t granted;
+    return it && !bw_seat_take(it, 0, UINT64_MAX, &granted) ? granted : 0;
+}
+
+/* Claims for seats what it can of so many groups from the first on, if of the one that is needed
+ * some, if one is. NULL: there is nothing to claim or, then *error is set, no memory. Not under the
+ * lock. */
+task *task_new(window *w, seats *of, const unsigned *needed, run groups, int *error) {
     const unsigned chunks = window_chunks(w->number), all = (chunks - 1) / BW_GROUP_CHUNKS + 1;
-    uint64_t granted = 0, taken = 0, any = 0;
-    if (needed && (bw_seat_take(&of->at, *needed, UINT64_MAX, &granted) || !granted)) return NULL;
+    const uint64_t granted = needed ? claim(w, of, *needed) : 0;
+    uint64_t taken = 0, any = 0;
+    if (needed && !of->of[*needed].at) *error = ENOMEM;
+    if (needed && !granted) return NULL;
     task *t = new_task((uint64_t)chunks * BW_CHUNK_LEN);
     if (!t) {
-        const bool gave = !needed || !bw_seat_give(&of->at, *needed, UINT64_MAX, &taken);
+        const bool gave = !needed || !bw_seat_give(&of->of[*needed], 0, UINT64_MAX, &taken);
         *error = gave ? ENOMEM : EIO;
         return NULL;
     }
     for (unsigned g = groups.first; g < least(groups.first + groups.count, all); g++)
-        if (bw_seat_take(&of->at, g, UINT64_MAX, &t->wanted[g])) t->wanted[g] = 0;
+        t->wanted[g] = claim(w, of, g);
     if (needed) t->wanted[*needed] |= granted;
     for (unsigned g = 0; g < all; g++) {
         any |= t->wanted[g];
         task_must(t, bw_plan_kept(&t->plan, 0, g, ~t->wanted[g], &taken));
     }
     t->w = w;
-    t->seat = of;
+    t->seats = of;
     t->start = w->number * UNIT_LEN;
     t->total = blob_len();
     if (any) return t;
@@ -78,8 +89,8 @@ void task_post(task *t, bool is_urgent) {
     *posted_end = t;
     posted_end = &t->next;
     task_count++;
-    pthread_cond_signal(&work);
-    curl_multi_wakeup(mirrors.multi);
+    if (is_idle) pthread_cond_signal(&work);
+    else curl_multi_wakeup(mirrors.multi);
 }
 
 /* Somebody waits for all that is asked for in a window. Under the lock. */
@@ -95,6 +106,8 @@ void task_urge(const window *w) {
 }
 
 /* --- Who is asked, in the thread that talks to the mirrors */
+
+bool task_is_alone(const task *t) { return tasks == t && !t->next; }
 
 /* 0; 1: it failed, or was overtaken, not long ago; 2: much of what it has is false, or it has no
  * ranges. */
@@ -166,14 +179,14 @@ static void leave_window(task *t, int error) {
     uint64_t lacking, given;
     for (unsigned g = 0; g < UNIT_GROUPS; g++) {
         if (!t->wanted[g]) continue;
-        task_must(t, bw_seat_give(&t->seat->at, g, UINT64_MAX, &given));
+        task_must(t, bw_seat_give(&t->seats->of[g], 0, UINT64_MAX, &given));
         task_must(t, bw_plan_lacking(&t->plan, g, &lacking));
         if (!(lacking & t->wanted[g])) continue;
         t->w->failed[g].times++;
         t->w->failed[g].error = error;
     }
     window_changed(t->w);
-    window_leave(t->w, t->seat);
+    window_leave(t->w, t->seats);
 }
 
 static void end_task(task *t) {
@@ -227,7 +240,9 @@ static void *serve(void *unused) {
     pthread_mutex_lock(&lock);
     for (adopt(); tasks || !is_ending; adopt()) {
         if (!tasks) {
+            is_idle = true;
             pthread_cond_wait(&work, &lock);
+            is_idle = false;
             continue;
         }
         pthread_mutex_unlock(&lock);
@@ -283,6 +298,7 @@ void gather_stop(void) {
     curl_multi_wakeup(mirrors.multi);
     pthread_mutex_unlock(&lock);
     pthread_join(thread, NULL);
+    exchanges_stop();
     if (!hub_free(&mirrors)) return;
     for (server *it = servers; it < servers + server_count; it++) source_free(&it->at);
     curl_slist_free_all(how.headers);

@@ -1,10 +1,12 @@
 /* A blob that is read while it is fetched from mirrors that nobody trusts: the plugin without
  * nbdkit.
  *
- * A window is a store of a unit of the blob (bw_seat_new). Who reads finds a byte missing and
- * claims its group, and perhaps the groups beside it, for a task; or another has the claim. Either
- * way it waits until some claim of the window has ended, and reads again. A task carries out what a
- * plan of its window says: who is asked, who is asked beside one that is slow, who is false.
+ * A window is a unit of the blob, in which each group that is wanted has a store of its own
+ * (bw_seat_new): a read at random makes one of 64 KiB, and not of 1 MiB. Who reads finds a byte
+ * missing and claims its group, and perhaps the groups beside it, for a task; or another has the
+ * claim. Either way it waits until some claim of the window has ended, and reads again. A task
+ * carries out what a plan of its window says: who is asked, who is asked beside one that is slow,
+ * who is false.
  *
  * Windows, their seats and the list of tasks are under one lock. One thread talks to the mirrors,
  * and threads of a pool verify and commit; see fetch/http.h. */
@@ -40,18 +42,18 @@ int core_length(uint64_t *len); /* the certified one */
 int core_read(uint64_t at, uint8_t *out, size_t len);
 void core_ahead(uint64_t at, uint64_t len); /* these will be wanted */
 
-typedef struct seat {
-    struct seat *next;
-    bw_seat at;
-} seat;
+/* A seat of each group's store of a window; empty where none was wanted yet. */
+typedef struct seats {
+    struct seats *next;
+    bw_seat of[UNIT_GROUPS];
+} seats;
 
 typedef struct window {
     struct window *chained, *newer, *older; /* in its bucket; in the order of use */
     uint64_t number, ended;                 /* ended: how many times claims did */
-    unsigned pins;
-    bool is_in_making;
-    bw_seat first; /* empty until it is made */
-    seat *idle;
+    unsigned pins, stores;                  /* stores: how many it had when it was pinned last */
+    pthread_mutex_t making;                 /* of `first`, of which all others are split off */
+    seats first, *idle;
     pthread_cond_t changed;
     struct {
         unsigned times;
@@ -66,7 +68,8 @@ extern atomic_bool is_ending;
 uint64_t blob_len(void);
 unsigned window_chunks(uint64_t number);
 void window_changed(window *w);
-void window_leave(window *w, seat *it);
+void window_leave(window *w, seats *it);
+bw_seat *seat_at(window *w, seats *it, uint64_t group);
 void length_found(uint64_t len, int error);
 
 /* --- known.c: parents that are known to be true */
@@ -96,7 +99,7 @@ typedef struct exchange exchange;
 typedef struct task {
     struct task *next;
     window *w; /* NULL: it is about the length */
-    seat *seat;
+    seats *seats;
     uint64_t start, total;        /* the window's first byte; of the blob */
     uint64_t wanted[UNIT_GROUPS]; /* the chunks that it claims */
     bw_plan plan;                 /* of the window's chunks */
@@ -116,10 +119,11 @@ extern atomic_uint_fast64_t changes;
 
 int gather_start(void);
 void gather_stop(void);
-task *task_new(window *w, seat *of, const unsigned *needed, run groups, int *error);
+task *task_new(window *w, seats *of, const unsigned *needed, run groups, int *error);
 task *task_of_length(void);
 void task_post(task *t, bool is_urgent);
 void task_urge(const window *w);
+bool task_is_alone(const task *t);
 void task_must(task *t, bw_status of);
 uint64_t patience_ms(void);
 
@@ -129,5 +133,6 @@ void exchange_new(task *t, size_t number, run chunks);
 void exchange_free(exchange *e);
 void exchange_overtaken(exchange *e);
 void exchanges_move(task *t);
+void exchanges_stop(void);
 
 #endif

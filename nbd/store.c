@@ -3,8 +3,8 @@
 #include <malloc.h>
 #include <time.h>
 
-/* STORE_LEN: what a window takes of memory, with a few seats. */
-enum { BUCKETS = 4096, STORE_LEN = UNIT_CHUNKS * 1120 + 65536, STREAMS = 16, LOOK_MS = 100 };
+/* STORE_LEN: what a group's store takes of memory, with a few seats. */
+enum { BUCKETS = 4096, STORE_LEN = BW_GROUP_CHUNKS * 1120 + 32768, STREAMS = 16, LOOK_MS = 100 };
 enum { SEQUENTIAL = 3 };
 
 /* Reads that go on from where others ended: by position, since a copy comes by many connections. */
@@ -18,7 +18,8 @@ pthread_mutex_t lock = PTHREAD_MUTEX_INITIALIZER;
 atomic_bool is_ending;
 static pthread_cond_t room, opened;
 static window *buckets[BUCKETS], *newest, *oldest;
-static size_t window_count, window_most, ahead_most;
+static size_t store_count, store_most; /* those of a pinned window count as all of its groups */
+static size_t ahead_most;
 static stream streams[STREAMS];
 static uint64_t reads;
 static struct {
@@ -62,13 +63,18 @@ unsigned window_chunks(uint64_t number) {
     return (unsigned)least(chunks_of(length.len) - number * UNIT_CHUNKS, UNIT_CHUNKS);
 }
 
+static void free_seats(seats *it) {
+    for (int g = 0; g < UNIT_GROUPS; g++) bw_free(&it->of[g]);
+}
+
 static void window_free(window *w) {
-    for (seat *it = w->idle, *next; it; it = next) {
+    for (seats *it = w->idle, *next; it; it = next) {
         next = it->next;
-        bw_free(&it->at);
+        free_seats(it);
         free(it);
     }
-    bw_free(&w->first);
+    free_seats(&w->first);
+    pthread_mutex_destroy(&w->making);
     pthread_cond_destroy(&w->changed);
     free(w);
 }
@@ -90,7 +96,7 @@ static void window_drop(window *w) {
     while (*at != w) at = &(*at)->chained;
     *at = w->chained;
     unlink_from_use(w);
-    window_count--;
+    store_count -= w->stores;
     window_free(w);
 }
 
@@ -101,75 +107,79 @@ static window *window_new(uint64_t number) {
         free(w);
         return NULL;
     }
+    pthread_mutex_init(&w->making, NULL);
     w->number = number;
     w->chained = *at;
     *at = w;
     link_as_newest(w);
-    window_count++;
     return w;
 }
 
-/* Puts a seat back that claims nothing, if there is one, and ends a pin. */
-void window_leave(window *w, seat *it) {
+/* Puts seats back that claim nothing, if there are any, and ends a pin. A window that is left
+ * without a store is dropped. */
+void window_leave(window *w, seats *it) {
     if (it) {
         it->next = w->idle;
         w->idle = it;
     }
-    if (!--w->pins) pthread_cond_broadcast(&room);
+    if (--w->pins) return;
+    for (int g = w->stores = 0; g < UNIT_GROUPS; g++) w->stores += w->first.of[g].at != NULL;
+    store_count -= UNIT_GROUPS - w->stores;
+    if (!w->stores) window_drop(w);
+    pthread_cond_broadcast(&room);
 }
 
-/* Makes the store of a window that is pinned, outside of the lock. */
-static int window_make(window *w) {
-    const unsigned chunks = window_chunks(w->number);
-    bw_seat first = {0};
-    w->is_in_making = true;
-    pthread_mutex_unlock(&lock);
-    const bw_status r = bw_seat_new(&set->mode, set->root, w->number * UNIT_CHUNKS, chunks, &first);
-    pthread_mutex_lock(&lock);
-    w->first = first;
-    w->is_in_making = false;
-    pthread_cond_broadcast(&w->changed);
-    return r ? ENOMEM : 0;
+/* Whether there is memory for so many more stores, if need be that of windows that nobody has
+ * pinned, from the one that was used longest ago on. */
+static bool has_room(size_t more, const window *but) {
+    for (window *w = oldest, *next; w && store_count + more > store_most; w = next) {
+        next = w->newer;
+        if (!w->pins && w != but) window_drop(w);
+    }
+    return store_count + more <= store_most;
 }
 
-/* A window with a store, pinned. Where it has to be made, that takes the memory of a cold one.
- * Where all are pinned, or another makes it, the caller waits, who pins no other meanwhile, or is
- * answered NULL. */
+/* A window, pinned. Where there is no memory for its stores, since too many are pinned, the caller
+ * waits, who pins no other meanwhile, or is answered NULL. */
 static window *pin(uint64_t number, bool waits, int *error) {
-    window *w, *cold;
+    window *w;
     for (;;) {
         for (w = buckets[number % BUCKETS]; w && w->number != number;) w = w->chained;
-        for (cold = oldest; !w && cold && cold->pins;) cold = cold->newer;
-        if (w || window_count < window_most || cold) break;
+        if ((w && w->pins) || has_room(UNIT_GROUPS - (w ? w->stores : 0), w)) break;
         if (!waits || (*error = wait_for(&room))) return NULL;
     }
     if (w) {
         unlink_from_use(w);
         link_as_newest(w);
-    } else {
-        if (window_count >= window_most) window_drop(cold);
-        w = window_new(number);
-    }
-    if (!w) {
+    } else if (!(w = window_new(number))) {
         *error = ENOMEM;
         return NULL;
     }
-    w->pins++;
-    while (!w->first.at && !*error)
-        *error = !w->is_in_making ? window_make(w) : waits ? wait_for(&w->changed) : EAGAIN;
-    if (!*error) return w;
-    window_leave(w, NULL);
-    return NULL;
+    if (!w->pins++) store_count += UNIT_GROUPS - w->stores;
+    return w;
 }
 
-static seat *seat_of(window *w) {
-    seat *it = w->idle;
-    if (it) w->idle = it->next;
-    else if ((it = calloc(1, sizeof *it)) && bw_seat_split(&w->first, &it->at)) {
-        free(it);
-        it = NULL;
-    }
+static seats *seats_of(window *w) {
+    seats *it = w->idle;
+    if (!it) return calloc(1, sizeof *it);
+    w->idle = it->next;
     return it;
+}
+
+/* The seat of a group among a pinned window's seats: where there is none yet, it is made, and if
+ * need be the store. NULL: no memory. Not under the lock. */
+bw_seat *seat_at(window *w, seats *it, uint64_t group) {
+    const unsigned from = (unsigned)group * BW_GROUP_CHUNKS;
+    const unsigned chunks = (unsigned)least(window_chunks(w->number) - from, BW_GROUP_CHUNKS);
+    bw_seat *first = &w->first.of[group], *at = &it->of[group];
+    if (at->at) return at;
+    pthread_mutex_lock(&w->making);
+    bw_status r = BW_OK;
+    if (!first->at)
+        r = bw_seat_new(&set->mode, set->root, w->number * UNIT_CHUNKS + from, chunks, first);
+    if (!r) r = bw_seat_split(first, at);
+    pthread_mutex_unlock(&w->making);
+    return r ? NULL : at;
 }
 
 /* Some claims ended: who waits for a chunk of the window looks again. */
@@ -183,11 +193,13 @@ void window_changed(window *w) {
 /* Unless so much is on its way that there is no memory for more. */
 static void ahead_in(uint64_t number, run groups) {
     int error = 0;
-    if (task_count >= window_most / 2) return;
+    if (task_count >= store_most / UNIT_GROUPS / 2) return;
     window *w = pin(number, false, &error);
-    seat *it = w ? seat_of(w) : NULL;
+    seats *it = w ? seats_of(w) : NULL;
+    if (it) pthread_mutex_unlock(&lock);
     task *t = it ? task_new(w, it, NULL, groups, &error) : NULL;
-    if (t) task_post(t, false);
+    if (it) pthread_mutex_lock(&lock);
+    if (t) task_post(t, w->pins > 1); /* who has pinned it too may wait */
     else if (w) window_leave(w, it);
 }
 
@@ -232,44 +244,55 @@ void core_ahead(uint64_t at, uint64_t len) {
 
 /* --- Reading */
 
-/* A part of a window that is read, by a seat of its own. */
+/* A part of a window that is read, by seats of its own. */
 typedef struct reading {
     window *w;
-    seat *seat;
-    uint64_t at;
+    seats *seats;
+    uint64_t at; /* in the blob */
     uint8_t *out;
     size_t len;
     unsigned groups; /* that are asked for together */
     bool is_last;    /* its own task failed, or all were asked for the group, since the last look */
 } reading;
 
-/* Reads what is held: 0 where that is all, else EAGAIN. *moved: to another group than it was in. */
+/* The group of the window in which it goes on. */
+static unsigned group_of(const reading *r) { return (unsigned)(r->at / GROUP_LEN % UNIT_GROUPS); }
+
+/* Reads what is held: 0 where that is all, EAGAIN where some is missing, or ENOMEM. *moved: to
+ * another group than it was in. */
 static int read_held(reading *r, bool *moved) {
-    uint64_t missing;
-    const bw_status status = bw_seat_read(&r->seat->at, r->at, r->out, r->len, &missing);
-    if (status == BW_OK) return 0;
-    if (status != BW_MISSING) return EIO;
-    *moved = missing / GROUP_LEN != r->at / GROUP_LEN;
-    r->out += missing - r->at;
-    r->len -= missing - r->at;
-    r->at = missing;
-    return EAGAIN;
+    const unsigned began = group_of(r);
+    bw_status status = BW_OK;
+    while (r->len && !status) {
+        const uint64_t from = r->at % GROUP_LEN;
+        const size_t len = least(GROUP_LEN - from, r->len);
+        uint64_t until = from + len;
+        bw_seat *it = seat_at(r->w, r->seats, group_of(r));
+        if (!it) return ENOMEM;
+        status = bw_seat_read(it, from, r->out, len, &until);
+        if (status && status != BW_MISSING) return EIO;
+        r->out += until - from;
+        r->len -= until - from;
+        r->at += until - from;
+    }
+    *moved = group_of(r) != began;
+    return status ? EAGAIN : 0;
 }
 
 /* Has the group fetched of which something is missing, and waits until some claim has ended since
  * `ended`; the group had failed so many times. Under the lock. */
 static int wait_for_group(reading *r, uint64_t ended, unsigned times) {
-    const unsigned group = (unsigned)(r->at / GROUP_LEN);
+    const unsigned group = group_of(r);
     const run around = {group / r->groups * r->groups, r->groups};
     int error = 0;
     pthread_mutex_unlock(&lock);
-    task *t = task_new(r->w, r->seat, &group, around, &error);
+    task *t = task_new(r->w, r->seats, &group, around, &error);
     const bool is_own = t;
     pthread_mutex_lock(&lock);
     if (is_own) {
         r->w->pins++; /* the task's */
         task_post(t, true);
-        if (!(r->seat = seat_of(r->w))) error = ENOMEM;
+        if (!(r->seats = seats_of(r->w))) error = ENOMEM;
     } else if (error) {
         window_changed(r->w); /* what was claimed is free again */
     } else {
@@ -287,14 +310,14 @@ static int wait_for_group(reading *r, uint64_t ended, unsigned times) {
 static int read_part(reading *r) {
     for (int error;;) {
         const uint64_t ended = r->w->ended;
-        const unsigned times = r->w->failed[r->at / GROUP_LEN].times;
+        const unsigned times = r->w->failed[group_of(r)].times;
         bool moved = false;
         pthread_mutex_unlock(&lock);
         error = read_held(r, &moved);
         pthread_mutex_lock(&lock);
         if (error != EAGAIN) return error;
         if (moved) r->is_last = false;
-        else if (r->is_last) return r->w->failed[r->at / GROUP_LEN].error;
+        else if (r->is_last) return r->w->failed[group_of(r)].error;
         else if ((error = wait_for_group(r, ended, times))) return error;
     }
 }
@@ -313,14 +336,14 @@ int core_read(uint64_t at, uint8_t *out, size_t len) {
     const unsigned groups = goes_on(at, len) ? UNIT_GROUPS : groups_around(at, len);
     if (len > UNIT_LEN) ahead(at, at + least(len, ahead_most * UNIT_LEN));
     for (size_t done = 0; done < len && !error;) {
-        const uint64_t from = (at + done) % UNIT_LEN;
-        const size_t take = least(UNIT_LEN - from, len - done);
-        window *w = pin((at + done) / UNIT_LEN, true, &error);
+        const uint64_t from = at + done;
+        const size_t take = least(UNIT_LEN - from % UNIT_LEN, len - done);
+        window *w = pin(from / UNIT_LEN, true, &error);
         if (!w) break;
-        reading r = {.w = w, .seat = seat_of(w), .at = from, .out = out + done, .len = take};
+        reading r = {.w = w, .seats = seats_of(w), .at = from, .out = out + done, .len = take};
         r.groups = groups;
-        error = r.seat ? read_part(&r) : ENOMEM;
-        window_leave(w, r.seat);
+        error = r.seats ? read_part(&r) : ENOMEM;
+        window_leave(w, r.seats);
         done += take;
     }
     pthread_mutex_unlock(&lock);
@@ -362,9 +385,13 @@ int core_length(uint64_t *len) {
 int core_start(const options *of) {
     const uint64_t most = of->cache / 3 * 2 / STORE_LEN;
     set = of;
-    mallopt(M_ARENA_MAX, 1); /* what a window took the next one takes */
-    window_most = most < 2 ? 2 : (size_t)most;
-    ahead_most = (size_t)least(of->readahead / UNIT_LEN, window_most / 2);
+    /* what a store, a buffer or libcurl took the next one takes, and no page is cleared anew */
+    mallopt(M_ARENA_MAX, 1);
+    mallopt(M_MMAP_THRESHOLD, 4 * UNIT_LEN);
+    mallopt(M_TRIM_THRESHOLD, 8 * UNIT_LEN);
+    mallopt(M_TOP_PAD, UNIT_LEN);
+    store_most = most < 2 * UNIT_GROUPS ? 2 * UNIT_GROUPS : (size_t)most;
+    ahead_most = (size_t)least(of->readahead / UNIT_LEN, store_most / UNIT_GROUPS / 2);
     is_ending = false;
     if (!cond_new(&room) || !cond_new(&opened)) return ENOMEM;
     return gather_start();
