@@ -475,8 +475,14 @@ BW_USE bw_status bw_feed_finish(bw_feed *feed, const uint8_t *rest, size_t rest_
 /* --- The store that threads share: each thread has a seat of its own, and the store lives until
  * its last seat is freed. All that it holds comes from encodings accepted under its root. Chunks
  * are in groups of 64, and a mask is of one group: bit j stands for chunk 64 * group + j. Chunks,
- * groups and the offsets of a read are counted from the store's first chunk, and the range of a
- * slice from the blob's. Each call but bw_seat_new may return BW_NO_HANDLE. */
+ * groups and the offsets of bw_seat_read are counted from the store's first chunk, and the range of
+ * a slice and the offsets of bw_seat_read_at from the blob's. Each call but bw_seat_new may return
+ * BW_NO_HANDLE.
+ *
+ * A call that begins after another has ended comes after it, whichever seats the two use. A thread
+ * that learned by a lock, or by a condition variable, that a chunk was committed can read it with
+ * any seat. A seat isn't tied to a thread: it may wait in a pool for whoever needs one next, and
+ * whichever seat of a store is left keeps all that the store holds. */
 
 /* Makes a store of `capacity` chunks of a blob, 1 to 65,536, from chunk `first_chunk` on, and its
  * first seat. With 0 for `first_chunk` it is the store of a blob, else of a part of one.
@@ -590,6 +596,14 @@ BW_USE bw_status bw_seat_length(bw_seat *seat, uint64_t *len) BW_NONNULL(1, 2);
  * BW_MISSING: the first byte that isn't held is at *missing, and those before it are filled in. */
 BW_USE bw_status bw_seat_read(bw_seat *seat, uint64_t from, uint8_t *out, size_t out_len,
                               uint64_t *missing) BW_NONNULL(1, 5);
+
+/* Fills `out` with the bytes from byte `at` of the blob on.
+ *
+ * BW_MISSING: the first byte that isn't held is byte *missing of the blob, and those before it are
+ * filled in. A byte outside the store's part of the blob isn't held, so a store of another part
+ * returns BW_MISSING, and never wrong bytes. */
+BW_USE bw_status bw_seat_read_at(bw_seat *seat, uint64_t at, uint8_t *out, size_t out_len,
+                                 uint64_t *missing) BW_NONNULL(1, 5);
 
 /* Writes the encoding of the slice (start, len) to the front of `out`, with its length in *used.
  * The store may be unfinished.

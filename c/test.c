@@ -419,6 +419,19 @@ static void parts(const uint8_t *blob, const uint8_t *root, const holder *good) 
     WANT(bw_seat_read(&seat, 5, out, GROUP_LEN - 5, &at) == BW_OK &&
          memcmp(out, blob + start + 5, GROUP_LEN - 5) == 0);
     WANT(bw_seat_read(&seat, 5, out, GROUP_LEN, &at) == BW_MISSING && at == GROUP_LEN);
+    /* By offsets of the blob: what the part has is read, and nothing before it or after it. */
+    memset(out, 7, GROUP_LEN);
+    WANT(bw_seat_read_at(&seat, start + 5, out, GROUP_LEN - 5, &at) == BW_OK &&
+         memcmp(out, blob + start + 5, GROUP_LEN - 5) == 0);
+    WANT(bw_seat_read_at(&seat, start + 5, out, GROUP_LEN, &at) == BW_MISSING &&
+         at == start + GROUP_LEN && out[GROUP_LEN - 5] == 7);
+    const uint64_t end = start + chunks * 1024;
+    out[0] = 7;
+    WANT(bw_seat_read_at(&seat, start - 1, out, 2, &at) == BW_MISSING && at == start - 1 &&
+         bw_seat_read_at(&seat, end, out, 1, &at) == BW_MISSING && at == end && out[0] == 7);
+    WANT(bw_seat_read_at(&seat, UINT64_MAX, out, 1, &at) == BW_MISSING && at == UINT64_MAX &&
+         bw_seat_read_at(&seat, 0, NULL, 0, &at) == BW_MISSING && at == 0 &&
+         bw_seat_read_at(&seat, start, NULL, 0, &at) == BW_OK);
     /* What another seat claims stays its own, and of a slice that goes beyond the part on both
      * sides the rest is left out. */
     WANT(bw_seat_split(&seat, &other) == BW_OK && bw_seat_give(&seat, 1, 6, &mask) == BW_OK &&

@@ -264,16 +264,15 @@ static int read_held(reading *r, bool *moved) {
     const unsigned began = group_of(r);
     bw_status status = BW_OK;
     while (r->len && !status) {
-        const uint64_t from = r->at % GROUP_LEN;
-        const size_t len = least(GROUP_LEN - from, r->len);
-        uint64_t until = from + len;
+        const size_t len = least(GROUP_LEN - r->at % GROUP_LEN, r->len);
+        uint64_t until = r->at + len;
         bw_seat *it = seat_at(r->w, r->seats, group_of(r));
         if (!it) return ENOMEM;
-        status = bw_seat_read(it, from, r->out, len, &until);
+        status = bw_seat_read_at(it, r->at, r->out, len, &until);
         if (status && status != BW_MISSING) return EIO;
-        r->out += until - from;
-        r->len -= until - from;
-        r->at += until - from;
+        r->out += until - r->at;
+        r->len -= until - r->at;
+        r->at = until;
     }
     *moved = group_of(r) != began;
     return status ? EAGAIN : 0;

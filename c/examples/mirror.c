@@ -68,9 +68,9 @@ int main(int count, char **words) {
         if (!from)
             must(!bw_seat_new(&last.mode, last.root, at / BW_CHUNK_LEN, WINDOW, &seat),
                  "no memory");
-        if (bw_seat_read(&seat, from, bytes, len, &missing))
+        if (bw_seat_read_at(&seat, at, bytes, len, &missing))
             fill(&seat, (uint32_t)(from / GROUP_LEN), at, words + 2);
-        must(!bw_seat_read(&seat, from, bytes, len, &missing), "no copy has all of a group");
+        must(!bw_seat_read_at(&seat, at, bytes, len, &missing), "no copy has all of a group");
         must(fwrite(bytes, 1, len, stdout) == len, "it can't be written");
     }
     must(!fflush(stdout), "it can't be written");

@@ -93,6 +93,7 @@ STATUS_FUNCTIONS: Dict[str, Tuple[Any, ...]] = {
     "bw_seat_settle": (_handle, *_bytes, _u64),
     "bw_seat_length": (_handle, _u64),
     "bw_seat_read": (_handle, u64, *_bytes, _u64),
+    "bw_seat_read_at": (_handle, u64, *_bytes, _u64),
     "bw_seat_slice": (_handle, u64, u64, *_bytes, _size, _node),
     "bw_seat_finish": (_handle, *_bytes, _size),
     "bw_seat_gather": (_handle, u32, u32, *_bytes, _report),

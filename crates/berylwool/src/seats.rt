@@ -10,7 +10,7 @@ ghost use Rattle.store_shared.specs.Seats.{IsGroupOf, IsSeatOf, fixed_of};
 ghost use Rattle.store_core.specs.Knowledge.{ArePartsOf, Called, opening_view};
 ghost use Rattle.berylwool.specs.Handles.{HasSeat, SeatDid, SeatParts};
 ghost use Rattle.berylwool.specs.Modes.{IsKnown, mode_of};
-ghost use Rattle.berylwool.specs.Calls.{HasSettled, IsNoSliceOf, IsSliceOf, Reads, slice_piece};
+ghost use Rattle.berylwool.specs.Calls.{HasSettled, IsNoSliceOf, IsSliceOf, LacksAt, Reads, ReadsAt, slice_piece};
 
 use crate::checking::told;
 use crate::handle::{BwHandle, put, take, with_held};
@@ -20,7 +20,7 @@ use crate::status::{
     DIFFERS, MISSING, NO_HANDLE, NO_MEMORY, NO_MODE, NO_TAIL, NOT_THE_ROOT, ROOM, TOO_LARGE,
     UNFINISHED,
 };
-use b3tree::{Hash, hash};
+use b3tree::{CHUNK_LEN, Hash, hash};
 use bao_check::check_slice;
 use std::alloc::Global;
 use std::mem;
@@ -292,6 +292,52 @@ pub extern "C" fn bw_seat_read(
         alloc,
         Seat,
         |it| filled(&it.store, &mut it.seat, at, out, missing)
+    )
+}
+
+// Fills a buffer, as `bw_seat_read_at` does.
+fn filled_at(store: &Assembly, seat: &mut Seat, at: u64, out: &mut [u8], missing: &mut u64) -> u32
+    requires { IsSeatOf store.now seat.old }
+    ensures of { IsSeatOf store.now seat.new }
+    ensures all { result ≡ 0 → ReadsAt (fixed_of store.now).base at out.old out.new None seat.old seat.new }
+    ensures part { result ≡ 1204 → LacksAt (fixed_of store.now).base at out.old out.new missing.new seat.old seat.new }
+    ensures status { result ≢ 0 → result ≡ 1204 }
+{
+    let base = store.base();
+    if at / (CHUNK_LEN as u64) < base {
+        *missing = at;
+        return MISSING;
+    }
+    let first = CHUNK_LEN as u64 * base;
+    match store.read(seat, at - first, out) {
+        Ok(()) => 0,
+        Err(place) => {
+            *missing = first.saturating_add(place.0);
+            MISSING
+        }
+    }
+}
+
+/// Fills `out` with the bytes from byte `at` of the blob on.
+#[unsafe(no_mangle)]
+pub extern "C" fn bw_seat_read_at(
+    alloc: Global,
+    seat: &mut BwHandle,
+    at: u64,
+    out: &mut [u8],
+    missing: &mut u64,
+) -> u32
+    ensures all { result ≡ 0 → SeatDid (λ store old new. ReadsAt (fixed_of store).base at out.old out.new None old new) seat.old.held seat.new.held }
+    ensures part { result ≡ 1204 → SeatDid (λ store old new. LacksAt (fixed_of store).base at out.old out.new missing.new old new) seat.old.held seat.new.held }
+    ensures no_seat { result ≡ 1202 ↔ (¬ HasSeat (λ _ _. Unit) seat.old.held) }
+    ensures status { result ≢ 0 → result ≢ 1204 → result ≡ 1202 }
+    ensures same { result ≡ 1202 → seat.new.held ≡ seat.old.held }
+{
+    with_held!(
+        seat,
+        alloc,
+        Seat,
+        |it| filled_at(&it.store, &mut it.seat, at, out, missing)
     )
 }
 
