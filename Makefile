@@ -349,11 +349,14 @@ FETCH_FLAGS := -std=c11 -O2 -Wall -Wextra -pthread -D_FILE_OFFSET_BITS=64
 # The C library of bw-fetch: the one that is built here or, with BERYLWOOL=installed and where there is no rt, the one that pkg-config finds.
 BERYLWOOL ?= $(if $(shell command -v rt),out/libberylwool.a,installed)
 IS_INSTALLED = $(filter installed,$(BERYLWOOL))
+
+# It serves others if libmicrohttpd is there (of Debian: libmicrohttpd-dev); else --serve is refused.
+SERVES := $(shell pkg-config --exists libmicrohttpd 2>/dev/null && echo libmicrohttpd)
 FETCH_NEEDS = libcurl $(if $(IS_INSTALLED),berylwool)
 
 out/bw-fetch: $(wildcard fetch/*.c fetch/*.h) c/berylwool.h out/flags out/fetch-flags $(filter-out installed,$(BERYLWOOL))
-	@cc $(FETCH_FLAGS) $(if $(IS_INSTALLED),,-Ic) $(CPPFLAGS) $(CFLAGS) $$(pkg-config --cflags $(FETCH_NEEDS)) $(filter %.c %.a %.so,$^) \
-	    $(LDFLAGS) $$(pkg-config --libs $(FETCH_NEEDS)) -o $@
+	@cc $(FETCH_FLAGS) $(if $(SERVES),-DBW_SERVES) $(if $(IS_INSTALLED),,-Ic) $(CPPFLAGS) $(CFLAGS) $$(pkg-config --cflags $(FETCH_NEEDS) $(SERVES)) \
+	    $(filter %.c %.a %.so,$^) $(LDFLAGS) $$(pkg-config --libs $(FETCH_NEEDS) $(SERVES)) -o $@
 
 fetch:
 	$(NEEDS_CURL)

@@ -6,8 +6,11 @@
 #include "fetch.h"
 
 #include <getopt.h>
+#include <poll.h>
 #include <signal.h>
 #include <sys/resource.h>
+
+static const double DAYS = 1e9;
 
 enum { MIRRORS_MOST = 1000, TOGETHER = 8, NAP_MS = 20, HANGS_MS = 300 };
 
@@ -46,6 +49,7 @@ static int make_fetch(fetch **f, char **argv) {
         errno = EBADF;
         return file_fault("standard output");
     }
+    if (!strcmp(argv[1], "-") && given.serve) return usage("a pipe can't be served");
     int status = fetch_new(f, &all, &given, argv[0], argv[1]);
     if (status) return status;
     (*f)->has_own_lines = !given.outboards;
@@ -54,7 +58,8 @@ static int make_fetch(fetch **f, char **argv) {
         status = add_url(*f, it->url, it->as);
     for (char **url = argv + 2; *url && !status; url++) status = add_mirror(*f, *url);
     if (given.mirrors_file && !status) status = each_line(given.mirrors_file, add_mirror, *f);
-    return status || (*f)->mirror_count || given.check ? status : usage("there is no URL");
+    const bool needs_none = (*f)->mirror_count || given.check || given.serve;
+    return status || needs_none ? status : usage("there is no URL");
 }
 
 /* The status of several is that of the worst. */
@@ -156,20 +161,35 @@ static void allow_descriptors(void) {
     setrlimit(RLIMIT_NOFILE, &most);
 }
 
+/* Serves what is whole, until a signal or until the time is up. */
+static void serve_on(bool has_mirror) {
+    const double wanted = given.serve_for, seconds = wanted >= 0 ? wanted : has_mirror ? 0 : DAYS;
+    const uint64_t until = now_ms() + (uint64_t)(seconds * 1000);
+    while (!interrupted && now_ms() < until) poll(NULL, 0, NAP_MS);
+}
+
 int main(int argc, char **argv) {
     open_standard();
     watch_signals();
     allow_descriptors();
     const int status = read_options(argc, argv);
     if (status) return status == GOES_ON ? DONE : status;
+    if (given.serve && (given.manifest || given.check))
+        return usage("--serve is for one file that is fetched or there");
     if (given.manifest && argc > optind) return usage("--manifest has all files");
     if (given.manifest && !(manifest = fopen(given.manifest, "re")))
         return file_fault(given.manifest);
     if (!hub_new(&all, &given.set)) return no_memory();
     worst = given.manifest ? DONE : make_fetch(&running[0], argv + optind);
+    if (!worst && given.serve)
+        worst = serve_start(given.serve, running[0]->out.root, given.serve_rate);
+    const bool has_mirror = !worst && running[0] && running[0]->mirror_count;
     if (worst) drop(&running[0]);
     for (uint64_t wake; turn_all(&wake);) hub_wait(&all, wake);
     fflush(stdout);
+    if (!worst && given.serve) serve_on(has_mirror);
+    serve_end();
     if (!hub_free(&all)) _exit(worst);
+    shelf_close();
     return worst;
 }

@@ -18,6 +18,7 @@ int fetch_new(fetch **it, hub *on, const options *set, const char *root, const c
     f->drain_bytes = malloc(DRAIN_LEN);
     if (!f->name || !f->drain_bytes || bw_hasher_new(&set->mode, &f->hasher)) return no_memory();
     const int status = out_new(&f->out, f->name, bytes);
+    f->out.served_as = set->serve ? &set->mode : NULL;
     return status == NO_MEMORY ? no_memory() : status;
 }
 
@@ -229,7 +230,8 @@ static void certify(fetch *f) {
     let_all_in(f);
     bw_free(&f->length);
     const int status = out_certify(&f->out);
-    if (status) fetch_stop(f, status);
+    if (status) return fetch_stop(f, status);
+    if (f->out.served_as) shelf_certify();
 }
 
 static bw_plan_policy policy_of(const fetch *f, uint32_t patience_ms) {
@@ -251,7 +253,9 @@ static int begin_anew(fetch *f, uint64_t total) {
         return NO_MEMORY;
     if (!f->out.is_pipe) f->drained = 0;
     for (peer *it = f->peers; it; it = it->next) it->is_holder = false;
-    return f->out.fd < 0 || f->out.total != total ? out_open(&f->out, total) : 0;
+    const int status = f->out.fd < 0 || f->out.total != total ? out_open(&f->out, total) : 0;
+    const bool is_served = !status && f->out.served_as;
+    return is_served && !shelf_open(f->out.fd, f->out.fd, total, total) ? NO_MEMORY : status;
 }
 
 static void limit(fetch *f) {
@@ -452,7 +456,8 @@ static void give_up(fetch *f, uint64_t now) {
 static void run_compare(job *of) {
     fetch *f = of->with;
     f->drain_status = out_compare(&f->out, &f->hasher, f->drain_bytes, &f->total);
-    if (f->drain_status == FILE_FAULT && f->set->check) file_fault(f->out.path);
+    if (f->drain_status == FILE_FAULT && (f->set->check || !f->mirror_count))
+        file_fault(f->out.path);
 }
 
 static void was_compared(job *of) {
@@ -460,7 +465,7 @@ static void was_compared(job *of) {
     f->is_draining = false;
     if (f->status != GOES_ON) return;
     f->is_settled = f->drain_status == DONE;
-    if (f->is_settled || f->set->check) return fetch_stop(f, f->drain_status);
+    if (f->is_settled || f->set->check || !f->mirror_count) return fetch_stop(f, f->drain_status);
     const int status = out_resume(&f->out);
     if (status > 0) return fetch_stop(f, status);
     if (!status && f->out.total <= f->set->most) return start_resuming(f);

@@ -44,9 +44,11 @@ typedef struct options {
     bw_mode mode;
     uint64_t connections, retries, most; /* a longer claim than `most` is refused */
     double patience, max_time;           /* seconds; a max_time of 0 is none */
+    double serve_for;                    /* seconds after the end; less than 0: not given */
+    uint64_t serve_rate;
     bool verbose, quiet, json, check;
     int progress; /* a descriptor, or -1 */
-    const char *key_file, *context, *mirrors_file, *manifest;
+    const char *key_file, *context, *mirrors_file, *manifest, *serve;
     mirror *named; /* of --bao, --plain and --outboard */
     size_t named_count, outboards;
 } options;
@@ -54,6 +56,26 @@ typedef struct options {
 extern options given;
 
 int read_options(int argc, char **argv);
+
+/* --- serve.c: what others are served. One blob is, of one fetch. */
+
+enum { COMING_MOST = 16 };
+
+#define HAS_HEADER "Berylwool-Has"
+#define COMING_HEADER "Berylwool-Coming"
+
+bool shelf_open(int blob, int parents, uint64_t base, uint64_t total);
+void shelf_certify(void);
+void shelf_mark(uint64_t group, uint64_t mask);
+void shelf_mark_parent(uint64_t outboard_at);
+void shelf_mark_all(void);
+void shelf_move_parents(int file);
+bool shelf_has_parents(void);
+void shelf_announce(const uint64_t units[COMING_MOST]);
+const char *shelf_self(void);
+int serve_start(const char *where, const uint8_t root[BW_HASH_LEN], uint64_t rate);
+void serve_end(void);
+void shelf_close(void);
 
 /* --- out.c: OUT while it comes together: OUT.part.fetch beside it, which is renamed at the end, or
  * for a pipe a window of the blob in memory. The file has the blob, with holes; after it the
@@ -70,6 +92,7 @@ typedef struct output {
     uint8_t root[BW_HASH_LEN];
     int fd;
     atomic_bool is_full, is_over; /* there is no room for parents; a pipe is written to no more */
+    const bw_mode *served_as;     /* the shelf has it; or NULL */
     uint64_t total;
     uint8_t *window;
     uint64_t window_len;

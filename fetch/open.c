@@ -235,6 +235,7 @@ static void keep_last(exchange *e) {
         memcpy(e->image + last % UNIT_CHUNKS * BW_CHUNK_LEN, e->chunk, e->chunk_len);
     else if (!out_put(&f->out, last * BW_CHUNK_LEN, &(struct iovec){e->chunk, e->chunk_len}, 1))
         return fetch_stop(f, FILE_FAULT);
+    if (f->out.served_as) shelf_mark(group, mask_in(group, (run){last, 1}));
     fetch_keep(f, e->from->holder, group, mask_in(group, (run){last, 1}), of_group);
 }
 

@@ -10,6 +10,7 @@ options given = {.connections = 2,
                  .patience = 300,
                  .most = (uint64_t)1 << 34,
                  .progress = -1,
+                 .serve_for = -1,
                  .set = {.stall = 5, .agent = "bw-fetch"}};
 
 int usage(const char *what) { return say(USAGE, "usage: %s (bw-fetch --help tells more)", what); }
@@ -56,7 +57,18 @@ static bool is_help, is_version;
 
 typedef struct row {
     const char *name, *what; /* the name is followed by what its word is */
-    enum { FLAG, CHOICE, TEXT, NUMBER, SECONDS, URL_OF, A_HEADER, HEADERS_IN, A_DESCRIPTOR } form;
+    enum {
+        FLAG,
+        CHOICE,
+        TEXT,
+        NUMBER,
+        SECONDS,
+        PERIOD,
+        URL_OF,
+        A_HEADER,
+        HEADERS_IN,
+        A_DESCRIPTOR
+    } form;
     char letter;
     void *to;
     double least, most; /* of a number; least: what a choice is, or of what kind a URL */
@@ -72,6 +84,13 @@ static const row rows[] = {
     {"mirrors FILE", "more URLs, one a line; # begins a comment", TEXT, .to = &given.mirrors_file},
     {"manifest FILE", "many files: a line for each, ROOT OUT URL .., where OUT is a file", TEXT,
      .to = &given.manifest},
+    {"serve PORT", "serves what is verified of OUT; at 127.0.0.1, unless it is ADDR:PORT", TEXT,
+     .to = &given.serve},
+    {"serve-for SECONDS",
+     "how long it serves once OUT is whole, or forever (0; without any URL forever)", PERIOD, 0,
+     &given.serve_for, 0, DAYS},
+    {"serve-rate BYTES", "serves at most so many a second, all together", NUMBER, 0,
+     &given.serve_rate, 1, RATE_MOST},
     {"check", "asks no network, and tells whether OUT has the root", FLAG, .to = &given.check},
     {"connections N", "connections for each mirror, 1 to 8 (2)", NUMBER, 'c', &given.connections, 1,
      8},
@@ -157,6 +176,10 @@ static int take(const row *it, char *text) {
     case TEXT: *(const char **)it->to = text; break;
     case NUMBER:
         ok = read_number(text, (uint64_t)it->most, number) && *number >= (uint64_t)it->least;
+        break;
+    case PERIOD:
+        *(double *)it->to = it->most;
+        ok = !strcmp(text, "forever") || read_seconds(text, it->least, it->most, it->to);
         break;
     case SECONDS: ok = read_seconds(text, it->least, it->most, it->to); break;
     case URL_OF: return add_named(text, (kind)it->least);

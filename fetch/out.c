@@ -64,6 +64,65 @@ bool out_has_root(const output *it, bw_hasher *hasher) {
            !memcmp(found, it->root, BW_HASH_LEN);
 }
 
+/* --- What is served of OUT once it is whole: its parents aren't in it, but in OUT.obao */
+
+/* The first bytes of OUT.obao, for free, if they are the outboard encoding; else NULL. */
+static uint8_t *true_outboard(const output *it, int fd, uint64_t total) {
+    const size_t len = bw_outboard_len(total);
+    uint64_t at, claimed = 0;
+    bw_outline outline = {0};
+    uint8_t *bytes = malloc(len);
+    const bool ok = bytes && read_at(fd, 0, bytes, len) == len &&
+                    !bw_outline_new(it->served_as, it->root, bytes, len, &outline, &at) &&
+                    !bw_outline_length(&outline, &claimed) && claimed == total;
+    bw_free(&outline);
+    if (ok) return bytes;
+    free(bytes);
+    return NULL;
+}
+
+/* Puts OUT on the shelf, which is open and has the root. */
+static void shelve(const output *it, int fd, uint64_t total) {
+    char *path = NULL;
+    const int named = asprintf(&path, "%s.obao", it->path) < 0
+                          ? -1
+                          : open(path, O_RDONLY | O_CLOEXEC | O_NONBLOCK);
+    uint8_t *bytes = named < 0 ? NULL : true_outboard(it, named, total);
+    if (!bytes && total > BW_CHUNK_LEN)
+        say(0, "%s.obao isn't its outboard encoding: only the plain file is served", it->path);
+    if (shelf_open(fd, bytes ? named : -1, 0, total)) {
+        shelf_mark_all();
+        shelf_certify();
+    }
+    if (named >= 0) close(named);
+    free(bytes);
+    free(path);
+}
+
+/* Copies the parents from OUT.part.fetch to OUT.obao, and has them served from there. */
+static void keep_parents(const output *it) {
+    const uint64_t len = bw_outboard_len(it->total);
+    uint8_t bytes[PIPE_LEN];
+    char *path = NULL, *part = NULL;
+    int fd = -1;
+    bool ok = shelf_has_parents() && asprintf(&path, "%s.obao", it->path) > 0 &&
+              asprintf(&part, "%s.obao.part.fetch", it->path) > 0;
+    if (ok && !unlink(part)) errno = 0;
+    if (ok) fd = open(part, O_RDWR | O_CREAT | O_EXCL | O_CLOEXEC | O_NOFOLLOW, it->mode);
+    ok = fd >= 0;
+    for (uint64_t at = 0, n; at < len && ok; at += n) {
+        n = least(len - at, sizeof bytes);
+        ok = read_at(it->fd, it->total + at, bytes, n) == n && write_at(fd, at, bytes, n) == n;
+    }
+    ok = ok && !rename(part, path);
+    if (!ok) say(0, "%s.obao can't be kept: only the plain file is served now", it->path);
+    shelf_move_parents(ok ? fd : -1);
+    if (fd >= 0) close(fd);
+    if (fd >= 0 && !ok) unlink(part);
+    free(path);
+    free(part);
+}
+
 /* Hashes OUT as it is, and tells its length. DONE, LACKING, or FILE_FAULT by errno. */
 int out_compare(const output *it, bw_hasher *hasher, uint8_t bytes[DRAIN_LEN], uint64_t *len) {
     const int fd = it->is_there ? open(it->path, O_RDONLY | O_CLOEXEC | O_NONBLOCK) : -1;
@@ -75,9 +134,11 @@ int out_compare(const output *it, bw_hasher *hasher, uint8_t bytes[DRAIN_LEN], u
         ok = !errno && !bw_hasher_update(hasher, bytes, n);
     }
     const int fault = errno;
+    const bool is_same = ok && out_has_root(it, hasher);
+    if (is_same && it->served_as) shelve(it, fd, *len);
     if (fd >= 0) close(fd);
     errno = fault;
-    return !ok ? FILE_FAULT : out_has_root(it, hasher) ? DONE : LACKING;
+    return !ok ? FILE_FAULT : is_same ? DONE : LACKING;
 }
 
 /* --- OUT.part.fetch: this user's, of one name, written by one run. What isn't so is removed. */
@@ -166,6 +227,7 @@ int out_certify(output *it) {
     write_tail(it, bytes);
     it->is_full |= write_at(it->fd, it->total, bytes + 8, BW_LENGTH_LEN) < BW_LENGTH_LEN ||
                    write_at(it->fd, end, bytes, TAIL_LEN) < TAIL_LEN;
+    if (it->is_full && it->served_as) shelf_move_parents(-1);
     return ftruncate(it->fd, (off_t)(it->is_full ? it->total : end + TAIL_LEN))
                ? file_fault(it->part)
                : 0;
@@ -188,6 +250,7 @@ static bool give_way(output *it) {
         return false;
     }
     atomic_store(&it->is_full, true);
+    if (it->served_as) shelf_move_parents(-1);
     return !ftruncate(it->fd, (off_t)it->total);
 }
 
@@ -237,6 +300,7 @@ bool out_pass(output *it, const uint8_t *bytes, size_t len) {
  * the new name is on the disk as well, is left as it is. */
 bool out_finish(output *it) {
     if (it->is_pipe) return true;
+    if (it->served_as && it->total > BW_CHUNK_LEN) keep_parents(it);
     if (it->is_there && fchown(it->fd, it->was.st_uid, it->was.st_gid))
         errno = 0; /* as far as it is allowed */
     if (fchmod(it->fd, it->mode) || ftruncate(it->fd, (off_t)it->total) || fsync(it->fd) ||
@@ -253,8 +317,10 @@ bool out_finish(output *it) {
 /* --- Parents: byte `at` of the outboard encoding is byte `at` after the blob */
 
 static void put_parents(const output *it, uint64_t at, const uint8_t *bytes, size_t len) {
-    if (len && !it->is_pipe && !atomic_load(&it->is_full))
-        (void)write_at(it->fd, it->total + at, bytes, len);
+    if (!len || it->is_pipe || atomic_load(&it->is_full)) return;
+    const bool ok = write_at(it->fd, it->total + at, bytes, len) == len;
+    for (size_t i = 0; i < len && ok && it->served_as; i += BW_PARENT_LEN)
+        shelf_mark_parent(at + i);
 }
 
 /* Keeps the parents of an accepted slice that weren't known. A pipe keeps only those above units,

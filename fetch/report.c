@@ -100,12 +100,13 @@ static void print_json(fetch *f) {
 
 static void print_why(const fetch *f) {
     const bool lacks = f->status == LACKING || f->status == UNREACHED;
+    const bool is_asked_alone = f->set->check || !f->mirror_count;
     const uint64_t chunks = chunks_of(f->total), claimed = f->claimed_above, most = f->set->most;
     if (f->status == INTERRUPTED) say(0, "interrupted");
-    if (f->set->check && f->status == LACKING) say(0, "%s doesn't have the root", f->name);
+    if (is_asked_alone && f->status == LACKING) say(0, "%s doesn't have the root", f->name);
     else if (lacks && f->is_settled)
         say(0, "unfinished: %" PRIu64 " KiB of %" PRIu64 " are lacking", f->chunks_open, chunks);
-    else if (lacks && !f->set->check) say(0, "no mirror certifies a length");
+    else if (lacks && !is_asked_alone) say(0, "no mirror certifies a length");
     if (lacks && !f->is_settled && claimed)
         say(0, "%" PRIu64 " bytes were claimed, and --max is %" PRIu64, claimed, most);
     if (f->status == UNREACHED) say(0, "the network failed, or the time was up: try again later");

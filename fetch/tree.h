@@ -57,6 +57,10 @@ static inline uint64_t group_after(run it) {
     return it.count ? (end_of(it) - 1) / BW_GROUP_CHUNKS + 1 : 0;
 }
 
+static inline uint64_t groups_of(uint64_t total) {
+    return (chunks_of(total) - 1) / BW_GROUP_CHUNKS + 1;
+}
+
 uint64_t length_claimed(const uint8_t claim[BW_LENGTH_LEN]);
 void claim_length(uint8_t claim[BW_LENGTH_LEN], uint64_t total);
 run run_of_unit(uint64_t total, uint64_t unit);

@@ -29,6 +29,7 @@ static void keep(exchange *e, run of) {
         memcpy(image, there[i].iov_base, there[i].iov_len);
     if (!image && e->from != &f->own && !out_put(&f->out, start, there, count))
         e->failed_to_write = true;
+    else if (f->out.served_as) shelf_mark(group, mask_in(group, of));
     e->kept[group % UNIT_GROUPS] |= mask_in(group, of);
     e->taken++;
 }

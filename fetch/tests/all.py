@@ -33,8 +33,15 @@ def run(*words, **more):
         sys.exit(f"all.py: status {ran.returncode}: {' '.join(words)}")
 
 
+def is_there(library):
+    return subprocess.run(["pkg-config", "--exists", library]).returncode == 0
+
+
 def asked_of_curl(word):
-    return subprocess.run(["pkg-config", word, "libcurl"], check=True, capture_output=True, text=True).stdout.split()
+    """And of libmicrohttpd, if it is there: without it --serve is refused."""
+    serves = is_there("libmicrohttpd")
+    found = subprocess.run(["pkg-config", word, "libcurl", *["libmicrohttpd"] * serves], check=True, capture_output=True, text=True).stdout.split()
+    return [*found, *["-DBW_SERVES"] * (serves and word == "--cflags")]
 
 
 def build(compiler, name, flags, sources):
@@ -58,6 +65,15 @@ def compile_old():
             (include / "curl" / it.name).write_text(re.sub(r"(?m)^#define LIBCURL_VERSION_NUM .*$", "#define LIBCURL_VERSION_NUM 0x074400", it.read_text()))
     for it in sorted((ROOT / "fetch").glob("*.c")):
         run("cc", *WARNINGS, "-Wno-deprecated-declarations", f"-I{include}", f"-I{ROOT}/c", "-c", it, "-o", OUT / "old.o")
+
+
+def build_without_server():
+    """Without libmicrohttpd all else is there, and --serve says what is lacking."""
+    run("cc", *WARNINGS, f"-I{ROOT}/c", *(it for it in asked_of_curl("--cflags") if it != "-DBW_SERVES"), *sorted((ROOT / "fetch").glob("*.c")), ARCHIVE,
+        *(it for it in asked_of_curl("--libs") if "microhttpd" not in it), "-o", OUT / "serves-not")
+    ran = subprocess.run([OUT / "serves-not", "--serve", "0", "0" * 64, OUT / "none"], capture_output=True, text=True)
+    if ran.returncode != 2 or "without libmicrohttpd" not in ran.stderr:
+        sys.exit(f"all.py: --serve without libmicrohttpd: status {ran.returncode}: {ran.stderr}")
 
 
 def no_wall_clock():
@@ -119,6 +135,7 @@ def main(drawn="4000"):
     else:
         missing.append("clang")
     compile_old()
+    build_without_server()
     no_wall_clock()
     build_example()
     compare_manual(plain)
@@ -126,6 +143,9 @@ def main(drawn="4000"):
         missing.append("clang -fsanitize=fuzzer")
     run(sys.executable, HERE / "hostile.py", plain, mkbao)
     run(sys.executable, HERE / "options.py", plain, mkbao)
+    if not is_there("libmicrohttpd"):
+        missing.append("libmicrohttpd")
+    run(sys.executable, HERE / "peers.py", plain, mkbao)
     run(sys.executable, HERE / "drawn.py", plain, mkbao, drawn)
     run(sys.executable, HERE / "drawn.py", "--refuse", refuses, mkbao)
     for name, flag in SANITIZERS.items():
@@ -137,6 +157,7 @@ def main(drawn="4000"):
         os.environ["BW_DELAYS"] = "1"                       # of drawn.py each draw has its own
         run(sys.executable, HERE / "hostile.py", program, mkbao, *(f"-{it}" for it in (*LARGE, "near ranges")))
         run(sys.executable, HERE / "options.py", program, mkbao)
+        run(sys.executable, HERE / "peers.py", program, mkbao, "-little memory")
         run(sys.executable, HERE / "drawn.py", program, mkbao, int(drawn) // 10 + 1)
     for name in missing:
         print(f"not run, since it isn't here: {name}")
