@@ -12,7 +12,7 @@
 
 static const double DAYS = 1e9;
 
-enum { MIRRORS_MOST = 1000, TOGETHER = 8, NAP_MS = 20, HANGS_MS = 300 };
+enum { TOGETHER = 8, NAP_MS = 20, HANGS_MS = 300 };
 
 static hub all;
 static fetch *running[TOGETHER];
@@ -21,17 +21,17 @@ static char *text; /* a line of it */
 static size_t room;
 static int worst;
 static bool has_output; /* standard output wasn't closed */
-static volatile sig_atomic_t interrupted;
+static volatile sig_atomic_t interrupted, has_hung_up;
 
 /* --- What is to be fetched */
 
 static int add_url(fetch *f, const char *url, kind as) {
     if (f->mirror_count == MIRRORS_MOST) return usage("at most 1000 mirrors");
-    peer *m = fetch_add(f, url, as);
+    peer *m = fetch_add(f, url, as, NULL);
     if (!m) return no_memory();
     if (as != PLAIN || !f->has_own_lines) return DONE;
     char *line = url_tailed(url, ".obao");
-    if (line) m->line = fetch_add(f, line, OUTBOARD);
+    if (line) m->line = fetch_add(f, line, OUTBOARD, NULL);
     free(line);
     return m->line ? DONE : no_memory();
 }
@@ -58,7 +58,12 @@ static int make_fetch(fetch **f, char **argv) {
         status = add_url(*f, it->url, it->as);
     for (char **url = argv + 2; *url && !status; url++) status = add_mirror(*f, *url);
     if (given.mirrors_file && !status) status = each_line(given.mirrors_file, add_mirror, *f);
-    const bool needs_none = (*f)->mirror_count || given.check || given.serve;
+    for (size_t i = 0; i < given.peer_count && !status; i++) {
+        if ((*f)->mirror_count == MIRRORS_MOST) return usage("at most 1000 mirrors");
+        status = peers_add(*f, given.peers[i], false);
+    }
+    if (!status) status = peers_read(*f, true);
+    const bool needs_none = (*f)->mirror_count || given.check || given.serve || given.peers_file;
     return status || needs_none ? status : usage("there is no URL");
 }
 
@@ -100,6 +105,11 @@ static void on_signal(int number) {
     interrupted = 1;
 }
 
+static void on_hangup(int number) {
+    (void)number;
+    has_hung_up = 1;
+}
+
 /* A second signal ends the program at once. One that is ignored stays so. A file that may not
  * become longer is a fault like others. */
 static void watch_signals(void) {
@@ -131,11 +141,14 @@ static bool turn_all(uint64_t *wake) {
     const uint64_t now = now_ms();
     bool some = false;
     *wake = now + 1000;
+    const bool rereads = has_hung_up;
+    has_hung_up = 0;
     for (fetch **f = running; f < running + TOGETHER; f++) {
         start_next(f);
         if (!*f) continue;
         some = true;
         if (interrupted) fetch_stop(*f, INTERRUPTED);
+        if (rereads && (*f)->status == GOES_ON) peers_read(*f, true);
         const bool is_over = turn_one(*f, now);
         *wake = least(*wake, is_over ? now + NAP_MS : (*f)->wake);
         if (is_over && fetch_is_quiet(*f)) drop(f);
@@ -173,6 +186,7 @@ int main(int argc, char **argv) {
     watch_signals();
     allow_descriptors();
     const int status = read_options(argc, argv);
+    if (given.peers_file) signal(SIGHUP, on_hangup);
     if (status) return status == GOES_ON ? DONE : status;
     if (given.serve && (given.manifest || given.check))
         return usage("--serve is for one file that is fetched or there");
@@ -183,7 +197,7 @@ int main(int argc, char **argv) {
     worst = given.manifest ? DONE : make_fetch(&running[0], argv + optind);
     if (!worst && given.serve)
         worst = serve_start(given.serve, running[0]->out.root, given.serve_rate);
-    const bool has_mirror = !worst && running[0] && running[0]->mirror_count;
+    const bool has_mirror = !worst && running[0] && (running[0]->mirror_count || given.peers_file);
     if (worst) drop(&running[0]);
     for (uint64_t wake; turn_all(&wake);) hub_wait(&all, wake);
     fflush(stdout);

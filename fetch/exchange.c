@@ -23,7 +23,10 @@ static void told(leg *of, leg_end as) {
     if (as == LEG_MORE) return exchange_move(e);
     if (of == &e->flow) {
         const booking all = booking_of(f, e->from);
-        if (of->at_end) fetch_report(f, &all, bw_plan_lacks, all_from(f, e->unit), NULL);
+        if (of->at_end) {
+            fetch_report(f, &all, bw_plan_lacks, all_from(f, e->unit), NULL);
+            peers_lack(f, e->from, all_from(f, e->unit));
+        }
         e->flow_end = as;
         if (e->step != UNIT) return;
     }
@@ -226,7 +229,10 @@ void exchange_end(exchange *e, uint32_t outcome, uint64_t later_ms) {
     f->changes++;
     if (outcome == BW_ENDED_LATER) leave_alone(f, e->from, later_ms);
     if (e->opener) fetch_close(f, &e->opener->booked, outcome, later_ms);
+    const bool was_open = e->of_from.is_open;
+    const unsigned faults = e->from->at.faults;
     fetch_close(f, &e->of_from, e->orphaned ? BW_ENDED_CUT : outcome, later_ms);
+    if (was_open) peers_close(f, e->from, &e->of_from, e->from->at.faults > faults);
 }
 
 /* What an end of the bytes is to the plans. A file that comes only whole is streamed at last, and
@@ -457,21 +463,26 @@ void exchange_move(exchange *e) {
 /* What the plan wants of a mirror now. Whether it was asked. */
 static bool ask_one(fetch *f, peer *m, uint64_t now) {
     booking of = booking_of(f, m);
-    uint64_t until = fetch_book(f, &of, now);
+    uint64_t until = peers_choose(f, m) ? peers_book(f, m, &of, now) : fetch_book(f, &of, now);
     m->wait = until;
     m->asked = now;
     m->seen = f->changes;
     if (!of.is_open) return false;
     exchange *e = exchange_new(f, m, &of);
-    if (!e) return false;
+    if (!e) {
+        peers_close(f, m, &of, true);
+        return false;
+    }
     e->of_from = of;
     e->chunks = e->proving = of.chunks;
     if (e->streams) stream_on(e);
     else if (m->at.kind == COMBINED || pick_line(e, true, now, &until))
         exchange_unit(e, e->proving);
     else {
-        if (until == UINT64_MAX) fetch_report(f, &of, bw_plan_lacks, of.chunks, NULL);
-        else m->later = until;
+        if (until == UINT64_MAX) {
+            fetch_report(f, &of, bw_plan_lacks, of.chunks, NULL);
+            peers_lack(f, m, of.chunks);
+        } else m->later = until;
         exchange_end(e, BW_ENDED_CUT, 0);
         return until == UINT64_MAX;
     }

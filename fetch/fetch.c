@@ -2,6 +2,7 @@
 
 enum { PAUSE_MS = 100, ROUND_MS = 1000, ROUND_MOST_MS = 10000, LOOK_MS = 1000 };
 enum { BAD_ENOUGH = 4, LOST_ENOUGH = 3 };
+enum { PEERS_EACH = 4 }; /* so many peers are in as one other mirror */
 
 /* --- Made and freed */
 
@@ -19,23 +20,31 @@ int fetch_new(fetch **it, hub *on, const options *set, const char *root, const c
     if (!f->name || !f->drain_bytes || bw_hasher_new(&set->mode, &f->hasher)) return no_memory();
     const int status = out_new(&f->out, f->name, bytes);
     f->out.served_as = set->serve ? &set->mode : NULL;
+    f->swarm.is_on = set->peer_count || set->peers_file;
     return status == NO_MEMORY ? no_memory() : status;
 }
 
-/* Local mirrors come before those of the network, and these before outboard encodings. */
-static int place_of(const peer *it) { return it->at.kind == OUTBOARD ? 2 : !it->at.is_local; }
+/* Local mirrors come before those of the network, then peers, then outboard encodings. */
+static int place_of(const peer *it) {
+    return it->at.kind == OUTBOARD ? 3 : it->member ? 2 : !it->at.is_local;
+}
 
-/* NULL: there is no memory. */
-peer *fetch_add(fetch *f, const char *url, kind as) {
+/* Adds a mirror, which is a peer if it comes with what is known of it: only that may be done after
+ * the fetch has begun. NULL: there is no memory. */
+peer *fetch_add(fetch *f, const char *url, kind as, struct member *with) {
     peer *it = calloc(1, sizeof *it), **at = &f->peers;
     const unsigned most = as == OUTBOARD ? IN_MOST : (unsigned)f->set->connections;
     if (!it || !source_new(&it->at, url, as, most)) {
         free(it);
         return NULL;
     }
+    it->of = f;
+    it->member = with;
     while (*at && place_of(*at) <= place_of(it)) at = &(*at)->next;
     it->next = *at;
     *at = it;
+    if (f->has_begun && f->next_in == it->next) f->next_in = it;
+    if (f->has_begun && f->unopened == it->next) f->unopened = it;
     if (as != OUTBOARD) f->mirror_count++;
     else if (!f->lines) f->lines = it;
     return it;
@@ -52,6 +61,7 @@ void fetch_free(fetch *f) {
     for (peer *it = f->peers, *next; it; it = next) {
         next = it->next;
         source_free(&it->at);
+        peers_free(it);
         free(it->spine);
         free(it);
     }
@@ -65,6 +75,8 @@ void fetch_free(fetch *f) {
     bw_free(&f->hasher);
     out_free(&f->out);
     free(f->own.at.shown);
+    free(f->swarm.units);
+    free(f->swarm.left);
     free(f->drain_bytes);
     free(f->known);
     free(f->name);
@@ -132,6 +144,7 @@ void fetch_stop(fetch *f, int status) {
     f->status = status;
     atomic_store(&f->out.is_over, status != DONE);
     for (exchange *e = f->exchanges; e; e = e->next) exchange_cut(e);
+    peers_stop(f);
 }
 
 /* Ends all that is under way. Whether no job works on any of it. */
@@ -181,7 +194,8 @@ static void let_in(fetch *f, peer *it) {
         !bw_plan_add_holder(plan, &it->holder) && !bw_plan_rank(plan, it->holder, it->rank);
     if (!it->is_in) f->hindrance = NO_MEMORY;
     const booking of = booking_of(f, it);
-    if (it->is_in && is_line) fetch_report(f, &of, bw_plan_lacks, all_from(f, 0), NULL);
+    if (it->is_in && (is_line || peers_choose(f, it)))
+        fetch_report(f, &of, bw_plan_lacks, all_from(f, 0), NULL);
 }
 
 /* Lets one more mirror in, with its outboard encoding; where all are in, one more of these. False:
@@ -201,13 +215,19 @@ bool fetch_admit(fetch *f) {
     return true;
 }
 
+static size_t share_of(const peer *it) { return it->member ? 1 : PEERS_EACH; }
+
 /* Whether some mirror is in. Those that lie or fail leave their place to others. */
 static bool admit_all(fetch *f) {
     size_t in = 0;
     bool some = false;
     for (peer *m = f->peers; m != f->next_in; m = m->next)
-        in += m->is_in && !is_doubtful(m) && !has_failed(m) && !fetch_has_left_out(f, m);
-    for (; in < IN_MOST && f->next_in != f->lines; in++) fetch_admit(f);
+        if (m->is_in && !is_doubtful(m) && !has_failed(m) && !fetch_has_left_out(f, m))
+            in += share_of(m);
+    while (in < IN_MOST * PEERS_EACH && f->next_in != f->lines) {
+        in += share_of(f->next_in);
+        fetch_admit(f);
+    }
     for (peer *m = f->peers; m != f->next_in; m = m->next) some |= m->is_in;
     return some;
 }
@@ -247,7 +267,7 @@ static int begin_anew(fetch *f, uint64_t total) {
     f->chunks_open = chunks_of(total);
     free(f->known);
     f->known = calloc(f->unit_count, sizeof *f->known);
-    if (!f->known || bw_plan_new(total, &of_chunks, &f->chunks) ||
+    if (!f->known || !peers_begin(f) || bw_plan_new(total, &of_chunks, &f->chunks) ||
         (f->lines && bw_plan_new(total, &of_parents, &f->parents)) ||
         (!f->out.is_pipe && bw_hasher_new(&f->set->mode, &f->hasher)))
         return NO_MEMORY;
@@ -408,7 +428,8 @@ static void ask_lines_again(fetch *f) {
     f->changes++;
     for (peer *m = f->peers; m != f->lines; m = m->next) {
         const booking of = booking_of(f, m);
-        if (m->is_holder && m->at.kind == PLAIN)
+        if (peers_choose(f, m)) peers_forget(m);
+        else if (m->is_holder && m->at.kind == PLAIN)
             fetch_report(f, &of, bw_plan_has, all_from(f, 0), NULL);
     }
 }
@@ -490,6 +511,7 @@ static void step(fetch *f, uint64_t now) {
     if (f->status == GOES_ON && f->is_settled) drain_turn(f);
     if (f->status != GOES_ON || !f->is_settled || f->is_resuming) return;
     admit_all(f);
+    peers_turn(f, now);
     exchange_ask_all(f, now);
 }
 

@@ -16,6 +16,7 @@
 #include <sys/stat.h>
 
 enum {
+    MIRRORS_MOST = 1000,
     WINDOW_UNITS = 16,  /* of a pipe */
     IN_MOST = 16,       /* mirrors, and outboard encodings, that are asked at a time */
     OVERTAKE_MS = 1000, /* what doesn't come so long is asked of another */
@@ -46,9 +47,12 @@ typedef struct options {
     double patience, max_time;           /* seconds; a max_time of 0 is none */
     double serve_for;                    /* seconds after the end; less than 0: not given */
     uint64_t serve_rate;
+    double origin_last; /* how long peers are waited for, in seconds */
+    const char **peers;
+    size_t peer_count;
     bool verbose, quiet, json, check;
     int progress; /* a descriptor, or -1 */
-    const char *key_file, *context, *mirrors_file, *manifest, *serve;
+    const char *key_file, *context, *mirrors_file, *manifest, *serve, *peers_file;
     mirror *named; /* of --bao, --plain and --outboard */
     size_t named_count, outboards;
 } options;
@@ -139,6 +143,9 @@ typedef struct peer {
     uint64_t good, bad;      /* groups that were taken, and refused */
     unsigned lost;           /* requests that others overtook */
     struct peer *beside;     /* of an outboard encoding: the next mirror to be asked beside it */
+    struct member *member;   /* it is a peer; or NULL */
+    struct fetch *of;        /* whose it is */
+    uint8_t *vain;           /* for each unit whether nothing of it is to be had there; or NULL */
     uint8_t *spine, *head; /* the parents above its last chunk, then what it begins with, or NULL */
     size_t head_len;
 } peer;
@@ -191,6 +198,16 @@ typedef struct exchange {
     uint8_t bytes[]; /* what comes, and room for these */
 } exchange;
 
+/* What is known of all peers together. */
+typedef struct swarm {
+    bool is_on;
+    size_t members, relied_on;
+    struct unit *units;
+    uint64_t *left, left_count; /* units of which something is lacking */
+    uint64_t counted_at, read_at;
+    struct stat file; /* of the list of peers, when it was read */
+} swarm;
+
 struct fetch {
     hub *hub;
     const options *set;
@@ -224,6 +241,7 @@ struct fetch {
     int drain_status;
     job drain;
     uint8_t *drain_bytes;
+    swarm swarm;
     known *known; /* of each unit but the first the parent whose right child begins there */
 };
 
@@ -231,7 +249,7 @@ struct fetch {
 typedef bw_status report(bw_plan *, size_t, uint64_t, uint64_t);
 
 int fetch_new(fetch **it, hub *on, const options *set, const char *root, const char *name);
-peer *fetch_add(fetch *f, const char *url, kind as);
+peer *fetch_add(fetch *f, const char *url, kind as, struct member *with);
 void fetch_free(fetch *f);
 bool fetch_turn(fetch *f, uint64_t now);
 void fetch_stop(fetch *f, int status);
@@ -273,6 +291,20 @@ void exchange_move(exchange *e);
 void open_all(fetch *f, uint64_t now);
 bool open_believe(fetch *f, uint64_t now);
 void open_move(exchange *e);
+
+/* --- peers.c */
+
+int peers_add(fetch *f, const char *url, bool is_of_file);
+int peers_read(fetch *f, bool must);
+bool peers_begin(fetch *f);
+bool peers_choose(const fetch *f, const peer *it);
+uint64_t peers_book(fetch *f, peer *m, booking *of, uint64_t now);
+void peers_close(fetch *f, peer *m, const booking *of, bool failed);
+void peers_lack(fetch *f, peer *m, run of);
+void peers_turn(fetch *f, uint64_t now);
+void peers_stop(fetch *f);
+void peers_forget(peer *it);
+void peers_free(peer *it);
 
 /* --- verify.c */
 

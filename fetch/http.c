@@ -25,6 +25,7 @@ static bool is_held_up(hub *it) {
 static size_t on_header(char *line, size_t one, size_t len, void *with) {
     leg *it = with;
     (void)one;
+    if (it && it->of->hear) it->of->hear(it->of->hearer, line, len);
     return it && answer_header(&it->answer, line, len) ? len : 0;
 }
 

@@ -123,6 +123,9 @@ typedef struct source {
     long code;                 /* the last answer's status */
     bool is_far;               /* the last fault was the network's, or may pass */
     unsigned faults;
+    void (*hear)(void *hearer, const char *line,
+                 size_t len); /* each header of an answer; or NULL */
+    void *hearer;
     char why[CURL_ERROR_SIZE];
 } source;
 

@@ -80,7 +80,8 @@ static void begin(fetch *f, opener *it) {
     e->opener = it;
     e->by = it->by;
     if (it->by) return open_beside(e);
-    e->parts = (pieces){1, {{.len = HEAD_LEN, .bytes = e->head}}};
+    const size_t len = it->from->member ? BW_LENGTH_LEN : HEAD_LEN; /* which it has in any case */
+    e->parts = (pieces){1, {{.len = len, .bytes = e->head}}};
     exchange_get(e, it->from, &e->parts);
 }
 
@@ -148,7 +149,7 @@ static bool pick_unit(exchange *e) {
  * unit of the blob as well. The first pieces certify; of the last unit all do. */
 static bool plan_opening(exchange *e) {
     const source *of = &e->from->at;
-    e->opens_unit = !of->is_local && !of->faults && pick_unit(e);
+    e->opens_unit = !of->is_local && !of->faults && !e->fetch->swarm.is_on && pick_unit(e);
     const bool is_end = e->opens_unit && e->unit + 1 == units_of(e->claimed);
     if (!is_end && !add_last(e, &e->parts, COMBINED)) return false;
     e->certifying = e->parts.count;

@@ -11,6 +11,7 @@ options given = {.connections = 2,
                  .most = (uint64_t)1 << 34,
                  .progress = -1,
                  .serve_for = -1,
+                 .origin_last = 5,
                  .set = {.stall = 5, .agent = "bw-fetch"}};
 
 int usage(const char *what) { return say(USAGE, "usage: %s (bw-fetch --help tells more)", what); }
@@ -51,6 +52,14 @@ static int add_named(const char *url, kind as) {
     return DONE;
 }
 
+static int add_peer(const char *url) {
+    const char **more = realloc(given.peers, (given.peer_count + 1) * sizeof *more);
+    if (!more) return no_memory();
+    given.peers = more;
+    more[given.peer_count++] = url;
+    return DONE;
+}
+
 /* --- The options */
 
 static bool is_help, is_version;
@@ -64,6 +73,7 @@ typedef struct row {
         NUMBER,
         SECONDS,
         PERIOD,
+        A_PEER,
         URL_OF,
         A_HEADER,
         HEADERS_IN,
@@ -84,13 +94,21 @@ static const row rows[] = {
     {"mirrors FILE", "more URLs, one a line; # begins a comment", TEXT, .to = &given.mirrors_file},
     {"manifest FILE", "many files: a line for each, ROOT OUT URL .., where OUT is a file", TEXT,
      .to = &given.manifest},
-    {"serve PORT", "serves what is verified of OUT; at 127.0.0.1, unless it is ADDR:PORT", TEXT,
-     .to = &given.serve},
+    {"serve PORT", "serves over HTTP what is verified of OUT; at 127.0.0.1, unless it is ADDR:PORT",
+     TEXT, .to = &given.serve},
     {"serve-for SECONDS",
      "how long it serves once OUT is whole, or forever (0; without any URL forever)", PERIOD, 0,
      &given.serve_for, 0, DAYS},
     {"serve-rate BYTES", "serves at most so many a second, all together", NUMBER, 0,
      &given.serve_rate, 1, RATE_MOST},
+    {"peer URL",
+     "another bw-fetch that serves this blob, finished or not; /ROOT.bao may be left out; may be "
+     "given again",
+     A_PEER, .to = NULL},
+    {"peers-file FILE", "more of them, one a line; read again when it changes, or on SIGHUP", TEXT,
+     .to = &given.peers_file},
+    {"origin-last SECONDS", "how long other mirrors aren't asked for what peers have or get (5)",
+     SECONDS, 0, &given.origin_last, 0, DAYS},
     {"check", "asks no network, and tells whether OUT has the root", FLAG, .to = &given.check},
     {"connections N", "connections for each mirror, 1 to 8 (2)", NUMBER, 'c', &given.connections, 1,
      8},
@@ -144,7 +162,8 @@ enum { ROWS = sizeof rows / sizeof *rows };
 static const char before[] =
     "usage: bw-fetch [OPTION ..] ROOT OUT URL ..\n"
     "       bw-fetch [OPTION ..] --manifest FILE\n"
-    "       bw-fetch --check ROOT OUT\n\n"
+    "       bw-fetch --check ROOT OUT\n"
+    "       bw-fetch --serve [ADDR:]PORT ROOT OUT\n\n"
     "Gathers the blob with the BLAKE3 hash ROOT (64 hexadecimal digits) from mirrors that nobody "
     "trusts, and\nwrites it to OUT, or to standard output where OUT is -. A URL (http, https or a "
     "local path) whose path ends\n"
@@ -183,6 +202,7 @@ static int take(const row *it, char *text) {
         break;
     case SECONDS: ok = read_seconds(text, it->least, it->most, it->to); break;
     case URL_OF: return add_named(text, (kind)it->least);
+    case A_PEER: return add_peer(text);
     case A_HEADER: return add_header(NULL, text);
     case HEADERS_IN: return each_line(text, add_header, NULL);
     case A_DESCRIPTOR:

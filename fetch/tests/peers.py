@@ -22,6 +22,7 @@ import time
 
 sys.dont_write_bytecode = True
 import hostile
+import mirrors
 from hostile import Place, want
 
 LENGTHS = [0, 1, 1023, 1024, 1025, 65_536, 65_537, 131_073, 1_048_577, 3_000_000]
@@ -332,8 +333,176 @@ def limited(tools, length=2_000_000):
             want(time.monotonic() - began > 3, "it isn't limited")
 
 
+# --- Peers
+
+@contextlib.contextmanager
+def liar(place, mode):
+    """A peer that says it has all, and is as the mode of mirrors.py for what it gives."""
+    class Liar(mirrors.Mirror):
+        def send_response(self, code, message=None):
+            super().send_response(code, message)
+            self.send_header("Berylwool-Has", "1 " + "f" * (len(place.blob) // GROUP // 4 + 1))
+            self.send_header("Berylwool-Coming", "ffffffffffffffff " + " ".join(map(str, range(16))))
+
+    them = mirrors.Mirrors(place.folder, [mode], Liar)
+    try:
+        yield f"http://127.0.0.1:{them.ports[0]}/blob.bao"
+    finally:
+        them.end()
+
+
+def from_peers_alone(tools, length=9_000_000):
+    """Two unfinished peers have it together. Who names them gets it from both, and from nobody else; who is named before it serves is asked later."""
+    with tempfile.TemporaryDirectory() as folder, tempfile.TemporaryDirectory() as other:
+        place, second = Place(folder, tools, length), Place(other, tools, length)
+        try:
+            ports = free_ports(1)
+            place.put("peers", b"# none yet\n")
+            fetch = subprocess.Popen([*place.fetch, "--patience", str(LONGEST), "--peer", f"http://127.0.0.1:{ports[0]}", "--peers-file", place.folder / "peers", place.root,
+                                      place.folder / "got"], stderr=subprocess.PIPE, text=True)
+            halves = place.serve("bao@some=1 bao@never"), second.serve("bao@some=5 bao@never")
+            with serving(place, "--stall", "600", "-c", "1", "--", *halves[0]) as (one, _), serving(second, "--stall", "600", "-c", "1", "--serve", f"127.0.0.1:{ports[0]}", "--", *halves[1]):
+                place.put("peers", f"http://127.0.0.1:{one}/\n".encode())
+                _, said = fetch.communicate(timeout=LONGEST)
+                want(fetch.returncode == 0 and (place.folder / "got").read_bytes() == place.blob, f"status {fetch.returncode}: {said}")
+        finally:
+            place.end()
+            second.end()
+
+
+def free_ports(count):
+    them = [socket.socket() for _ in range(count)]
+    for it in them:
+        it.setsockopt(socket.SOL_SOCKET, socket.SO_REUSEADDR, 1)
+        it.bind(("127.0.0.1", 0))
+    ports = [it.getsockname()[1] for it in them]
+    for it in them:
+        it.close()
+    return ports
+
+
+def own_name(tools, length=3_000_000):
+    """A program that is among its own peers is no hindrance, and an ordinary server may be a peer."""
+    with tempfile.TemporaryDirectory() as folder:
+        place = Place(folder, tools, length)
+        try:
+            url, port = place.serve("bao bao@flip"), free_ports(1)[0]
+            ran = subprocess.run([*place.fetch, "--serve", str(port), "--origin-last", "600", "--peer", f"http://127.0.0.1:{port}", place.root, place.out, url[0]], capture_output=True, timeout=LONGEST)
+            want(ran.returncode == 0 and place.out.read_bytes() == place.blob, f"status {ran.returncode}: {ran.stderr}")
+            for words in (["--peer", url[0]], ["--peer", url[1], "--peer", url[0]]):
+                ran = subprocess.run([*place.fetch, *words, place.root, "-"], capture_output=True, timeout=LONGEST)
+                want(ran.returncode == 0 and ran.stdout == place.blob, f"{words}: status {ran.returncode}: {ran.stderr}")
+        finally:
+            place.end()
+
+
+def origin_is_last(tools, length=9_000_000):
+    """What a peer has isn't asked of an origin, and what it hasn't is."""
+    with tempfile.TemporaryDirectory() as folder:
+        place = Place(folder, tools, length)
+        try:
+            make_seed(place)
+            with serving(place) as (port, _):
+                wait_for(port, place, lambda headers: True)
+                urls = place.serve("bao")
+                ran = subprocess.run([*place.fetch, "--origin-last", "600", "--peer", f"http://127.0.0.1:{port}", place.root, place.folder / "got", *urls], capture_output=True, timeout=LONGEST)
+                want(ran.returncode == 0, f"status {ran.returncode}: {ran.stderr}")
+                given = sum(end - start for it in place.requests(urls[0]) for start, end in it)
+                want(given < 3_000_000, f"{given} bytes came from the origin")
+        finally:
+            place.end()
+
+
+def lying_peers(tools, length=9_000_000):
+    """Peers that lie about what they have, get and give cost no more than their time: the origin gives it."""
+    for mode in ("noise", "flip", "e404", "e503", "never", "close", "stall", "shifted", "endless", "trunc", "nothttp", "headers", "busy=1"):
+        with tempfile.TemporaryDirectory() as folder:
+            place = Place(folder, tools, length)
+            try:
+                with liar(place, mode) as url:
+                    for out in (place.out, "-"):
+                        ran = subprocess.run([*place.fetch, "-v", "--origin-last", "0.5", "--peer", url, place.root, out, *place.serve("bao")], capture_output=True, timeout=LONGEST)
+                        got = ran.stdout if out == "-" else place.out.read_bytes() if place.out.exists() else None
+                        want(ran.returncode == 0 and got == place.blob, f"{mode}: status {ran.returncode}: {ran.stderr.decode()[-2000:]}")
+            finally:
+                place.end()
+
+
+def hostile_maps(tools, length=3_000_000):
+    """Maps and lists that no server writes."""
+    dice = random.Random(3)
+    odd = ["", " ", "0 ffff", "1", "1 ", "-1 ff", "4294967296 ff", "1 " + "f" * 60_000, "999999999 f", "1 zzzz", "x" * 5000, "1 " + "f" * 4096, "7 \xff\xff", "1 fffffffffffffffffffff g"]
+    lists = ["", "a", "a b c", "ffffffffffffffff 0 18446744073709551615 -1 99999999999999999999999 x 1 1 1 1 1 1 1 1 1 1 1 1 1 1 1 1 1 1 1 1 1 1", "x" * 9000]
+
+    class Odd(mirrors.Mirror):
+        def send_response(self, code, message=None):
+            super().send_response(code, message)
+            for _ in range(dice.randrange(1, 3)):
+                self.send_header("Berylwool-Has", dice.choice(odd))
+            self.send_header("Berylwool-Coming", dice.choice(lists))
+
+    with tempfile.TemporaryDirectory() as folder:
+        place = Place(folder, tools, length)
+        them = mirrors.Mirrors(place.folder, ["good", "flip"], Odd)
+        try:
+            for _ in range(8):
+                place.out.unlink(missing_ok=True)
+                peers = [word for port in them.ports for word in ("--peer", f"http://127.0.0.1:{port}/blob.bao")]
+                ran = subprocess.run([*place.fetch, "--origin-last", "0.2", *peers, place.root, place.out, *place.serve("bao")], capture_output=True, timeout=LONGEST)
+                want(ran.returncode == 0 and place.out.read_bytes() == place.blob, f"status {ran.returncode}: {ran.stderr}")
+        finally:
+            them.end()
+            place.end()
+
+
+def swarm(tools, draws=range(6)):
+    """Drawn swarms of peers that lie, stop, end and come back. Each that stays ends with the blob."""
+    for seed in draws:
+        run_swarm(tools, seed)
+
+
+def run_swarm(tools, seed):
+    dice = random.Random(seed)
+    length, count = dice.choice((100_000, 1_048_577, 5_000_000, 12_000_000)), dice.randrange(3, 7)
+    with tempfile.TemporaryDirectory() as folder, contextlib.ExitStack() as stack:
+        place = Place(folder, tools, length)
+        stack.callback(place.end)
+        modes = [dice.choice(("noise", "flip", "e503", "never", "stall", "trunc", f"to={length // 2}")) for _ in range(dice.randrange(3))]
+        liars = [stack.enter_context(liar(place, mode)) for mode in modes]
+        origin = place.serve("bao" + dice.choice(("", "@slow=4000000")))
+        ports = free_ports(count)
+        urls = [f"http://127.0.0.1:{port}" for port in ports] + liars
+        place.put("peers", "".join(f"{it}\n" for it in urls).encode())
+
+        def start(number, has_origin):
+            words = ["--peers-file", place.folder / "peers"] if number % 2 else [word for at, it in enumerate(urls) if at != number for word in ("--peer", it)]
+            return subprocess.Popen([*place.fetch, "-v", "--origin-last", "0.5", "--patience", str(LONGEST), "--serve", str(ports[number]), "--serve-for", "forever", *words, place.root,
+                                     place.folder / f"got{number}", *origin * has_origin], stderr=open(place.folder / f"said{number}", "wb"), env={**os.environ, "BW_DELAYS": str(seed + 1)})
+
+        with_origin = [number == 0 or dice.random() < 0.5 for number in range(count)]
+        them = [start(number, with_origin[number]) for number in range(count)]
+        for _ in range(dice.randrange(4)):                      # one ends at a drawn moment, and comes back: 0 is there all the time
+            number = dice.randrange(1, count)
+            time.sleep(dice.random() * 0.3)
+            them[number].send_signal(dice.choice((signal.SIGTERM, signal.SIGKILL)))
+            them[number].wait(LONGEST)
+            them[number] = start(number, with_origin[number])
+        end = time.monotonic() + LONGEST
+        got = [place.folder / f"got{number}" for number in range(count)]
+        said = [place.folder / f"said{number}" for number in range(count)]
+        while not all("ok " in it.read_text() for it in said) and time.monotonic() < end and not any(it.poll() not in (None, 0) for it in them):
+            time.sleep(0.05)
+        for it in them:
+            it.send_signal(signal.SIGTERM)
+        ended = [it.wait(LONGEST) for it in them]
+        for number in range(count):
+            text = said[number].read_text()
+            right = ended[number] == 0 and got[number].exists() and got[number].read_bytes() == place.blob and "Sanitizer" not in text and "runtime error" not in text
+            want(right, f"draw {seed}, {length} bytes, {modes}: {number} of {count}: status {ended[number]}: {text[-2500:]}")
+
+
 CASES = {it.__doc__.split(".")[0].split(",")[0].rstrip(): it for it in (serves_all, nothing_else, words_of_serve, serves_what_is_there, serves_to_the_end, hostile_requests,
-                                                           readers_cost_no_fetch, limited)}
+                                                           readers_cost_no_fetch, limited, from_peers_alone, own_name, origin_is_last, lying_peers, hostile_maps, swarm)}
 
 
 def main(fetch, mkbao, *words):
