@@ -230,9 +230,8 @@ void exchange_end(exchange *e, uint32_t outcome, uint64_t later_ms) {
     if (outcome == BW_ENDED_LATER) leave_alone(f, e->from, later_ms);
     if (e->opener) fetch_close(f, &e->opener->booked, outcome, later_ms);
     const bool was_open = e->of_from.is_open;
-    const unsigned faults = e->from->at.faults;
     fetch_close(f, &e->of_from, e->orphaned ? BW_ENDED_CUT : outcome, later_ms);
-    if (was_open) peers_close(f, e->from, &e->of_from, e->from->at.faults > faults);
+    if (was_open) peers_close(f, e->from, &e->of_from, outcome == BW_ENDED_CUT);
 }
 
 /* What an end of the bytes is to the plans. A file that comes only whole is streamed at last, and

@@ -18,7 +18,11 @@ enum {
     READ_MS = 1000, /* how often the file of peers is looked at */
     MAP_LEN = 2048, /* bytes, with as many bits as a server tells at most */
     NAME_LEN = 16,  /* of what a server calls itself */
-    TRIES_MOST = 8  /* units that the plan is asked for at a time */
+    TRUST = 2,      /* at first; of each request that falls short this much is lost */
+    TRUST_MOST = 4,
+    TRUST_LEAST = -4,
+    SLOW = 4,      /* a peer is slow that takes so small a part of what origins wait */
+    TRIES_MOST = 8 /* units that the plan is asked for at a time */
 };
 
 /* What is known of a peer beside what is known of each mirror. */
@@ -29,7 +33,7 @@ struct member {
     size_t coming_count;
     char name[NAME_LEN + 1];
     uint64_t poll_at, heard_at, pause;
-    unsigned in_row; /* requests that failed */
+    int trust; /* it gives what it says it has; above 0 it is relied on */
     bool has_news, was_told, is_self, is_of_file, is_listed;
     leg leg;
     pieces claim;
@@ -37,7 +41,7 @@ struct member {
 };
 
 struct unit {
-    uint8_t held_by, asked;     /* peers that have some of it; requests that are for it */
+    uint8_t held_by, asked;     /* peers that have all of it; requests that are for it */
     bool is_coming;             /* some peer gets it from an origin */
     uint64_t asked_at, awaited; /* when it was asked for, and when some peer first got it */
 };
@@ -89,13 +93,20 @@ static void hear(void *with, const char *line, size_t len) {
 }
 
 /* Which groups of a unit it says it has. */
-static unsigned groups_at(const struct member *it, uint64_t unit) {
+static unsigned groups_at(const fetch *f, const struct member *it, uint64_t unit) {
     unsigned found = 0;
-    for (unsigned g = 0; g < UNIT_GROUPS && it->was_told; g++) {
+    const uint64_t left = groups_of(f->total) - unit * UNIT_GROUPS;
+    for (unsigned g = 0; g < least(left, UNIT_GROUPS) && it->was_told; g++) {
         const uint64_t bit = (unit * UNIT_GROUPS + g) / it->each;
         if (bit < it->bits && it->map[bit / 8] >> bit % 8 & 1) found |= 1u << g;
     }
     return found;
+}
+
+/* Whether these are all that there are of it. */
+static bool are_all(const fetch *f, uint64_t unit, unsigned groups) {
+    const uint64_t count = least(groups_of(f->total) - unit * UNIT_GROUPS, UNIT_GROUPS);
+    return groups == (1u << count) - 1;
 }
 
 /* --- Who there is */
@@ -122,7 +133,8 @@ int peers_add(fetch *f, const char *url, bool is_of_file) {
         return DONE;
     }
     if (address && (it = calloc(1, sizeof *it))) {
-        *it = (struct member){.is_of_file = is_of_file, .is_listed = true, .each = 1};
+        *it =
+            (struct member){.is_of_file = is_of_file, .is_listed = true, .each = 1, .trust = TRUST};
         peer *m = fetch_add(f, address, COMBINED, it);
         if (m) {
             m->at.hear = hear;
@@ -208,20 +220,35 @@ bool peers_choose(const fetch *f, const peer *it) {
     return f->swarm.is_on && it->at.kind != OUTBOARD && !it->at.is_local;
 }
 
-/* Whether others needn't be asked for what a peer has. */
-static bool is_relied_on(fetch *f, const peer *m, uint64_t now) {
-    return m->member && m->is_holder && m->member->was_told && !is_gone(m) && !is_doubtful(m) &&
-           m->member->in_row < 2 && m->later <= now && !fetch_has_left_out(f, m);
-}
-
 static bool is_of_unit(const exchange *e, uint64_t unit) {
     return !e->is_over && e->of_from.is_open && e->of_from.chunks.first / UNIT_CHUNKS == unit;
 }
 
+/* Whether a unit is asked of a mirror, or of any origin where that is NULL. */
 static bool is_asked_of(const fetch *f, const peer *m, uint64_t unit) {
     for (const exchange *e = f->exchanges; e; e = e->next)
-        if (e->from == m && is_of_unit(e, unit)) return true;
+        if ((m ? e->from == m : !e->from->member) && is_of_unit(e, unit)) return true;
     return false;
+}
+
+static uint64_t patience_of(const fetch *f) { return (uint64_t)(f->set->origin_last * 1000); }
+
+/* Whether it hasn't given something yet that was asked for long ago. */
+static bool is_slow(const fetch *f, const peer *m, uint64_t now) {
+    for (const exchange *e = f->exchanges; e; e = e->next) {
+        const uint64_t unit = e->of_from.chunks.first / UNIT_CHUNKS;
+        if (e->from == m && is_of_unit(e, unit) &&
+            f->swarm.units[unit].asked_at + patience_of(f) / SLOW < now)
+            return true;
+    }
+    return false;
+}
+
+/* Whether origins needn't be asked for what a peer has. */
+static bool is_relied_on(fetch *f, const peer *m, uint64_t now) {
+    return m->member && m->is_holder && m->member->was_told && !is_gone(m) && !is_doubtful(m) &&
+           m->member->trust > 0 && m->later <= now && !fetch_has_left_out(f, m) &&
+           !is_slow(f, m, now);
 }
 
 enum { LATER = 1000000, NEVER };
@@ -230,14 +257,17 @@ enum { LATER = 1000000, NEVER };
  * has come, for what no peer has or gets. */
 static unsigned weight_of(fetch *f, const peer *m, uint64_t unit, uint64_t now) {
     const struct unit *it = &f->swarm.units[unit];
-    const uint64_t patience = (uint64_t)(f->set->origin_last * 1000);
+    const uint64_t patience = patience_of(f);
     const bool is_peer = m->member;
+    const unsigned groups = is_peer ? groups_at(f, m->member, unit) : 0;
     unsigned weight = it->held_by;
-    if (is_peer && !groups_at(m->member, unit)) return NEVER;
+    if (is_peer && !groups) return NEVER;
+    if (is_peer && !are_all(f, unit, groups)) weight += 100;
     if (m->rank == LAST && f->live > m->busy) return LATER;
     if (it->asked) {
-        const uint64_t late = it->asked_at + (is_peer ? OVERTAKE_MS : patience);
-        if (late > now || is_asked_of(f, m, unit)) return LATER;
+        const uint64_t least_time = is_asked_of(f, NULL, unit) ? patience : patience / SLOW;
+        if (it->asked_at + (is_peer ? OVERTAKE_MS : least_time) > now || is_asked_of(f, m, unit))
+            return LATER;
         weight += 1000;
     }
     if (is_peer) return weight;
@@ -286,7 +316,7 @@ void peers_lack(fetch *f, peer *m, run of) {
  */
 static uint64_t offer(fetch *f, peer *m, booking *of, uint64_t unit, uint64_t now) {
     const run all = run_of_unit(f->total, unit);
-    const unsigned groups = m->member ? groups_at(m->member, unit) : UINT_MAX;
+    const unsigned groups = m->member ? groups_at(f, m->member, unit) : UINT_MAX;
     struct unit *it = &f->swarm.units[unit];
     uint64_t lacking[UNIT_GROUPS];
     for (unsigned g = 0; g < UNIT_GROUPS; g++) lacking[g] = groups >> g & 1 ? 0 : UINT64_MAX;
@@ -316,14 +346,17 @@ uint64_t peers_book(fetch *f, peer *m, booking *of, uint64_t now) {
     return later ? now + LOOK_AGAIN_MS : UINT64_MAX;
 }
 
-/* A request for chunks has ended: the plan hears that they are lacking there. */
-void peers_close(fetch *f, peer *m, const booking *of, bool failed) {
+/* A request has ended: the plan hears that the chunks are lacking there. */
+void peers_close(fetch *f, peer *m, const booking *of, bool was_cut) {
     if (!peers_choose(f, m)) return;
     struct unit *it = &f->swarm.units[of->chunks.first / UNIT_CHUNKS];
+    const bool is_short = fetch_lacks(f, of->chunks, NULL);
     fetch_report(f, of, bw_plan_lacks, of->chunks, NULL);
     if (it->asked) it->asked--;
-    it->asked_at = now_ms();
-    if (m->member) m->member->in_row = failed ? m->member->in_row + 1 : 0;
+    if (!m->member || was_cut) return;
+    int *trust = &m->member->trust;
+    *trust += is_short ? -TRUST : 1;
+    *trust = *trust < TRUST_LEAST ? TRUST_LEAST : *trust > TRUST_MOST ? TRUST_MOST : *trust;
 }
 
 /* --- While it goes on */
@@ -332,8 +365,9 @@ void peers_close(fetch *f, peer *m, const booking *of, bool failed) {
  * to the other, which then has its time. */
 static void yield(fetch *f, const struct member *to, uint64_t unit, uint64_t now) {
     const struct unit *it = &f->swarm.units[unit];
-    const bool is_late = it->awaited + (uint64_t)(f->set->origin_last * 1000) <= now;
-    if (is_late || !*shelf_self() || strcmp(shelf_self(), to->name) >= 0) return;
+    if (it->awaited + patience_of(f) <= now || !*shelf_self() ||
+        strcmp(shelf_self(), to->name) >= 0)
+        return;
     for (exchange *e = f->exchanges; e; e = e->next)
         if (!e->from->member && !e->streams && e->step == UNIT && is_of_unit(e, unit))
             exchange_end(e, BW_ENDED_CUT, 0);
@@ -358,7 +392,8 @@ static void count(fetch *f, uint64_t now) {
         if (!is_relied_on(f, m, now)) continue;
         s->relied_on++;
         for (uint64_t u = 0; u < f->unit_count; u++)
-            s->units[u].held_by += s->units[u].held_by < UINT8_MAX && groups_at(it, u);
+            s->units[u].held_by +=
+                s->units[u].held_by < UINT8_MAX && are_all(f, u, groups_at(f, it, u));
         for (size_t i = 0; i < it->coming_count; i++) {
             if (it->coming[i] >= f->unit_count) continue;
             struct unit *u = &s->units[it->coming[i]];
@@ -394,7 +429,7 @@ static void was_polled(leg *of, leg_end as) {
         it->was_told = it->has_news = true;
     }
     if (as == LEG_ALL && it->pause) {
-        it->pause = it->in_row = 0;
+        it->pause = 0;
         if (m->is_holder) fetch_must(f, bw_plan_forgive(&f->chunks, m->holder));
         f->changes++;
     }
