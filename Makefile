@@ -66,12 +66,13 @@ help:
 	@echo 'make wheel                makes a wheel of both in out, for the processor level that its name says'
 	@echo 'make python-test          runs the tests of the Python module (the one of refused memory needs cc)'
 	@echo 'make fetch                builds bw-fetch, which gathers a blob over HTTP, as out/bw-fetch, over the C library (needs cc,'
-	@echo '                          pkg-config and libcurl with its headers), or with BERYLWOOL=installed over an installed one'
+	@echo '                          pkg-config and libcurl with its headers), or with BERYLWOOL=installed over an installed one; with'
+	@echo '                          libmicrohttpd and its headers it also serves what it fetches'
 	@echo 'make fetch-install PREFIX=DIR copies bw-fetch to DIR/bin, its manual page to DIR/share/man'
 	@echo 'make fetch-test           runs bw-fetch against hostile mirrors on loopback, under what is installed of sanitizers;'
 	@echo '                          DRAWN=N for another number of fetches from drawn mirrors than 4000'
 	@echo 'make fetch-bench          measures bw-fetch beside curl, b3sum and aria2c, on loopback and over links of 10 and 100 Mbit/s'
-	@echo '                          (needs nginx)'
+	@echo '                          (needs nginx), and machines that fetch from each other beside BitTorrent'
 	@echo 'make nbd                  builds the nbdkit plugin berylwool, which reads a blob while it is fetched, as'
 	@echo '                          out/nbdkit-berylwool-plugin.so, as make fetch builds bw-fetch (needs also nbdkit with its headers)'
 	@echo 'make nbd-install          copies it to the folder of nbdkit'"'"'s plugins, or to nbdkitdir=DIR, and its manual page to DIR/share/man'
@@ -138,7 +139,7 @@ dist: doc
 	$(call levels,bao_gather)
 	$(call levels,libberylwool.so)
 	@rm -f $(FIRST)/*.whl; python3 python/make_wheel.py $(FIRST)/libberylwool.so $(FIRST)
-	@$(call with_fetch,libberylwool.a); python3 scripts/dist.py dist $(MADE) program library python $$fetch
+	@$(call with_fetch,libberylwool.a SERVES=); python3 scripts/dist.py dist $(MADE) program library python $$fetch
 
 HAS_DPKG = command -v dpkg-shlibdeps > /dev/null
 
@@ -252,7 +253,7 @@ fmt:
 # The level that the programs in out/ were built for, and the flags of their C. The files change only where these do.
 out/cpu: export SAID = $(CPU)
 out/flags: export SAID = $(CPPFLAGS) $(CFLAGS) $(LDFLAGS)
-out/fetch-flags: export SAID = $(BERYLWOOL)
+out/fetch-flags: export SAID = $(BERYLWOOL) $(SERVES)
 out/cpu out/flags out/fetch-flags: FORCE
 	@mkdir -p out
 	@[[ -f $@ && "$$(< $@)" == "$$SAID" ]] || echo "$$SAID" > $@
@@ -350,8 +351,9 @@ FETCH_FLAGS := -std=c11 -O2 -Wall -Wextra -pthread -D_FILE_OFFSET_BITS=64
 BERYLWOOL ?= $(if $(shell command -v rt),out/libberylwool.a,installed)
 IS_INSTALLED = $(filter installed,$(BERYLWOOL))
 
-# It serves others if libmicrohttpd is there (of Debian: libmicrohttpd-dev); else --serve is refused.
-SERVES := $(shell pkg-config --exists libmicrohttpd 2>/dev/null && echo libmicrohttpd)
+# It serves others if libmicrohttpd with its headers is there (of Debian: libmicrohttpd-dev), or not with an empty SERVES, as in archives of a release,
+# which run where that isn't; then --serve is refused.
+SERVES ?= $(shell pkg-config --exists libmicrohttpd 2>/dev/null && echo libmicrohttpd)
 FETCH_NEEDS = libcurl $(if $(IS_INSTALLED),berylwool)
 
 out/bw-fetch: $(wildcard fetch/*.c fetch/*.h) c/berylwool.h out/flags out/fetch-flags $(filter-out installed,$(BERYLWOOL))
@@ -373,6 +375,7 @@ fetch-test:
 fetch-bench: fetch
 	@python3 fetch/tests/links.py out/bw-fetch
 	@python3 fetch/tests/measure.py out/bw-fetch
+	@cc -std=c11 -O1 -Ic fetch/tests/mkbao.c $(or $(filter-out installed,$(BERYLWOOL)),-lberylwool) -o out/mkbao && python3 fetch/tests/swarm.py out/bw-fetch out/mkbao
 
 # The plugin for nbdkit shares sources with bw-fetch, and isn't proved either. nbdkit loads it by name: it shows nothing but its entry, and stays loaded
 # where a name server hangs at the end.

@@ -469,7 +469,9 @@ static void give_up(fetch *f, uint64_t now) {
         some |= is_far && it->is_in;
         may_pass |= is_far;
     }
-    if (some && (double)(now - f->moved_at) < f->set->patience * 1000) return forgive(f, now);
+    const bool is_late = (double)(now - f->moved_at) >= f->set->patience * 1000;
+    if (some && !is_late) return forgive(f, now);
+    if (f->set->peers_file && !is_late) return fetch_wait(f, now + LOOK_MS); /* some may come yet */
     fetch_stop(f, f->hindrance ? f->hindrance : may_pass ? UNREACHED : LACKING);
 }
 
@@ -477,8 +479,7 @@ static void give_up(fetch *f, uint64_t now) {
 static void run_compare(job *of) {
     fetch *f = of->with;
     f->drain_status = out_compare(&f->out, &f->hasher, f->drain_bytes, &f->total);
-    if (f->drain_status == FILE_FAULT && (f->set->check || !f->mirror_count))
-        file_fault(f->out.path);
+    if (f->drain_status == FILE_FAULT && f->asks_nobody) file_fault(f->out.path);
 }
 
 static void was_compared(job *of) {
@@ -486,7 +487,7 @@ static void was_compared(job *of) {
     f->is_draining = false;
     if (f->status != GOES_ON) return;
     f->is_settled = f->drain_status == DONE;
-    if (f->is_settled || f->set->check || !f->mirror_count) return fetch_stop(f, f->drain_status);
+    if (f->is_settled || f->asks_nobody) return fetch_stop(f, f->drain_status);
     const int status = out_resume(&f->out);
     if (status > 0) return fetch_stop(f, status);
     if (!status && f->out.total <= f->set->most) return start_resuming(f);
@@ -496,6 +497,7 @@ static void was_compared(job *of) {
 
 static void begin(fetch *f) {
     f->has_begun = f->is_draining = true;
+    f->asks_nobody = f->set->check || (!f->mirror_count && !f->set->peers_file);
     f->next_in = f->unopened = f->peers;
     for (peer *m = f->peers, *line = f->lines; m != f->lines && !f->has_own_lines; m = m->next)
         m->line = line = line->next ? line->next : f->lines;
@@ -506,12 +508,12 @@ static void begin(fetch *f) {
 }
 
 static void step(fetch *f, uint64_t now) {
+    peers_turn(f, now);
     if (!f->is_settled) open_all(f, now);
     if (f->status == GOES_ON && f->is_resuming) resume_turn(f);
     if (f->status == GOES_ON && f->is_settled) drain_turn(f);
     if (f->status != GOES_ON || !f->is_settled || f->is_resuming) return;
     admit_all(f);
-    peers_turn(f, now);
     exchange_ask_all(f, now);
 }
 

@@ -226,6 +226,7 @@ struct fetch {
     exchange *exchanges;
     unsigned live;
     int status, hindrance;        /* hindrance: its status where nobody has what is lacking */
+    bool asks_nobody;             /* only what is there counts */
     bool is_one_of_many, is_told; /* of a manifest; how it ended was printed, */
     uint64_t ended, shown_at;     /* when it ended, and when its progress was printed last */
     bool has_begun, is_settled, is_resuming;

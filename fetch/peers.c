@@ -460,11 +460,11 @@ static void poll_one(fetch *f, peer *m, uint64_t now) {
 void peers_turn(fetch *f, uint64_t now) {
     swarm *s = &f->swarm;
     bool has_news = now - s->counted_at >= POLL_MS;
-    if (!s->is_on || !f->chunks_open) return;
     if (f->set->peers_file && now - s->read_at >= READ_MS) {
         s->read_at = now;
         peers_read(f, false);
     }
+    if (!s->is_on || !f->is_settled || f->is_resuming || !f->chunks_open) return;
     for (peer *m = f->peers; m != f->lines; m = m->next) {
         if (!m->member) continue;
         poll_one(f, m, now);

@@ -100,13 +100,12 @@ static void print_json(fetch *f) {
 
 static void print_why(const fetch *f) {
     const bool lacks = f->status == LACKING || f->status == UNREACHED;
-    const bool is_asked_alone = f->set->check || !f->mirror_count;
     const uint64_t chunks = chunks_of(f->total), claimed = f->claimed_above, most = f->set->most;
     if (f->status == INTERRUPTED) say(0, "interrupted");
-    if (is_asked_alone && f->status == LACKING) say(0, "%s doesn't have the root", f->name);
+    if (f->asks_nobody && f->status == LACKING) say(0, "%s doesn't have the root", f->name);
     else if (lacks && f->is_settled)
         say(0, "unfinished: %" PRIu64 " KiB of %" PRIu64 " are lacking", f->chunks_open, chunks);
-    else if (lacks && !is_asked_alone) say(0, "no mirror certifies a length");
+    else if (lacks && !f->asks_nobody) say(0, "no mirror certifies a length");
     if (lacks && !f->is_settled && claimed)
         say(0, "%" PRIu64 " bytes were claimed, and --max is %" PRIu64, claimed, most);
     if (f->status == UNREACHED) say(0, "the network failed, or the time was up: try again later");
@@ -116,7 +115,7 @@ static void print_why(const fetch *f) {
 }
 
 void report_end(fetch *f) {
-    const bool lacks = !f->set->check && (f->status == LACKING || f->status == UNREACHED);
+    const bool lacks = !f->asks_nobody && (f->status == LACKING || f->status == UNREACHED);
     const char *name = f->is_one_of_many ? f->name : "";
     for (const peer *it = f->peers; it && (f->set->verbose || lacks); it = it->next)
         print_peer(f, it);

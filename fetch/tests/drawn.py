@@ -251,7 +251,7 @@ def at_a_place(fetch, mkbao, mirrors, run, *words):
 
 
 def refuse(fetch, mkbao):
-    rows = [(kind, tail) for kind in ("bao", "plain") for tail in ("", "+")]
+    rows = [(kind, tail) for kind in ("bao", "plain", "bao plain") for tail in ("", "+")]
     with concurrent.futures.ThreadPoolExecutor(len(rows)) as pool:
         asked = sum(pool.map(lambda row: at_a_place(fetch, mkbao, row[0], refuse_each, row[1]), rows))
     at_a_place(fetch, mkbao, "bao plain", refuse_flush)
@@ -308,9 +308,10 @@ def out_hangs(place, fetch, urls):
 
 
 def refuse_each(place, fetch, urls, tail):
-    """How many requests for memory were refused, one in each run."""
+    """How many requests for memory were refused, one in each run. Of two mirrors the first is a peer, and what comes is served."""
+    more = ["--serve", "0", "--origin-last", "0.1", "--peer", urls.pop(0)] if len(urls) > 1 else []
     for number in range(1, 100_000):
-        ran = subprocess.run([fetch, "-c", "1", "--retries", "1", "--patience", "0", place.root, place.out, *urls], capture_output=True, timeout=LONGEST, env={**os.environ, "BW_REFUSE": f"{number}{tail}"})
+        ran = subprocess.run([fetch, "-c", "1", "--retries", "1", "--patience", "0", *more, place.root, place.out, *urls], capture_output=True, timeout=LONGEST, env={**os.environ, "BW_REFUSE": f"{number}{tail}"})
         got = place.out.read_bytes() if place.out.exists() else None
         fine = (ran.returncode == 0 and got == place.blob) or (ran.returncode in (1, 3, 4, 6) and got is None)
         if not fine:

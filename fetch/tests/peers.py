@@ -352,7 +352,7 @@ def liar(place, mode):
 
 
 def from_peers_alone(tools, length=9_000_000):
-    """Two unfinished peers have it together. Who names them gets it from both, and from nobody else; who is named before it serves is asked later."""
+    """Two unfinished peers have it together. Who names them gets it from both, and from nobody else; who is named before it serves is asked later, as is who comes into an empty list."""
     with tempfile.TemporaryDirectory() as folder, tempfile.TemporaryDirectory() as other:
         place, second = Place(folder, tools, length), Place(other, tools, length)
         try:
@@ -360,9 +360,11 @@ def from_peers_alone(tools, length=9_000_000):
             place.put("peers", b"# none yet\n")
             fetch = subprocess.Popen([*place.fetch, "--patience", str(LONGEST), "--peer", f"http://127.0.0.1:{ports[0]}", "--peers-file", place.folder / "peers", place.root,
                                       place.folder / "got"], stderr=subprocess.PIPE, text=True)
+            late = subprocess.Popen([*place.fetch, "--patience", str(LONGEST), "--peers-file", place.folder / "peers", place.root, "-"], stdout=subprocess.PIPE, stderr=subprocess.DEVNULL)
             halves = place.serve("bao@some=1 bao@never"), second.serve("bao@some=5 bao@never")
             with serving(place, "--stall", "600", "-c", "1", "--", *halves[0]) as (one, _), serving(second, "--stall", "600", "-c", "1", "--serve", f"127.0.0.1:{ports[0]}", "--", *halves[1]):
-                place.put("peers", f"http://127.0.0.1:{one}/\n".encode())
+                place.put("peers", f"http://127.0.0.1:{one}/\nhttp://127.0.0.1:{ports[0]}/{place.root}.bao\n".encode())
+                want(late.communicate(timeout=LONGEST)[0] == place.blob and late.returncode == 0, f"status {late.returncode}, by the list alone")
                 _, said = fetch.communicate(timeout=LONGEST)
                 want(fetch.returncode == 0 and (place.folder / "got").read_bytes() == place.blob, f"status {fetch.returncode}: {said}")
         finally:
