@@ -104,10 +104,10 @@ static size_t read_combined(uint64_t at, uint8_t *out, size_t most) {
          read_at(shelf.parents, shelf.base + parents_at, parents, parents_len) < parents_len))
         return 0;
     for (const bw_placed *it = nodes.nodes; it < nodes.nodes + nodes.count && used < most; it++) {
-        const uint8_t *from = it->kind == BW_NODE_CHUNK ? chunks + (it->start - start)
-                                                        : parents + (it->outboard_at - parents_at);
         const uint64_t next = at + used;
         if (it->combined_at + it->size <= next) continue; /* a parent before it */
+        const uint8_t *from = it->kind == BW_NODE_CHUNK ? chunks + (it->start - start)
+                                                        : parents + (it->outboard_at - parents_at);
         const size_t skip = next - it->combined_at, take = least(it->size - skip, most - used);
         memcpy(out + used, from + skip, take);
         used += take;
