@@ -43,6 +43,7 @@ struct member {
 struct unit {
     uint8_t held_by, asked;     /* peers that have all of it; requests that are for it */
     bool is_coming;             /* some peer gets it from an origin */
+    bool is_left;               /* some peer is to get it from an origin first */
     uint64_t asked_at, awaited; /* when it was asked for, and when some peer first got it */
 };
 
@@ -273,7 +274,7 @@ static unsigned weight_of(fetch *f, const peer *m, uint64_t unit, uint64_t now) 
     if (is_peer) return weight;
     if (it->held_by && f->moved_at + patience > now) return LATER;
     if (it->is_coming && it->awaited + patience > now) return LATER;
-    return weight + (it->is_coming ? 500 : 0);
+    return weight + (it->is_coming ? 500 : 0) + it->is_left;
 }
 
 /* The best unit. What is there isn't looked at again. Whether there is one; else *later tells
@@ -373,6 +374,20 @@ static void yield(fetch *f, const struct member *to, uint64_t unit, uint64_t now
             exchange_end(e, BW_ENDED_CUT, 0);
 }
 
+/* A number that each who knows a name has of it and a unit. */
+static uint64_t draw_of(const char *name, uint64_t unit) {
+    uint64_t x = strtoull(name, NULL, 16) ^ (unit + 1) * 0x9E3779B97F4A7C15;
+    x = (x ^ x >> 30) * 0xBF58476D1CE4E5B9;
+    x = (x ^ x >> 27) * 0x94D049BB133111EB;
+    return x ^ x >> 31;
+}
+
+/* Leaves a unit to a peer that draws a higher number, so that few ask an origin for the same. */
+static void leave(fetch *f, const struct member *to) {
+    for (uint64_t u = 0; u < f->unit_count && *shelf_self() && *to->name; u++)
+        f->swarm.units[u].is_left |= draw_of(to->name, u) > draw_of(shelf_self(), u);
+}
+
 /* Counts who has and who gets what. */
 static void count(fetch *f, uint64_t now) {
     swarm *s = &f->swarm;
@@ -380,7 +395,7 @@ static void count(fetch *f, uint64_t now) {
     s->relied_on = 0;
     for (uint64_t u = 0; u < f->unit_count; u++) {
         s->units[u].held_by = 0;
-        s->units[u].is_coming = false;
+        s->units[u].is_coming = s->units[u].is_left = false;
     }
     for (peer *m = f->peers; m != f->lines; m = m->next) {
         struct member *it = m->member;
@@ -391,6 +406,7 @@ static void count(fetch *f, uint64_t now) {
         }
         if (!is_relied_on(f, m, now)) continue;
         s->relied_on++;
+        leave(f, it);
         for (uint64_t u = 0; u < f->unit_count; u++)
             s->units[u].held_by +=
                 s->units[u].held_by < UINT8_MAX && are_all(f, u, groups_at(f, it, u));
