@@ -24,7 +24,7 @@ uint64_t patience_ms(void) { return (uint64_t)(set->how.stall * 200); }
 
 /* No call of a plan or seat fails but for memory: else this program has a fault. */
 void task_must(task *t, bw_status of) {
-    if (of) t->error = EIO;
+    if (of) t->error = of == BW_MEMORY ? ENOMEM : EIO;
 }
 
 static void task_free(task *t) {
