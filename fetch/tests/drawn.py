@@ -250,8 +250,13 @@ def at_a_place(fetch, mkbao, mirrors, run, *words):
             place.end()
 
 
+def can_serve(fetch):
+    ran = subprocess.run([fetch, "--serve", "0", "0" * 64, fetch.parent / "none"], capture_output=True, text=True)
+    return "without libmicrohttpd" not in ran.stderr
+
+
 def refuse(fetch, mkbao):
-    rows = [(kind, tail) for kind in ("bao", "plain", "bao plain") for tail in ("", "+")]
+    rows = [(kind, tail) for kind in ("bao", "plain", *["bao plain"] * can_serve(fetch)) for tail in ("", "+")]
     with concurrent.futures.ThreadPoolExecutor(len(rows)) as pool:
         asked = sum(pool.map(lambda row: at_a_place(fetch, mkbao, row[0], refuse_each, row[1]), rows))
     at_a_place(fetch, mkbao, "bao plain", refuse_flush)

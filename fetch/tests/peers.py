@@ -510,7 +510,7 @@ CASES = {it.__doc__.split(".")[0].split(",")[0].rstrip(): it for it in (serves_a
 def main(fetch, mkbao, *words):
     hostile.isolate()
     tools, wrong, cases = (pathlib.Path(fetch).resolve(), pathlib.Path(mkbao).resolve()), 0, 0
-    if "without libmicrohttpd" in subprocess.run([tools[0], "--serve", "0", "0" * 64, "/dev/null/x"], capture_output=True, text=True).stderr:
+    if "without libmicrohttpd" in subprocess.run([tools[0], "--serve", "0", "0" * 64, tools[0].parent / "none"], capture_output=True, text=True).stderr:
         print("peers.py: not run, since this build has no --serve")
         return 0
     for name, case in CASES.items():
