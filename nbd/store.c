@@ -4,7 +4,7 @@
 #include <time.h>
 
 /* STORE_LEN: what a group's store takes of memory, with a few seats. */
-enum { BUCKETS = 4096, STORE_LEN = BW_GROUP_CHUNKS * 1120 + 32768, STREAMS = 16, LOOK_MS = 100 };
+enum { BUCKETS = 4096, STORE_LEN = BW_GROUP_CHUNKS * 1120 + 4096, STREAMS = 16, LOOK_MS = 100 };
 enum { SEQUENTIAL = 3 };
 
 /* Reads that go on from where others ended: by position, since a copy comes by many connections. */

@@ -31,17 +31,17 @@ handle_owns (block_ptr b o) alloc (Some held) = fex (IsGood held) (λ _. box_own
 
 -- the handle has a hasher of this mode with this input
 abbrev pub HoldsIn : Option Held → Mode → List ℕ → Type 0
-HoldsIn (Some (Hasher hasher)) mode bytes = Holds hasher mode bytes
+HoldsIn (Some (Hasher boxed)) mode bytes = Holds boxed.value mode bytes
 HoldsIn _ mode bytes = ⊥
 
 -- the handle has a hasher
 abbrev pub HasHasher : Option Held → Type 0
-HasHasher (Some (Hasher hasher)) = Unit {0}
+HasHasher (Some (Hasher boxed)) = Unit {0}
 HasHasher _ = ⊥
 
 -- the handle has a check in pieces, and this holds for it
 abbrev pub HasFeed : (Checking → Type 0) → Option Held → Type 0
-HasFeed so (Some (Feed check)) = so check
+HasFeed so (Some (Feed boxed)) = so boxed.value
 HasFeed so _ = ⊥
 
 -- the handle has a seat, and this holds for its store and the seat

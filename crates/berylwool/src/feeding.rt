@@ -29,6 +29,9 @@ pub extern "C" fn bw_feed_new(alloc: Global, slice: &BwSlice, feed: &mut BwHandl
         return NO_MODE;
     }
     let check = Checking::of_slice(&slice.mode.get(), &Hash(slice.root), slice.start, slice.len);
+    let Ok(check) = Box::new(alloc, check) else {
+        return NO_MEMORY;
+    };
     match Box::new(alloc, Held::Feed(check)) {
         Ok(held) => {
             put(feed, held);

@@ -1,6 +1,7 @@
 ghost use Rattle.std.specs.Prelude.{◌≡◌, ◌≢◌, ◌↔◌, ◌+◌, ◌-◌, ◌^◌, ◌<◌, ℕ, List, [], ◌++◌, length, None};
 ghost use Rattle.b3tree.specs.declared.mode.Mode.{Mode};
 ghost use Rattle.b3tree.specs.Hashing.{stream};
+ghost use Rattle.b3tree.specs.Taken.{Holds};
 ghost use Rattle.berylwool.specs.Handles.{HasHasher, HoldsIn};
 ghost use Rattle.berylwool.specs.Modes.{IsKnown, mode_of};
 
@@ -10,6 +11,25 @@ use crate::owned::Held;
 use crate::status::{NO_MEMORY, NO_MODE, PAST_OUTPUT};
 use b3tree::{Hasher, xof_fits};
 use std::alloc::Global;
+
+// Makes an empty handle own a hasher.
+fn put_hasher(alloc: Global, it: Hasher, hasher: &mut BwHandle) -> u32
+    requires { hasher.old.held ≡ None }
+    ensures made { result ≡ 0 → (mode : Mode) (s : List ℕ) → Holds it mode s → HoldsIn hasher.new.held mode s }
+    ensures status { result ≢ 0 → result ≡ 1203 }
+    ensures empty { result ≢ 0 → hasher.new.held ≡ None }
+{
+    let Ok(boxed) = Box::new(alloc, it) else {
+        return NO_MEMORY;
+    };
+    match Box::new(alloc, Held::Hasher(boxed)) {
+        Ok(held) => {
+            put(hasher, held);
+            0
+        }
+        Err(_) => NO_MEMORY,
+    }
+}
 
 /// Makes a hasher that has no input yet.
 #[unsafe(no_mangle)]
@@ -23,13 +43,7 @@ pub extern "C" fn bw_hasher_new(alloc: Global, mode: &BwMode, hasher: &mut BwHan
     if !mode.is_known() {
         return NO_MODE;
     }
-    match Box::new(alloc, Held::Hasher(Hasher::new(&mode.get()))) {
-        Ok(held) => {
-            put(hasher, held);
-            0
-        }
-        Err(_) => NO_MEMORY,
-    }
+    put_hasher(alloc, Hasher::new(&mode.get()), hasher)
 }
 
 /// Makes `other` another hasher with the same mode and input so far. What one of them takes in then, the other doesn't.
@@ -42,15 +56,12 @@ pub extern "C" fn bw_hasher_copy(alloc: Global, hasher: &mut BwHandle, other: &m
     ensures empty { result ≢ 0 → other.new.held ≡ None }
 {
     let _old = take(other, alloc);
-    with_held!(hasher, alloc, Hasher, |it| {
-        match Box::new(alloc, Held::Hasher(it.copy())) {
-            Ok(held) => {
-                put(other, held);
-                0
-            }
-            Err(_) => NO_MEMORY,
-        }
-    })
+    with_held!(
+        hasher,
+        alloc,
+        Hasher,
+        |it| put_hasher(alloc, it.copy(), other)
+    )
 }
 
 /// Appends `bytes` to a hasher's input.

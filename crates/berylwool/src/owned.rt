@@ -13,11 +13,11 @@ pub struct Seated {
     pub(crate) seat: Seat,
 }
 
-/// What a handle owns.
+/// What a handle owns. What is large stands in a box of its own, so that a seat takes little memory.
 #[derive(Drop)]
 pub enum Held {
-    Hasher(Hasher),
-    Feed(Checking),
+    Hasher(Box<Hasher, Global>),
+    Feed(Box<Checking, Global>),
     Seat(Seated),
     Outline(Arc<Outlined, Global>),
     Plan(Plan),

@@ -1,4 +1,5 @@
-ghost use Rattle.std.specs.Prelude.{◌≡◌, ◌≢◌, ◌↔◌, ◌⊎◌, ◌<◌, ◌≤◌, ◌*◌, ◌-◌, ◌^◌, ℕ, false, true, None, Some, drop, length, take};
+ghost use Rattle.std.specs.Prelude.{◌≡◌, ◌≢◌, ◌↔◌, ◌⊎◌, ◌<◌, ◌≤◌, ◌*◌, ◌-◌, ◌^◌, ℕ, false, true, IfSome, None, Some, drop, length, take};
+ghost use Rattle.std.specs.Arc.{arc_value};
 ghost use Rattle.gather.specs.FinishCalls.{Asks};
 ghost use Rattle.gather.specs.Finished.{BindsNone, BindsTo, IsFinished, IsOther, IsUnfinished};
 ghost use Rattle.store_core.specs.Histories.{state_after};
@@ -67,6 +68,22 @@ pub extern "C" fn bw_seat_new(
     }
 }
 
+// Another share of a store, and a box for what a handle owns.
+fn shared(
+    alloc: Global,
+    store: &Arc<Assembly, Global>,
+) -> Option<(Arc<Assembly, Global>, Box<Held, Global>)>
+    ensures { IfSome result (λ r. arc_value r.0 ≡ arc_value store.now) }
+{
+    let Ok(again) = Arc::try_clone(store) else {
+        return None;
+    };
+    match Box::new(alloc, Held::Gone) {
+        Ok(room) => Some((again, room)),
+        Err(_) => None,
+    }
+}
+
 /// Makes `other` another seat of the store, which has seen the same and has no claims or calls.
 #[unsafe(no_mangle)]
 pub extern "C" fn bw_seat_split(alloc: Global, seat: &mut BwHandle, other: &mut BwHandle) -> u32
@@ -81,33 +98,27 @@ pub extern "C" fn bw_seat_split(alloc: Global, seat: &mut BwHandle, other: &mut 
         return NO_HANDLE;
     };
     let status = match mem::replace(&mut *held, Held::Gone) {
-        Held::Seat(Seated { store, seat: whole }) => match Box::new(alloc, Held::Gone) {
-            Ok(mut room) => match Arc::try_clone(&store) {
-                Ok(again) => match store.split(whole) {
-                    Ok((first, second)) => {
-                        *held = Held::Seat(Seated { store, seat: first });
-                        *room = Held::Seat(Seated {
-                            store: again,
-                            seat: second,
-                        });
-                        put(other, room);
-                        0
-                    }
-                    Err(fault) => {
-                        let code = u32::from(fault.code());
-                        *held = Held::Seat(Seated {
-                            store,
-                            seat: fault.seat,
-                        });
-                        code
-                    }
-                },
-                Err(_) => {
-                    *held = Held::Seat(Seated { store, seat: whole });
-                    NO_MEMORY
+        Held::Seat(Seated { store, seat: whole }) => match shared(alloc, &store) {
+            Some((again, mut room)) => match store.split(whole) {
+                Ok((first, second)) => {
+                    *held = Held::Seat(Seated { store, seat: first });
+                    *room = Held::Seat(Seated {
+                        store: again,
+                        seat: second,
+                    });
+                    put(other, room);
+                    0
+                }
+                Err(fault) => {
+                    let code = u32::from(fault.code());
+                    *held = Held::Seat(Seated {
+                        store,
+                        seat: fault.seat,
+                    });
+                    code
                 }
             },
-            Err(_) => {
+            None => {
                 *held = Held::Seat(Seated { store, seat: whole });
                 NO_MEMORY
             }
