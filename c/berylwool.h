@@ -437,6 +437,15 @@ BW_USE bw_status bw_outline_commit(bw_outline *outline, bw_seat *seat, const bw_
                                    const uint8_t *chunks, size_t chunks_len, uint64_t *committed,
                                    uint64_t *parents, uint64_t *at) BW_NONNULL(1, 2, 3, 6, 7, 8);
 
+/* Checks chunks as bw_outline_check does, and stores them as bw_seat_commit_chunks does, so in a
+ * store of a part of a blob too.
+ *
+ * BW_OTHER_ROOT, before all else. A check fault. BW_NO_CHUNKS. No memory is taken. */
+BW_USE bw_status bw_outline_commit_chunks(bw_outline *outline, bw_seat *seat,
+                                          const bw_chunks *which, const uint8_t *chunks,
+                                          size_t chunks_len, uint64_t *committed,
+                                          uint64_t *at) BW_NONNULL(1, 2, 3, 6, 7);
+
 /* --- Encodings checked in pieces: the nodes of an encoding are verified while they arrive, and
  * none of their bytes are kept. What is accepted, and else the first fault and its offset, are
  * those of bw_check. Pass whatever arrives to bw_feed_take, which returns the blob's bytes, and at

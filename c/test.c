@@ -366,7 +366,7 @@ static void parts(const uint8_t *blob, const uint8_t *root, const holder *good) 
     static uint8_t slice[8 * GROUP_LEN], out[8 * GROUP_LEN];
     const bw_mode unknown = {7, {0}};
     const uint64_t first = 200, chunks = 100, most = UINT64_C(1) << 54;
-    bw_seat seat = BW_EMPTY, other = BW_EMPTY;
+    bw_seat seat = BW_EMPTY, other = BW_EMPTY, bare = BW_EMPTY;
     bw_outline outline = BW_EMPTY;
     bw_report report = {0, 0, 0, 0, 0, 0, 0};
     bw_node lacking = {7, 7};
@@ -462,6 +462,22 @@ static void parts(const uint8_t *blob, const uint8_t *root, const holder *good) 
     WANT(bw_outline_commit(&outline, &seat, CHUNKS(first, 1), blob + start, 1024, &committed,
                            &parents, &at) == BW_OTHER_LENGTH);
     WANT(committed == 7 && parents == 7);
+    /* Chunks alone are stored beside an outline too: of those that begin before the part and end
+     * after it, the part's. */
+    WANT(bw_seat_new(&plain, root, first, (uint32_t)chunks, &bare) == BW_OK);
+    memcpy(found, blob + 150 * 1024, 200 * 1024);
+    found[7] ^= 1;
+    WANT(bw_outline_commit_chunks(&outline, &bare, CHUNKS(150, 200), found, 200 * 1024, &committed,
+                                  &at) == BW_MISMATCH &&
+         at == 0 && committed == 7);
+    WANT(bw_outline_commit_chunks(&outline, &bare, CHUNKS(150, 200), blob + 150 * 1024, 200 * 1024,
+                                  &committed, &at) == BW_OK &&
+         committed == chunks);
+    WANT(bw_seat_read(&bare, 0, out, chunks * 1024, &at) == BW_OK &&
+         memcmp(out, blob + start, chunks * 1024) == 0);
+    WANT(bw_outline_commit_chunks(&outline, &bare, CHUNKS(first, 1), blob + start, 1024, &committed,
+                                  &at) == BW_OK &&
+         committed == 0);
     WANT(bw_cut_slice(good->text, good->len, UINT64_MAX, 1, slice, sizeof slice, &used) == BW_OK &&
          bw_seat_settle(&seat, slice, used, &at) == BW_TOO_LARGE);
     WANT(bw_decode(of(&plain, root, UINT64_MAX, 1), slice, used, NULL, 0, &count, &len, &at) ==
@@ -527,6 +543,7 @@ static void parts(const uint8_t *blob, const uint8_t *root, const holder *good) 
          memcmp(found, blob, BLOB_LEN) == 0);
     bw_free(&seat);
     bw_free(&other);
+    bw_free(&bare);
     bw_free(&outline);
     free(found);
     free(outboard);
@@ -1548,6 +1565,12 @@ static void beside(const uint8_t *blob, const uint8_t *root) {
          bw_outline_new(&plain, hash, shorter, used, &alien, &at) == BW_OK);
     WANT(bw_outline_commit(&alien, &seat, CHUNKS(0, 1), blob, 1024, &committed, &parents, &at) ==
          BW_OTHER_ROOT);
+    WANT(bw_outline_commit_chunks(&alien, &seat, CHUNKS(0, 0), blob, 0, &committed, &at) ==
+         BW_OTHER_ROOT);
+    WANT(bw_outline_commit_chunks(&outline, &seat, CHUNKS(all, 1), blob, 0, &committed, &at) ==
+         BW_NO_CHUNKS);
+    WANT(bw_outline_commit_chunks(&outline, AS(bw_seat, alien), CHUNKS(0, 1), blob, 1024,
+                                  &committed, &at) == BW_NO_HANDLE);
     WANT(bw_outline_commit(&outline, &seat, CHUNKS(0, 1), blob, 1024, &committed, &parents, &at) ==
          BW_OTHER_LENGTH);
     WANT(committed == 7 && parents == 7 && bw_seat_held(&seat, 0, &mask) == BW_OK && mask == 0);

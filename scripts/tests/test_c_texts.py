@@ -192,6 +192,15 @@ def beside(modes, root, hashed, outboard, wanted, blob, rng):
         assert plain == blob[1024 * first : 1024 * (first + chunks)] and (total == len(blob) or first + chunks < number)
         text = outboard[:8] + by.slice_text(modes[0], blob, 1024 * first, 1024 * chunks)[8:]
         assert out.raw[: used.value] == text and out.raw[used.value :] == b"\1" * (20000 - used.value)
+    seat, committed, base, capacity = c.Handle(), c.u64(7), rng.randrange(10), rng.randrange(1, 10)
+    assert calls.bw_seat_new(modes[1], hashed, base, capacity, seat) == 0
+    assert calls.bw_outline_commit_chunks(outline, seat, c.Chunks(first, chunks), plain, len(plain), committed, at) == status
+    low, high = max(first, base), min(first + chunks, base + capacity)
+    assert committed.value == (7 if status else max(high - low, 0))
+    if status == 0 and low < high:
+        there = blob[1024 * low : 1024 * high]
+        assert calls.bw_seat_read_at(seat, 1024 * low, out, len(there), at) == 0 and out.raw[: len(there)] == there
+    calls.bw_free(seat)
     calls.bw_free(outline)
 
 

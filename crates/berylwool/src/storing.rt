@@ -1,4 +1,4 @@
-ghost use Rattle.std.specs.Prelude.{◌≡◌, ◌≢◌, ◌↔◌, ◌⊎◌, ◌<◌};
+ghost use Rattle.std.specs.Prelude.{◌≡◌, ◌≢◌, ◌↔◌, ◌⊎◌, ◌<◌, IsTrue};
 ghost use Rattle.gather.specs.SeatLasting.{RecordsOn};
 ghost use Rattle.holders.specs.Room.{groups};
 ghost use Rattle.store_core.specs.Masks.{IsMaskOf};
@@ -257,6 +257,43 @@ pub extern "C" fn bw_seat_commit_chunks(
     )
 }
 
+// The status of `$call` on the outline and the seat that two handles own, and keep; 1202 if either owns none. It is a
+// macro for the reason of `with_held`.
+macro_rules! with_both {
+    ($outline:ident, $seat:ident, $alloc:ident, |$beside:ident, $it:ident| $call:expr) => {{
+        let Some(outlined) = take($outline, $alloc) else {
+            return NO_HANDLE;
+        };
+        let Some(mut held) = take($seat, $alloc) else {
+            put($outline, outlined);
+            return NO_HANDLE;
+        };
+        let status = match &*outlined {
+            Held::Outline($beside) => match &mut *held {
+                Held::Seat($it) => $call,
+                Held::Hasher(_)
+                | Held::Feed(_)
+                | Held::Outline(_)
+                | Held::Plan(_)
+                | Held::Gone => NO_HANDLE,
+            },
+            Held::Hasher(_) | Held::Feed(_) | Held::Seat(_) | Held::Plan(_) | Held::Gone => {
+                NO_HANDLE
+            }
+        };
+        put($seat, held);
+        put($outline, outlined);
+        status
+    }};
+}
+
+// Whether an outline is of the store's root and mode.
+fn is_of_store(store: &Assembly, it: &Outlined) -> bool
+    ensures { IsTrue result ↔ IsOfStore (fixed_of store.now) it.now }
+{
+    fixed(store).is_of(&it.root(), &it.mode())
+}
+
 // Stores all that chunks beside an outline have, as `bw_outline_commit` does.
 fn stored_bare(
     store: &Assembly,
@@ -281,7 +318,7 @@ fn stored_bare(
     ensures status { 505 < result → result ≢ 804 → result ≢ 807 → result ≡ 1210 }
     ensures same { result ≢ 0 → result ≢ 807 → seat.new ≡ seat.old }
 {
-    if !fixed(store).is_of(&it.root(), &it.mode()) {
+    if !is_of_store(store, it) {
         return OTHER_ROOT;
     }
     let outline = it.outline();
@@ -321,32 +358,96 @@ pub extern "C" fn bw_outline_commit(
     ensures same { result ≢ 0 → result ≢ 807 → seat.new.held ≡ seat.old.held }
     ensures kept { outline.new.held ≡ outline.old.held }
 {
-    let Some(beside) = take(outline, alloc) else {
-        return NO_HANDLE;
+    with_both!(
+        outline,
+        seat,
+        alloc,
+        |beside, it| stored_bare(
+            &it.store,
+            &mut it.seat,
+            beside,
+            which.first,
+            which.count,
+            chunks,
+            committed,
+            parents,
+            at,
+        )
+    )
+}
+
+// Stores the chunks beside an outline, as `bw_outline_commit_chunks` does.
+fn stored_bare_chunks(
+    store: &Assembly,
+    seat: &mut Seat,
+    it: &Outlined,
+    first: u64,
+    count: u64,
+    chunks: &[u8],
+    committed: &mut u64,
+    at: &mut u64,
+) -> u32
+    requires { IsSeatOf store.now seat.old }
+    ensures of { IsSeatOf store.now seat.new }
+    ensures commits { result ≡ 0 → EachGroup (CommitsGroup (fixed_of store.now) (bare_piece (fixed_of store.now).base (outlined_text it.now) first count chunks.now)) (groups (fixed_of store.now)) committed.new seat.old.view seat.new.view }
+    ensures other_root { result ≡ 804 ↔ (¬ IsOfStore (fixed_of store.now) it.now) }
+    ensures accepted { result ≡ 0 → AreBeside first count chunks.now it.now }
+    ensures chunks { result ≡ 1210 → (¬ HasChunks (outlined_text it.now) first count) }
+    ensures fault { result ≢ 0 → result < 506 → AreNotBeside first count chunks.now result at.new it.now }
+    ensures status { 505 < result → result ≢ 804 → result ≡ 1210 }
+    ensures same { result ≢ 0 → seat.new ≡ seat.old }
+{
+    if !is_of_store(store, it) {
+        return OTHER_ROOT;
+    }
+    let outline = it.outline();
+    if !bare_fits(&outline, first, count) {
+        return NO_CHUNKS;
+    }
+    let bare = match check_bare(&outline, first, count, chunks) {
+        Ok(piece) => piece,
+        Err(fault) => return told(&fault, at),
     };
-    let Some(mut held) = take(seat, alloc) else {
-        put(outline, beside);
-        return NO_HANDLE;
-    };
-    let status = match &*beside {
-        Held::Outline(shared) => match &mut *held {
-            Held::Seat(it) => stored_bare(
-                &it.store,
-                &mut it.seat,
-                shared,
-                which.first,
-                which.count,
-                chunks,
-                committed,
-                parents,
-                at,
-            ),
-            Held::Hasher(_) | Held::Feed(_) | Held::Outline(_) | Held::Plan(_) | Held::Gone =>
-                NO_HANDLE,
-        },
-        Held::Hasher(_) | Held::Feed(_) | Held::Seat(_) | Held::Plan(_) | Held::Gone => NO_HANDLE,
-    };
-    put(seat, held);
-    put(outline, beside);
-    status
+    *committed = commit_groups(store, seat, &bare);
+    0
+}
+
+/// Checks `chunks` as `bw_outline_check` does, and stores these chunks as `bw_seat_commit_chunks` does, but no
+/// parents.
+#[unsafe(no_mangle)]
+pub extern "C" fn bw_outline_commit_chunks(
+    alloc: Global,
+    outline: &mut BwHandle,
+    seat: &mut BwHandle,
+    which: &BwChunks,
+    chunks: &[u8],
+    committed: &mut u64,
+    at: &mut u64,
+) -> u32
+    ensures commits { result ≡ 0 → HasOutline (λ it. SeatDid (λ store old new. EachGroup (CommitsGroup (fixed_of store) (bare_piece (fixed_of store).base (outlined_text it) which.now.first which.now.count chunks.now))
+        (groups (fixed_of store)) committed.new old.view new.view) seat.old.held seat.new.held) outline.old.held }
+    ensures other_root { result ≡ 804 ↔ HasOutline (λ it. HasSeat (λ store _. ¬ IsOfStore (fixed_of store) it) seat.old.held) outline.old.held }
+    ensures accepted { result ≡ 0 → HasOutline (AreBeside which.now.first which.now.count chunks.now) outline.old.held }
+    ensures chunks { result ≡ 1210 → HasOutline (λ it. ¬ HasChunks (outlined_text it) which.now.first which.now.count) outline.old.held }
+    ensures fault { result ≢ 0 → result < 506 → HasOutline (AreNotBeside which.now.first which.now.count chunks.now result at.new) outline.old.held }
+    ensures no_handle { result ≡ 1202 ↔ (¬ HasOutline (λ _. HasSeat (λ _ _. Unit) seat.old.held) outline.old.held) }
+    ensures status { 505 < result → result ≢ 804 → result ≢ 1202 → result ≡ 1210 }
+    ensures same { result ≢ 0 → seat.new.held ≡ seat.old.held }
+    ensures kept { outline.new.held ≡ outline.old.held }
+{
+    with_both!(
+        outline,
+        seat,
+        alloc,
+        |beside, it| stored_bare_chunks(
+            &it.store,
+            &mut it.seat,
+            beside,
+            which.first,
+            which.count,
+            chunks,
+            committed,
+            at,
+        )
+    )
 }

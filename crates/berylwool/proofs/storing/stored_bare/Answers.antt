@@ -1,4 +1,4 @@
-use Rattle.std.proofs.Common.{◌≡◌, ◌∙◌, ℕ, ◌*◌, List, ap, arith, inl, inr, subst, sym}
+use Rattle.std.proofs.Common.{◌≡◌, ◌∙◌, ℕ, ◌*◌, List, ap, arith, inl, inr, subst}
 use Rattle.bao_check.specs.Bare.{bare_part}
 use Rattle.bao_check.specs.Beside.{beside_text}
 use Rattle.bao_check.specs.Outline.{outline_mode, outline_root, outline_text}
@@ -6,7 +6,7 @@ use Rattle.holders.specs.declared.fixed.Fixed.{Fixed}
 use Rattle.holders.specs.declared.piece.Piece.{Piece}
 use Rattle.holders.specs.Pieces.{piece_of}
 use Rattle.store_shared.specs.Seats.{fixed_of}
-use Rattle.berylwool.specs.Outlines.{IsOfStore, bare_piece, outlined_text}
+use Rattle.berylwool.specs.Outlines.{bare_piece, outlined_text}
 use Rattle.berylwool.specs.Storing.{IsOfOther, StoresAll}
 use Rattle.berylwool.proofs.Texts.{piece_is}
 use Rattle.berylwool.proofs.storing.stored_bare.Goals as goal
@@ -32,20 +32,6 @@ returns-in-Ok-clause-other_length c = λ other.
     piece_is fixed.base c.in-Ok.piece (outline_mode outline) (outline_root outline) start (bare_part c.args.count) (beside_text (outline_text outline) start (bare_part c.args.count) chunks)
     c.in-Ok.ensures.piece ∙ ap (λ (s : List ℕ). bare_piece fixed.base s c.args.first c.args.count chunks) c.outline-outline.ensures.text_is in
     subst (λ (p : Piece). IsOfOther p c.args.seat.now.view c.stored_piece.new.seat.view) is (c.stored_piece.ensures.other_length other)
-
-pub returns-in-Ok-clause-other_root : goal.returns-in-Ok-clause-other_root
-returns-in-Ok-clause-other_root c =
-    let told = c.is_of.ensures.0 c.if-not-is_of.false in
-    let is : IsOfStore (fixed_of c.args.store.now) c.args.it.now =
-    subst (λ (f : Fixed). IsOfStore f c.args.it.now) c.fixed.ensures (sym c.root.ensures ∙ told.0, sym c.mode.ensures ∙ told.1) in
-    ((λ e _. omega (arith, e, c.stored_piece.ensures.status (λ zero. omega (arith, e, zero)))), λ none. absurd (none is))
-
-pub returns-in-Err-clause-other_root : goal.returns-in-Err-clause-other_root
-returns-in-Err-clause-other_root c =
-    let told = c.is_of.ensures.0 c.if-not-is_of.false in
-    let is : IsOfStore (fixed_of c.args.store.now) c.args.it.now =
-    subst (λ (f : Fixed). IsOfStore f c.args.it.now) c.fixed.ensures (sym c.root.ensures ∙ told.0, sym c.mode.ensures ∙ told.1) in
-    ((λ e _. omega (arith, e, c.told.ensures.to)), λ none. absurd (none is))
 
 pub returns-in-Err-clause-accepted : goal.returns-in-Err-clause-accepted
 returns-in-Err-clause-accepted c = λ way.
