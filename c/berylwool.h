@@ -554,6 +554,16 @@ BW_USE bw_status bw_seat_commit_chunks(bw_seat *seat, uint64_t start, uint64_t l
                                        const uint8_t *text, size_t text_len, uint64_t *committed,
                                        uint64_t *at) BW_NONNULL(1, 6, 7);
 
+/* Checks `text` as bw_seat_commit_chunks does, and if it isn't accepted stores the chunks before
+ * its first fault all the same.
+ *
+ * These are the chunks of the slice (start, n) with the largest n up to `len` whose encoding ends
+ * no later than byte *at, and none if the blob is empty. *committed is how many were stored. A
+ * check fault, after which *committed is written too. */
+BW_USE bw_status bw_seat_commit_some(bw_seat *seat, uint64_t start, uint64_t len,
+                                     const uint8_t *text, size_t text_len, uint64_t *committed,
+                                     uint64_t *at) BW_NONNULL(1, 6, 7);
+
 /* Returns in *mask which chunks of the group are held, and claims none.
  *
  * The chunks are looked up one after another, by their first byte, while others may store. The

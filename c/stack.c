@@ -114,6 +114,8 @@ static void store(void) {
     sink = bw_seat_new(&plain, root, 3, 500, &seat);
     sink = bw_seat_commit_chunks(&seat, 0, UINT64_MAX, text, text_len, &count, &at);
     sink = bw_seat_new(&plain, root, 3, 500, &seat);
+    sink = bw_seat_commit_some(&seat, 0, UINT64_MAX, text, text_len - 1, &count, &at);
+    sink = bw_seat_new(&plain, root, 3, 500, &seat);
     sink =
         bw_outline_commit_chunks(&outline, &seat, CHUNKS(3, 500), blob + 3072, 512000, &count, &at);
     bw_free(&seat);

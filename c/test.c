@@ -411,6 +411,32 @@ static void parts(const uint8_t *blob, const uint8_t *root, const holder *good) 
     WANT(bw_seat_commit_chunks(&seat, start, GROUP_LEN, NULL, 0, &committed, &at) == BW_SHORT &&
          at == 0 && committed == 7);
     WANT(bw_seat_read(&seat, 0, out, 1, &at) == BW_MISSING && at == 0);
+    /* Of a damaged slice, or of one that ends early, the chunks before the fault are stored. */
+    WANT(bw_seat_commit_some(&bare, start, GROUP_LEN, slice, used, &committed, &at) ==
+         BW_NO_HANDLE);
+    WANT(bw_seat_new(&plain, root, first, (uint32_t)chunks, &bare) == BW_OK);
+    WANT(bw_seat_commit_some(&bare, start, GROUP_LEN, slice, 70, &committed, &at) == BW_SHORT &&
+         at == 8 && committed == 0);
+    WANT(bw_seat_commit_some(&bare, start, GROUP_LEN, slice, used - 1024 * 60, &committed, &at) ==
+             BW_SHORT &&
+         committed > 0 && committed < 10);
+    mask = committed;
+    WANT(bw_seat_read(&bare, 0, out, mask * 1024, &at) == BW_OK &&
+         memcmp(out, blob + start, mask * 1024) == 0);
+    WANT(bw_seat_read(&bare, 0, out, mask * 1024 + 1, &at) == BW_MISSING && at == mask * 1024);
+    slice[used - 1] ^= 1;
+    WANT(bw_seat_commit_some(&bare, start, GROUP_LEN, slice, used, &committed, &at) ==
+             BW_MISMATCH &&
+         at == used - 1024 && committed == 63 - mask);
+    slice[used - 1] ^= 1;
+    WANT(bw_seat_commit_some(&bare, start, GROUP_LEN - 1024, slice, used, &committed, &at) ==
+             BW_TRAILING &&
+         at == used - 1024 && committed == 0);
+    WANT(bw_seat_commit_some(&bare, start, GROUP_LEN, slice, used, &committed, &at) == BW_OK &&
+         committed == 1);
+    WANT(bw_seat_read(&bare, 0, out, GROUP_LEN, &at) == BW_OK &&
+         memcmp(out, blob + start, GROUP_LEN) == 0);
+    committed = 7;
     WANT(bw_seat_commit_chunks(&seat, start, GROUP_LEN, slice, used, &committed, &at) == BW_OK &&
          committed == 64);
     WANT(bw_seat_held(&seat, 0, &mask) == BW_OK && mask == UINT64_MAX &&

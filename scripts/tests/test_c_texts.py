@@ -4,6 +4,7 @@ The texts are always the same: combined and outboard encodings and slices of sma
 library. In three of four a byte is changed, bytes are cut off or appended, or another length is claimed. COUNT in the environment is how many there are (2000).
 """
 import ctypes
+import itertools
 import os
 import random
 import unittest
@@ -165,6 +166,26 @@ def parted(modes, hashed, asked, text, wanted, blob, rng):
     calls.bw_free(seat)
 
 
+def rescued(modes, hashed, asked, text, wanted, blob, rng):
+    """Holds what a store of a part takes of a text, accepted or not, to the chunks before its first fault that the part has room for."""
+    number = max(-(-len(blob) // 1024), 1)
+    base, capacity = rng.randrange(number + 2), rng.randrange(1, number + 2)
+    seat, committed, at, held = c.Handle(), c.u64(7), c.u64(), c.u64()
+    assert calls.bw_seat_new(modes[1], hashed, base, capacity, seat) == 0
+    status = calls.bw_seat_commit_some(seat, *asked, text, len(text), committed, at)
+    assert (status, at.value) == wanted
+    nodes = by.slice_nodes(int.from_bytes(text[:8], "little"), *asked)
+    before = itertools.takewhile(lambda it: not status or it.offset < at.value, nodes)
+    kept = [it.number for it in before if not it.is_parent and base <= it.number < base + capacity]
+    assert committed.value == len(kept)
+    out = ctypes.create_string_buffer(1024)
+    for it in kept:
+        chunk = blob[1024 * it : 1024 * (it + 1)]
+        assert calls.bw_seat_read_at(seat, 1024 * it, out, len(chunk), at) == 0 and out.raw[: len(chunk)] == chunk
+    assert calls.bw_seat_held(seat, 0, held) == 0 and held.value == sum(1 << it - base for it in kept if blob)
+    calls.bw_free(seat)
+
+
 def beside(modes, root, hashed, outboard, wanted, blob, rng):
     """Holds an outline of the text, and what chunks of a plain copy, changed or not, are beside it, to the definitions."""
     outline, at, length, used = c.Handle(), c.u64(), c.u64(), c.size()
@@ -268,6 +289,7 @@ def look(case, rng):
         case.assertEqual(got, wanted, f"the library answers {got} to a text {how}, the definitions {wanted}")
     stored(modes, root, hashed, asked, text, wanted, blob, by.slice_text(modes[0], blob, 2**64 - 1, 1))
     parted(modes, hashed, asked, text, wanted, blob, rng)
+    rescued(modes, hashed, asked, text, wanted, blob, rng)
     first = min(asked[0], max(len(blob), 1) - 1) // 1024 * 1024
     assert blob[first:].startswith(given)
 

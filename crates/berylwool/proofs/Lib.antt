@@ -4,6 +4,8 @@ pub mod EachGroup
 pub mod Feeds
 pub mod PlacesOfNodes
 pub mod Finishing
+pub mod ShorterSlices
+pub mod FrontGood
 pub mod HandleValues
 pub mod HeldBits
 pub mod Parts

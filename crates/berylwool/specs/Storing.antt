@@ -1,5 +1,7 @@
 -- Storing all that a slice has: its chunks, group after group, and then its parents.
-use Rattle.std.specs.Prelude.{◌≡◌, ◌≢◌, ◌⊎◌, ℕ, zero, suc, ◌+◌, ◌/◌, Bool, false, count_ones, Option, Some}
+use Rattle.std.specs.Prelude.{◌≡◌, ◌≢◌, ◌⊎◌, ℕ, zero, suc, ◌+◌, ◌/◌, ◌<◌, ◌≤◌, List, take, Bool, false, count_ones, Option, Some}
+use Rattle.bao_text.specs.Cut.{claimed, slice_len}
+use Rattle.bao_check.specs.Accepted.{IsAccepted, slice_nodes}
 use Rattle.store_shared.specs.Parents.{SeatParentsBind}
 use Rattle.holders.specs.declared.fixed.Fixed.{Fixed}
 use Rattle.store_core.specs.declared.history.Call.TheVariants.{Commit, Length, Parents, Take}
@@ -12,6 +14,7 @@ use Rattle.store_core.specs.Masks.{IsMaskOf}
 use Rattle.holders.specs.Pieces.{holds_chunk, holds_parent, length_of}
 use Rattle.store_core.specs.Stores.{ChunksBind}
 use Rattle.store_shared.specs.Calls.{AreParentsHeld}
+use Rattle.berylwool.specs.Calls.{slice_piece}
 
 -- The slice has nothing of the group, and nothing is done.
 pub record Passes (has : ℕ → Bool) (group count : ℕ) (old new : SeatView) : Type 0 where
@@ -68,3 +71,24 @@ pub record IsOfOther (piece : Piece) (old new : SeatView) : Type 0 where
   pub recorded : Option ℕ
   pub length_is : Called (Length recorded) old new
   pub other : recorded ≢ Some (length_of piece)
+
+-- what an encoding has of a slice, if it begins with that slice's encoding
+abbrev pub front_text : List ℕ → ℕ → ℕ → List ℕ
+front_text text start part = take (slice_len (claimed text) start part) text
+
+-- An encoding that isn't accepted as the slice (start, len) has its first fault at offset `at`. Of the slices
+-- (start, n) with n up to `len` whose encoding ends no later than there, this is the one with the largest n. The
+-- encoding begins with it, and it is accepted.
+pub record IsFront (fixed : Fixed) (text : List ℕ) (start len at part : ℕ) : Type 0 where
+  pub within : part ≤ len
+  pub before : slice_len (claimed text) start part ≤ at
+  pub most : (n : ℕ) → part < n → n ≤ len → at < slice_len (claimed text) start n
+  pub accepted : IsAccepted fixed.mode fixed.root.0 (front_text text start part) (slice_nodes (front_text text start part) start part)
+
+-- The chunks of that slice are stored. If the first chunk ends later than the fault, or the encoding claims that the
+-- blob is empty, none are.
+abbrev pub CommitsFront : Fixed → List ℕ → ℕ → ℕ → ℕ → ℕ → SeatView → SeatView → Type 0
+CommitsFront fixed text start len at count old new =
+    (((claimed text ≡ 0) ⊎ (at < slice_len (claimed text) start 0)) × (count ≡ 0) × (new ≡ old))
+    ⊎ ((part : ℕ) × IsFront fixed text start len at part
+    × EachGroup (CommitsGroup fixed (slice_piece fixed.base (front_text text start part) start part)) (groups fixed) count old new)

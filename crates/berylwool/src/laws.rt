@@ -3,9 +3,11 @@
 
 ghost use Rattle.std.specs.Prelude.{◌≡◌, ◌≢◌, ◌↔◌, ◌⊎◌, ℕ, List, length, take};
 ghost use Rattle.b3tree.specs.declared.mode.Mode.{Mode};
+ghost use Rattle.holders.specs.declared.fixed.Fixed.{Fixed};
 ghost use Rattle.berylwool.specs.Handles.{HasOutline, HoldsIn};
 ghost use Rattle.berylwool.specs.Modes.{mode_of};
 ghost use Rattle.berylwool.specs.Outlines.{IsOutlined};
+ghost use Rattle.berylwool.specs.Storing.{IsFront};
 
 use crate::about::bw_version;
 use crate::checking::bw_check;
@@ -324,3 +326,8 @@ pub fn hasher_finish_determined(
         bw_hasher_finish(alloc, b, at, theirs),
     )
 }
+
+// Which chunks are stored of an encoding that isn't accepted: where its first fault is determines it.
+pub fn front_determined()
+    ensures { (fixed : Fixed) (text : List ℕ) (start len at part other : ℕ) → IsFront fixed text start len at part → IsFront fixed text start len at other → part ≡ other }
+{}

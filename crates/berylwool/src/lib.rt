@@ -11,6 +11,7 @@ mod checking;
 mod decoding;
 mod feeding;
 mod freeing;
+mod fronts;
 mod gathering;
 mod handle;
 mod hasher;

@@ -56,7 +56,7 @@ fn commit_group(store: &Assembly, seat: &mut Seat, group: u32, piece: &Checked<'
 }
 
 // Does the same for each group, in order.
-fn commit_groups(store: &Assembly, seat: &mut Seat, piece: &Checked<'_>) -> u64
+pub(crate) fn commit_groups(store: &Assembly, seat: &mut Seat, piece: &Checked<'_>) -> u64
     requires seat { IsSeatOf store.now seat.old }
     requires piece { IsOf (fixed_of store.now) piece.now }
     ensures of { IsSeatOf store.now seat.new }
