@@ -121,7 +121,8 @@ enum {
     BW_OTHER_SIZE = 1212,    /* the next node has to be passed to bw_feed_take first */
     BW_NO_MODE = 1213,       /* the mode's kind is unknown */
     BW_NO_HOLDER = 1214,     /* the plan has no such holder */
-    BW_NO_REQUEST = 1215     /* no such request is under way */
+    BW_NO_REQUEST = 1215,    /* no such request is under way */
+    BW_NO_SUBTREE = 1216     /* the bytes aren't a subtree */
 };
 
 /* Returns a status in words.
@@ -309,6 +310,18 @@ BW_USE bw_status bw_encode(const bw_mode *mode, const uint8_t *bytes, size_t len
 BW_USE bw_status bw_outboard(const bw_mode *mode, const uint8_t *bytes, size_t len, uint8_t *out,
                              size_t out_len, size_t *used,
                              uint8_t root[BW_AT_LEAST(BW_HASH_LEN)]) BW_NONNULL(1, 6);
+
+/* Writes the parents of the subtree over `bytes`, which begin with chunk `first` of a blob, as they
+ * follow one another in the blob's outboard encoding: 64 bytes for each chunk but one.
+ *
+ * So a mirror of the plain blob needs of that encoding only the parents above such subtrees, whose
+ * places bw_slice_nodes lists. A subtree of several chunks begins at a multiple of the least power
+ * of two that is at least their number. It has as many chunks as that, or it ends with the blob.
+ *
+ * BW_TOO_LONG: the bytes end above 2^64 - 1. BW_NO_SUBTREE: they don't begin at such a multiple.
+ * BW_ROOM comes before any memory is taken or any byte hashed. */
+BW_USE bw_status bw_parents(const bw_mode *mode, uint64_t first, const uint8_t *bytes, size_t len,
+                            uint8_t *out, size_t out_len, size_t *used) BW_NONNULL(1, 7);
 
 /* Copies a slice out of a combined encoding, and verifies nothing. What isn't there is left out. */
 BW_USE bw_status bw_cut_slice(const uint8_t *text, size_t text_len, uint64_t start, uint64_t len,

@@ -184,6 +184,7 @@ int main(void) {
         bw_status all = bw_feed_new(of(&plain, root, 0, UINT64_MAX), &whole);
         bw_status bare =
             bw_outboard(&plain, blob, sizeof blob, spare, sizeof spare, &spare_len, root);
+        bw_status below = bw_parents(&plain, 0, blob, 65536, spare, sizeof spare, &spare_len);
         bw_status kept = bw_outline_new(&plain, root, outboard, outboard_len, &outline, &at),
                   shared = bw_outline_share(&outline, &again);
         bw_status parted = bw_seat_new(&plain, root, 3, 60, &part);
@@ -241,6 +242,7 @@ int main(void) {
         WANT(encoded == BW_OK || (encoded == BW_TEXT_MEMORY && ++refused));
         WANT(sliced == BW_OK || (sliced == BW_TEXT_MEMORY && ++refused));
         WANT(bare == BW_OK || (bare == BW_TEXT_MEMORY && ++refused));
+        WANT(below == BW_OK || (below == BW_TEXT_MEMORY && ++refused));
         if (opened == BW_OK) {
             WANT(bw_seat_take(&seat, 0, UINT64_MAX, &mask) == BW_OK && mask == UINT64_MAX);
             WANT(bw_seat_commit_chunks(&seat, 0, 65536, slice, cut, &mask, &at) == BW_OK &&

@@ -46,6 +46,7 @@ static void write_texts(void) {
     size_t used;
     sink = bw_encode(&plain, blob, BLOB_LEN, out, ROOM, &used, hashed);
     sink = bw_outboard(&plain, blob, BLOB_LEN, out, ROOM, &used, hashed);
+    sink = bw_parents(&plain, 0, blob, BLOB_LEN, out, ROOM, &used);
     sink = bw_cut_slice(text, text_len, 100000, 1000000, out, ROOM, &used);
     at = bw_outboard_len(UINT64_MAX) + bw_slice_len(UINT64_MAX, UINT64_MAX / 3, UINT64_MAX / 3);
 }

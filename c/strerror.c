@@ -39,6 +39,7 @@ const char *bw_strerror(bw_status status) {
     case BW_NO_MODE: return "the mode's kind isn't known";
     case BW_NO_HOLDER: return "the plan has no such holder";
     case BW_NO_REQUEST: return "no such request is under way";
+    case BW_NO_SUBTREE: return "the bytes aren't a subtree";
     default: return "no status of this library";
     }
 }

@@ -811,6 +811,7 @@ static void modes(const uint8_t *blob) {
              bw_encode(&unknown, blob, 5000, out, 1, &len, hash) == BW_NO_MODE);
         WANT(bw_outboard(&unknown, blob, 5000, out, sizeof out, &len, hash) == BW_NO_MODE &&
              bw_outboard(&unknown, blob, 5000, out, 1, &len, hash) == BW_NO_MODE);
+        WANT(bw_parents(&unknown, 1, blob, 5000, out, sizeof out, &len) == BW_NO_MODE);
         WANT(bw_check(of(&unknown, root, 0, UINT64_MAX), text, used, &at) == BW_NO_MODE &&
              bw_check(of(&unknown, root, 0, 1), text, 7, &at) == BW_NO_MODE);
         WANT(bw_decode(of(&unknown, root, 0, UINT64_MAX), text, used, out, 1, &len, &total, &at) ==
@@ -840,6 +841,31 @@ static void texts(const uint8_t *blob, const uint8_t *root, holder *good) {
     WANT(bw_encode(&plain, blob, BLOB_LEN, outboard, outboard_len, &used, again) == BW_ROOM);
     WANT(bw_outboard(&plain, blob, BLOB_LEN, outboard, outboard_len, &used, again) == BW_OK);
     WANT(used == outboard_len && memcmp(again, root, sizeof again) == 0);
+    /* The parents of a subtree, as the outboard encoding has them, are made of its plain bytes. */
+    static bw_placed nodes[BW_NODES_MAX(400)];
+    uint8_t *below = room(outboard_len);
+    size_t count = 0;
+    WANT(bw_slice_nodes(BLOB_LEN, 700 * 1024, UINT64_MAX, nodes, BW_NODES_MAX(400), &count) ==
+         BW_OK);
+    for (size_t k = 0; k < count; k++) {
+        const bw_placed *it = &nodes[k];
+        if (it->kind != BW_NODE_PARENT) continue;
+        const size_t len = 64 * (size_t)((it->len + 1023) / 1024 - 1);
+        WANT(bw_parents(&plain, it->start / 1024, blob + it->start, (size_t)it->len, below,
+                        outboard_len, &used) == BW_OK &&
+             used == len && memcmp(below, outboard + it->outboard_at, len) == 0);
+        WANT(bw_parents(&plain, it->start / 1024, blob + it->start, (size_t)it->len, below, len - 1,
+                        &used) == BW_ROOM &&
+             used == len);
+        WANT(bw_parents(&plain, it->start / 1024 + 1, blob, (size_t)it->len, below, 0, &used) ==
+             BW_NO_SUBTREE);
+    }
+    used = 7;
+    WANT(bw_parents(&plain, UINT64_MAX >> 10, blob, 1024, below, 0, &used) == BW_TOO_LONG &&
+         bw_parents(&plain, UINT64_MAX >> 10, blob, 1025, below, 0, &used) == BW_TOO_LONG &&
+         used == 7);
+    WANT(bw_parents(&plain, UINT64_MAX >> 10, blob, 1023, NULL, 0, &used) == BW_OK && used == 0);
+    free(below);
     free(outboard);
 
     WANT(bw_check(of(&plain, root, 0, UINT64_MAX), good->text, good->len, &at) == BW_OK);
@@ -1743,7 +1769,7 @@ static void sizes(const uint8_t *blob, const uint8_t *root, const holder *good) 
     size_t named = 0;
     for (bw_status status = 0; status < 2000; status++)
         named += strcmp(bw_strerror(status), bw_strerror(1)) != 0;
-    WANT(named == 35); /* as many as the header has */
+    WANT(named == 36); /* as many as the header has */
     WANT(bw_version() == BW_VERSION);
 }
 

@@ -43,6 +43,7 @@ class Status(enum.IntEnum):
     NO_MODE = 1213
     NO_HOLDER = 1214
     NO_REQUEST = 1215
+    NO_SUBTREE = 1216
 
 
 class NodeKind(enum.IntEnum):

@@ -23,7 +23,7 @@ KEY = b"whats the Elvish word for friend"
 if not os.path.exists(LIBRARY):
     raise unittest.SkipTest(f"{LIBRARY} was not built")
 calls = c.library(LIBRARY)
-for call in (calls.bw_outboard, calls.bw_slice_ranges, calls.bw_outboard_ranges, calls.bw_slice_nodes, calls.bw_node_at):
+for call in (calls.bw_outboard, calls.bw_parents, calls.bw_slice_ranges, calls.bw_outboard_ranges, calls.bw_slice_nodes, calls.bw_node_at):
     call.restype, call.argtypes = c.u32, None
 calls.bw_encode.argtypes = calls.bw_cut_slice.argtypes = None
 
@@ -242,6 +242,10 @@ def written(modes, blob, start, count):
     assert calls.bw_outboard_ranges(c.u64(len(blob)), c.u64(start), c.u64(count), ranges, c.size(55), ctypes.byref(found)) == 0
     kept = b"".join(texts[1][at : at + size] for at, size in ranges[: found.value])
     assert len(kept) == len(texts[2]) - sum(node.size for node in by.slice_nodes(len(blob), start, count) if not node.is_parent)
+    for it in by.outboard_nodes(len(blob)):
+        part, below = blob[1024 * it.number :][: it.length], texts[1][it.offset :][: 64 * (by.chunks_of(it.length) - 1)]
+        assert wrote(calls.bw_parents, ours, c.u64(it.number), part, c.size(len(part)), (), room=len(below)) == (0, below)
+        assert wrote(calls.bw_parents, ours, c.u64(it.number + 1), part, c.size(len(part)), (), room=len(below))[0] == 1216
     nodes_of(len(blob), start, count)
     return root, texts
 

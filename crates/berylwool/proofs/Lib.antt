@@ -8,11 +8,13 @@ pub mod ShorterSlices
 pub mod FrontGood
 pub mod HandleValues
 pub mod HeldBits
+pub mod OutboardParts
 pub mod Parts
 pub mod Placed
 pub mod Rounds
 pub mod SeatCalls
 pub mod Stores
+pub mod SubtreeParents
 pub mod Texts
 pub mod Values
 pub mod Wholes

@@ -15,3 +15,4 @@ pub mod Ranges
 pub mod Slices
 pub mod Status
 pub mod Storing
+pub mod Subtrees

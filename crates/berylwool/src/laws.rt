@@ -8,6 +8,7 @@ ghost use Rattle.berylwool.specs.Handles.{HasOutline, HoldsIn};
 ghost use Rattle.berylwool.specs.Modes.{mode_of};
 ghost use Rattle.berylwool.specs.Outlines.{IsOutlined};
 ghost use Rattle.berylwool.specs.Storing.{IsFront};
+ghost use Rattle.berylwool.specs.Subtrees.{ParentsInOutboard};
 
 use crate::about::bw_version;
 use crate::checking::bw_check;
@@ -22,7 +23,7 @@ use crate::outlines::{
 };
 use crate::sizes::bw_slice_len;
 use crate::slice::BwSlice;
-use crate::writing::{bw_cut_slice, bw_encode, bw_outboard, bw_outboard_len};
+use crate::writing::{bw_cut_slice, bw_encode, bw_outboard, bw_outboard_len, bw_parents};
 use std::alloc::Global;
 
 pub fn version_determined() -> (u32, u32)
@@ -156,6 +157,32 @@ pub fn outboard_determined(
     let other = bw_outboard(alloc, mode, bytes, theirs, also, its);
     (one, other)
 }
+
+pub fn parents_determined(
+    alloc: Global,
+    mode: &BwMode,
+    first: u64,
+    bytes: &[u8],
+    ours: &mut [u8],
+    theirs: &mut [u8],
+    used: &mut usize,
+    also: &mut usize,
+) -> (u32, u32)
+    requires { ours.old ≡ theirs.old }
+    ensures status { (result.0 ≡ result.1) ⊎ (result.0 ≡ 401) ⊎ (result.1 ≡ 401) }
+    ensures text { result.0 ≡ result.1 → ours.new ≡ theirs.new }
+    ensures used { result.0 ≡ 0 → result.1 ≡ 0 → used.new ≡ also.new }
+{
+    let one = bw_parents(alloc, mode, first, bytes, ours, used);
+    let other = bw_parents(alloc, mode, first, bytes, theirs, also);
+    (one, other)
+}
+
+// What `bw_parents` writes of a subtree of a blob is in the blob's outboard encoding, at the offset that `bw_slice_nodes`
+// lists for its parent.
+pub fn parents_in_outboard()
+    ensures { ParentsInOutboard }
+{}
 
 pub fn cut_slice_determined(
     alloc: Global,

@@ -77,3 +77,6 @@ pub(crate) const NO_HOLDER: u32 = 1214;
 
 /// No such request is under way. Number 1215.
 pub(crate) const NO_REQUEST: u32 = 1215;
+
+/// The bytes aren't a subtree. Number 1216.
+pub(crate) const NO_SUBTREE: u32 = 1216;
