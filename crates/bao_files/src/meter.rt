@@ -25,8 +25,13 @@ const WIPED: &str = "\r\x1b[K";
 pub struct Meter<'a, C, E> {
     clock: &'a C,
     terminal: E,
+    // Of so many files and bytes in all, so many are done.
+    files: AtomicU64,
+    files_done: AtomicU64,
     total: AtomicU64,
     done: AtomicU64,
+    // At which of the clock's milliseconds the work began.
+    begun: AtomicU64,
     // From which of the clock's milliseconds on a line may be written.
     due: AtomicU64,
     // Whether a line stands there.
@@ -49,34 +54,47 @@ impl<'a, C: Clock, E: Write + Copy> Meter<'a, C, E> {
         Meter {
             clock,
             terminal,
+            files: AtomicU64::new(0),
+            files_done: AtomicU64::new(0),
             total: AtomicU64::new(0),
             done: AtomicU64::new(0),
+            begun: AtomicU64::new(0),
             due: AtomicU64::new(NEVER),
             stands: AtomicBool::new(false),
         }
     }
 
-    // Whether it is time for a line, and this thread the one to write it.
-    fn is_due(&self) -> bool {
+    // The time, if a line is due and this thread the one to write it.
+    fn due_time(&self) -> Option<u64> {
         let due = self.due.load(Ordering::SeqCst);
         if due == NEVER {
-            return false;
+            return None;
         }
-        let Some(now) = time_of(self.clock) else {
-            return false;
-        };
+        let now = time_of(self.clock)?;
+        if now < due {
+            return None;
+        }
         let next = now.saturating_add(PAUSE);
-        now >= due
-            && self
-                .due
-                .compare_exchange(due, next, Ordering::SeqCst, Ordering::SeqCst)
-                .is_ok()
+        self.due
+            .compare_exchange(due, next, Ordering::SeqCst, Ordering::SeqCst)
+            .ok()?;
+        Some(now)
     }
 
-    // Writes the line, by one write.
-    fn show(&self, done: u64) {
+    // Writes the line if it is due, by one write.
+    fn show(&self) {
+        let Some(now) = self.due_time() else {
+            return;
+        };
+        // A line is due no earlier, and the time may not be 0.
+        let millis = now
+            .saturating_sub(self.begun.load(Ordering::SeqCst))
+            .max(QUIET);
         let total = self.total.load(Ordering::SeqCst);
-        let Some(line) = shown_line(done.min(total), total) else {
+        let done = self.done.load(Ordering::SeqCst).min(total);
+        let files = self.files.load(Ordering::SeqCst);
+        let files_done = self.files_done.load(Ordering::SeqCst);
+        let Ok(line) = shown_line(files_done, files, done, total, millis) else {
             return;
         };
         let mut terminal = self.terminal;
@@ -85,31 +103,43 @@ impl<'a, C: Clock, E: Write + Copy> Meter<'a, C, E> {
             Err(_) => self.due.store(NEVER, Ordering::SeqCst),
         }
     }
-}
 
-impl<C: Clock, E: Write + Copy> Progress for Meter<'_, C, E> {
-    fn begin(&self, total: u64) {
-        self.total.store(total, Ordering::SeqCst);
-        self.done.store(0, Ordering::SeqCst);
-        let due = match time_of(self.clock) {
-            Some(now) => now.saturating_add(QUIET),
-            None => NEVER,
-        };
-        self.due.store(due, Ordering::SeqCst);
-    }
-
-    fn add(&self, bytes: u64) {
-        let done = self.done.fetch_add(bytes, Ordering::SeqCst);
-        if self.is_due() {
-            self.show(done.saturating_add(bytes));
-        }
-    }
-
-    fn end(&self) {
-        self.due.store(NEVER, Ordering::SeqCst);
+    // Takes the line away, if it stands there.
+    fn wipe(&self) {
         if self.stands.swap(false, Ordering::SeqCst) {
             let mut terminal = self.terminal;
             let _ = terminal.write(WIPED.as_bytes());
         }
+    }
+}
+
+impl<C: Clock, E: Write + Copy> Progress for Meter<'_, C, E> {
+    fn begin(&self, total: u64) {
+        self.begin_files(1, total);
+    }
+
+    fn begin_files(&self, files: u64, total: u64) {
+        self.files.store(files, Ordering::SeqCst);
+        self.files_done.store(0, Ordering::SeqCst);
+        self.total.store(total, Ordering::SeqCst);
+        self.done.store(0, Ordering::SeqCst);
+        let now = time_of(self.clock).unwrap_or(NEVER);
+        self.begun.store(now, Ordering::SeqCst);
+        self.due.store(now.saturating_add(QUIET), Ordering::SeqCst);
+    }
+
+    fn add(&self, bytes: u64) {
+        self.done.fetch_add(bytes, Ordering::SeqCst);
+        self.show();
+    }
+
+    fn file_done(&self) {
+        self.files_done.fetch_add(1, Ordering::SeqCst);
+        self.wipe();
+    }
+
+    fn end(&self) {
+        self.due.store(NEVER, Ordering::SeqCst);
+        self.wipe();
     }
 }
