@@ -122,12 +122,13 @@ def add_to_history(figures, load, mib, runs):
 
 @dataclass(frozen=True)
 class Command:
-    """A command, by its name: its words, the file that the one that it makes has to be like, and its status."""
+    """A command, by its name: its words, the file that the one that it makes has to be like, its status, and whether it prints a line for each of many files."""
 
     name: str
     words: list
     like: str | None = None
     status: int = 0
+    of_many: bool = False
 
 
 @dataclass(frozen=True)
@@ -217,6 +218,27 @@ def damaged_at_its_end(room, encoding):
     return f"{room}/refused"
 
 
+def many(memory, b3sum, mib):
+    """Commands on many files: 10,000 of 20 KB, and as many of 10 MB as have so many MiB together. Both programs print the same."""
+    commands = []
+    for size, count, names in ((20_000, 10_000, (HASH_SMALL, B3SUM_SMALL, CHECK_SMALL, B3SUM_CHECK_SMALL)), (10**7, mib * MIB // 10**7, (HASH_LARGE, B3SUM_LARGE, CHECK_LARGE, B3SUM_CHECK_LARGE))):
+        folder = f"{memory}/of-{size}"
+        os.mkdir(folder)
+        files = [f"{folder}/{k}" for k in range(count)]
+        for name in files:
+            with open(name, "wb") as it:
+                it.write(os.urandom(size))
+        sums = output([PROGRAM, "hash", *files])
+        with open(f"{folder}.sums", "w", encoding="utf-8") as it:
+            it.write(sums)
+        commands += [Command(names[0], [PROGRAM, "hash", *files], of_many=True), Command(names[2], [PROGRAM, "check", f"{folder}.sums"], of_many=True)]
+        if b3sum:
+            if output([b3sum, *files]) != sums:
+                fail("the programs print different hashes of many files")
+            commands += [Command(names[1], [b3sum, *files], of_many=True), Command(names[3], [b3sum, "--check", f"{folder}.sums"], of_many=True)]
+    return commands
+
+
 def measure(room, memory, mib, runs):
     path, made, on_disk = f"{room}/input", f"{memory}/made", f"{room}/made"
     with open(path, "wb") as it:
@@ -248,12 +270,13 @@ def measure(room, memory, mib, runs):
     commands.append(Command(GATHER_LONGER, [PROGRAM, "gather", "--long", root, made, encoding], path))
     held = holders(room, path)
     commands += gatherings(room, held, made)
+    commands += many(memory, b3sum, mib)
     times, hashes = Times(), set()
     for _ in range(runs):
         for it in commands:
             out = on_disk if it.name == DECODE_TO_DISK else made
             printed = times.run(it.name, it.words, out, it.status)
-            if out not in it.words:
+            if out not in it.words and not it.of_many:
                 hashes.add(printed[:64])
             if it.like and not filecmp.cmp(out, it.like, shallow=False):
                 fail(f"what {it.name} wrote isn't {os.path.basename(it.like)}")

@@ -21,7 +21,7 @@ from project import Project, expanded, text_of
 OF = {
     "determined_texts": ["b3word", "b3tree", "bao_text", "bao_check", "bao_bind"],
     "determined_stores": ["holders", "store_core", "store_steps", "store_shared", "gather"],
-    "determined_program": ["b3par", "bao_windows", "bao_files", "bao_decode", "bao_tasks", "bao_script", "bao_request", "bao_command"],
+    "determined_program": ["b3par", "bao_windows", "bao_files", "bao_sums", "bao_decode", "bao_tasks", "bao_script", "bao_request", "bao_command"],
     "bao_plan": ["bao_plan"],
     "berylwool": ["berylwool"],
 }

@@ -9,6 +9,7 @@ differ; with --write writes them.
 import concurrent.futures
 import errno
 import os
+import re
 import sys
 
 import definitions as bao
@@ -30,6 +31,14 @@ def digest(data):
 
 def told(data):
     return f"{len(data)} bytes {digest(data)}"
+
+
+def is_utf8(data):
+    try:
+        data.decode()
+        return True
+    except UnicodeDecodeError:
+        return False
 
 
 def mode_of(words):
@@ -781,7 +790,7 @@ class Programs:
         self.told = []
         while words:
             word = words.pop(0)
-            if word in ("--long", "--salvage", "--encode", "--verbose"):
+            if word in ("--long", "--salvage", "--encode", "--verbose", "--no-names", "--quiet", "--ranges"):
                 options[word] = ""
             elif word.startswith("--"):
                 options[word] = words.pop(0)
@@ -803,8 +812,11 @@ class Programs:
                 self.check_out(name, options, given)
             if "--missing" in options:
                 self.check_list_leads(options, given)
-            out = [f"out: {it}" for it in getattr(self, name.replace("-", "_"))(mode, root, options, given).splitlines()]
-            return ["status 0", *out, *(f"err: bao_gather: {it}" for it in self.told)]
+            if name in ("check", "info") or name == "hash" and len(given) > 1:
+                status, printed = getattr(self, f"{name}_all")(mode, options, given)
+            else:
+                status, printed = 0, getattr(self, name.replace("-", "_"))(mode, root, options, given).splitlines()
+            return [f"status {status}", *(f"out: {it}" for it in printed), *(f"err: bao_gather: {it}" for it in self.told)]
         except Refused as fault:
             told = [*self.told, *self.why(name, options, given, str(fault)), fault]
             return [f"status {fault.status}", *(f"err: bao_gather: {it}" for it in told)]
@@ -814,6 +826,88 @@ class Programs:
         if at + length > 2**64 - 1:
             raise Refused(2, "usage: output range too large")
         return mode.output(self.read(given[0]), at, length).hex()
+
+    def surveyed(self, options, file):
+        """The file's bytes, or none where it can't be read, which is told."""
+        if file in self.files:
+            return self.files[file]
+        self.told += [*([f"{file}: {self.reason_of(file)}"] if "--verbose" in options else []), f"cannot read {file}"]
+        return None
+
+    def shown(self, path):
+        """A path as b3sum shows it."""
+        mark = "\\" if "\\" in path or "\n" in path else ""
+        return mark + path.replace("\\", "\\\\").replace("\n", "\\n")
+
+    def sum_line(self, digits, path):
+        shown = self.shown(path)
+        mark = "\\" if shown != path else ""
+        return f"{mark}{digits}  {shown.removeprefix(mark)}"
+
+    def hash_all(self, mode, options, given):
+        if options["--at"] != "0" or options["--length"] != "32":
+            raise Refused(2, "usage: at and length are for one file")
+        found = [(file, self.surveyed(options, file)) for file in given]
+        digits = [(mode.hash(data).hex(), file) for file, data in found if data is not None]
+        return 3 * (len(digits) < len(found)), [it if "--no-names" in options else self.sum_line(it, file) for it, file in digits]
+
+    def sums(self, text):
+        """The hash and the path of each line that `sum_line` makes; others are told, but for empty ones."""
+        for number, line in enumerate(text.removesuffix(b"\n").split(b"\n"), 1):
+            marked = line.startswith(b"\\")
+            digits, path = line[marked : marked + 64], line[marked + 66 :]
+            if marked:
+                path = re.sub(rb"\\(.)", lambda it: b"\n" if it[1] == b"n" else it[1], path)
+            if re.fullmatch(rb"[0-9a-f]{64}", digits) and is_utf8(path) and self.sum_line(digits.decode(), path.decode()).encode() == line:
+                yield digits.decode(), path.decode()
+            elif line:
+                self.told.append(f"line {number} has no hash and path")
+
+    def check_all(self, mode, options, given):
+        lines = list(self.sums(self.read(given[0])))
+        if not lines:
+            raise Refused(2, "no line has a hash and a path")
+        verdicts, printed = set(), []
+        for digits, path in lines:
+            data = self.surveyed(options, path)
+            verdict = "cannot read" if data is None else "OK" if mode.hash(data).hex() == digits else "FAILED"
+            verdicts.add(verdict)
+            if verdict != "OK" or "--quiet" not in options:
+                printed.append(f"{self.shown(path)}: {verdict}")
+            if verdict == "FAILED" and "--ranges" in options:
+                printed += self.damage(mode, bytes.fromhex(digits), path)
+        return 1 if "FAILED" in verdicts else 3 if "cannot read" in verdicts else 0, printed
+
+    def damage(self, mode, root, path):
+        """A line for each run of groups that a file lacks, by the outboard file beside it."""
+        outline, group = self.files.get(f"{path}.obao", b""), 64 * bao.CHUNK_LEN
+        total, parent = int.from_bytes(outline[:8], "little"), outline[8:72]
+        is_whole = len(outline) == 8 + 64 * (bao.chunks_of(total) - 1) and not self.irregular & {path, f"{path}.obao"}
+        if not is_whole or parent and bao.node_value(mode.key, mode.flags, True, 0, True, parent) != root:
+            self.told.append(f"no ranges of {path}: no outboard file of it is at {path}.obao")
+            return []
+        runs = []
+        for start in range(0, bao.CHUNK_LEN * bao.chunks_of(total), group):
+            try:
+                bao.checked(mode, root, bao.cut_beside(outline, self.files[path], start, group), lambda length, start=start: bao.slice_nodes(length, start, group))
+            except bao.Fault:
+                first = runs.pop()[0] if runs and runs[-1][1] == start else start
+                runs.append((first, start + group))
+        return [f"{self.shown(path)}: damaged: {first} {min(after, total) - first}" for first, after in runs]
+
+    def info_all(self, mode, options, given):
+        printed = []
+        for file in given:
+            data = None if file in self.irregular else self.surveyed(options, file)
+            if data is None:
+                self.told += [f"cannot read {file}"] if file in self.irregular else []
+                continue
+            claimed = int.from_bytes(data[:8], "little")
+            outboard = 8 + 64 * (bao.chunks_of(claimed) - 1)
+            kinds = [kind for kind, size in (("combined encoding", outboard + claimed), ("outboard file", outboard)) if len(data) >= 8 and size == len(data)]
+            told = f"{' or '.join(kinds)} of {claimed} bytes, not verified" if kinds else f"plain file of {len(data)} bytes"
+            printed.append(f"{self.shown(file)}: {told}")
+        return 3 * (len(printed) < len(given)), printed
 
     def encoded(self, mode, file, out, make):
         blob = self.read(file)

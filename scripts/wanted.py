@@ -15,6 +15,14 @@ B3SUM_ONE = "b3sum --num-threads 1"
 B3SUM_FOUR = "b3sum --num-threads 4"
 B3SUM_READ_ONE = "b3sum --no-mmap --num-threads 1"
 B3SUM_READ_FOUR = "b3sum --no-mmap --num-threads 4"
+HASH_SMALL = "bao_gather hash of many small files"
+B3SUM_SMALL = "b3sum of many small files"
+CHECK_SMALL = "bao_gather check of many small files"
+B3SUM_CHECK_SMALL = "b3sum --check of many small files"
+HASH_LARGE = "bao_gather hash of several large files"
+B3SUM_LARGE = "b3sum of several large files"
+CHECK_LARGE = "bao_gather check of several large files"
+B3SUM_CHECK_LARGE = "b3sum --check of several large files"
 OUTBOARD = "bao_gather outboard"
 ENCODE = "bao_gather encode"
 COPY_ENCODED = "cp of the combined encoding"
@@ -82,6 +90,14 @@ ROWS = [
     (HASH_ONE, "whole program, one thread"),
     (B3SUM_ONE, "whole program, one thread"),
     (B3SUM_READ_ONE, "whole program, one thread, reads in pieces"),
+    (HASH_SMALL, "whole program, 10,000 files of 20 KB"),
+    (B3SUM_SMALL, "whole program, the same"),
+    (CHECK_SMALL, "whole program, the same by their hashes"),
+    (B3SUM_CHECK_SMALL, "whole program, the same by their hashes"),
+    (HASH_LARGE, "whole program, as many files of 10 MB as the file is long"),
+    (B3SUM_LARGE, "whole program, the same"),
+    (CHECK_LARGE, "whole program, the same by their hashes"),
+    (B3SUM_CHECK_LARGE, "whole program, the same by their hashes"),
     (OUTBOARD, "whole program, one thread, writes a file"),
     (ENCODE, "whole program, several threads, writes a file"),
     (COPY_ENCODED, "the system's copy of as many bytes as encode writes"),
@@ -196,6 +212,10 @@ PEAKS = [
 RATIOS = [
     ("several threads", B3SUM_FOUR, HASH, "at least 0.45 on four processors"),
     ("several threads", B3SUM_READ_FOUR, HASH, "at least 1.0 on four processors"),
+    ("several threads", HASH_SMALL, B3SUM_SMALL, "at most 1.4"),
+    ("several threads", CHECK_SMALL, B3SUM_CHECK_SMALL, "at most 1.4"),
+    ("several threads", HASH_LARGE, B3SUM_LARGE, "at most 1.4"),
+    ("several threads", CHECK_LARGE, B3SUM_CHECK_LARGE, "at most 1.4"),
     ("one thread", B3SUM_ONE, HASH_ONE, "at least 0.42"),
     ("one thread", B3SUM_READ_ONE, HASH_ONE, ""),
     ("one thread", B3SUM_ONE, C_HASH, "at least 0.55"),

@@ -87,6 +87,8 @@ DECODES = ("decode", "decode-slice")
 # The memory faults of each task, beside the one without a number. Each comes up for some refused allocation.
 OWN = {
     "hash": [],
+    "check": [],
+    "info": [],
     "encode": ["401"],
     "outboard": ["401"],
     "slice": ["401"],
@@ -128,6 +130,8 @@ class Task:
         is_kept = words[0] in DECODES and "--outboard" not in words and ("/dev/stdin" in files or bool(pipes))
         own = OWN[words[0]] + (OWN["encode"] if "--encode" in words else []) + (["504"] if is_kept else [])
         self.memory = {f"bao_gather: {it} memory\n".encode() for it in own} | {PLAIN}
+        # It prints a line for each file, and goes on where one can't be read. Small files are tried together, and then one that couldn't be read again.
+        self.is_survey = words[0] in ("check", "info") or words[0] == "hash" and words[-2] in files
         # The first regular FILE is opened once more before the regular ones are, and before the others, which keeps a descriptor for OUT. What a FILE gives is
         # read by position.
         self.is_placed = words[0] == "gather"
@@ -235,6 +239,9 @@ class Task:
             if is_told_for_less(whole.complaint, ended.complaint) and dataclasses.replace(ended, complaint=whole.complaint) == whole:
                 return True
             return self.is_of_memory(ended) or is_unlisted(whole, ended)
+        if fault.how in HARMLESS and fault.call == "statx" and self.words[0] == "info":
+            # It prints the size that the system tells.
+            return (ended.status, ended.complaint, ended.printed.count(b"\n")) == (whole.status, whole.complaint, whole.printed.count(b"\n"))
         if fault.call == "pthread_create" or fault.how in HARMLESS:
             return ended == whole
         # What is read in order ends where a read gives nothing, and so does what is verified as it is read. At a file's end no read gives anything.
@@ -246,7 +253,7 @@ class Task:
         spared = self.spared if fault.call == "open" and met and met[0][1] != self.spared else None
         gone = lambda file: file in self.files and file not in WRITTEN and file not in unformed and file != spared
         changes = frozenset((file, int(byte) if ends_early else None) for byte, file in met if gone(file) and not is_end(byte, file))
-        is_again = self.is_placed and fault.call == "open" and all(file in self.files and file not in WRITTEN for _, file in met)
+        is_again = (self.is_placed or self.is_survey) and fault.call == "open" and all(file in self.files and file not in WRITTEN for _, file in met)
         places = {file for _, file in met}
         # What is asked of a FILE may not matter, or matter for its form alone.
         avoided = [whole, self.ending(unformed=frozenset(self.formless() & places))] if fault.call == "statx" else [whole]
@@ -279,9 +286,13 @@ class Task:
         if gathering hadn't begun, or empty."""
         complaint = TOLD.sub(b"", ended.complaint)
         whole = self.ending()
+        if self.is_survey:
+            told = whole.complaint.splitlines(True)
+            complaint = b"".join(it for it in complaint.splitlines(True) if it not in told)
         left = [KEPT, whole.out] if complaint == PLAIN else [KEPT]
         listed = [KEPT, b""] if "--missing" in self.words else [KEPT]
-        return ended.status == 4 and not ended.printed and complaint in self.memory and ended.out in left and ended.listed in listed
+        printed = whole.printed.startswith(ended.printed) and ended.printed[-1:] in (b"", b"\n") if self.is_survey else not ended.printed
+        return ended.status == 4 and printed and complaint in self.memory and ended.out in left and ended.listed in listed
 
     def is_ending(self, wanted, places, ended, apart=None, is_avoidable=False):
         """It ended so, but for what a call on one of these places took away, for the system's reasons, and for what is told apart from that. A call that can be
@@ -298,7 +309,7 @@ class Task:
             place = OUT if OUT in places else LIST
             status, printed, complaint = 3, [b""], complaint + f"bao_gather: cannot write {place}\n".encode()
             out = ended.out == (KEPT if place == OUT else wanted.out) and is_listed
-        elif status == 0 and STDOUT in places:
+        elif (status == 0 or self.is_survey) and STDOUT in places:
             printed = [wanted.printed[:k] for k in range(len(wanted.printed))]
             status, complaint = 3, complaint + b"bao_gather: cannot write output\n"
         told = complaint.startswith(ended.complaint) if STDERR in places else ended.complaint == complaint

@@ -37,6 +37,9 @@ def tasks(options):
     yield case("hash blob", {"blob": blob})
     yield case("hash --at 7 --length 99 blob", {"blob": blob})
     yield case("hash /dev/stdin", {"blob": blob, "/dev/stdin": blob})
+    yield case("hash blob whole parents", {"blob": blob, "whole": whole, "parents": parents})
+    yield case("check sums", {"blob": blob, "whole": whole, "sums": f"{root}  whole\n{root}  blob\nwords\n".encode()})
+    yield case("check --quiet sums", {"blob": blob, "whole": whole, "sums": f"{mode.hash(whole).hex()}  whole\n{root}  blob\n".encode()})
     yield case("encode blob out", {"blob": blob})
     yield case("outboard blob out", {"blob": blob})
     yield case("slice 5 9999 blob out", {"blob": blob})
@@ -67,6 +70,8 @@ def tasks(options):
     yield case(f"gather --long --outboard parents {root} out marred blob", {"parents": parents, "marred": marred, "blob": blob})
     yield case(f"decode --outboard parents {root} blob out", {"parents": parents, "blob": blob})
     yield case(f"replay --capacity 100 {root} script whole damaged", {"script": steps, "whole": whole, "damaged": damaged})
+    if not options:
+        yield Task(["info", "blob", "whole", "parents"], {"blob": blob, "whole": whole, "parents": parents})
     if "--key" in options:
         # The key comes out of a file, with a line end and without, or doesn't.
         key = options[1].encode()

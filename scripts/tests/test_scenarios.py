@@ -10,6 +10,7 @@ definitions alone. Empty lines and lines that begin with '#' stand between them.
     bytes FILE [DIGITS]     FILE gets these bytes, in hexadecimal digits
     copy FROM TO N          TO gets the first N bytes of FROM
     flip FILE AT            the lowest bit of this byte is changed
+    claim FILE N            FILE begins with this length
     append FILE DIGITS      FILE gets these bytes too
     steps FILE TEXT         FILE gets the text, in which each ';' is a line end
     add FILE TEXT           FILE gets it too
@@ -105,6 +106,8 @@ class Scene:
                 self.write(to, self.read(source)[: int(length)])
             case "flip", [file, at]:
                 self.write(file, changed(self.read(file), int(at)))
+            case "claim", [file, length]:
+                self.write(file, int(length).to_bytes(8, "little") + self.read(file)[8:])
             case "append", [file, digits]:
                 self.write(file, self.read(file) + bytes.fromhex(digits))
             case _:

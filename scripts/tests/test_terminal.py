@@ -12,14 +12,19 @@ import definitions as bao
 from runs import LONG, Task
 from scenarios import blob_of
 
-# What a terminal gets while a file is read: a line that is written over, and at last wiped.
-LINES, COUNT = re.compile(rb"(?:\r[0-4] of 4 MiB read\x1b\[K)+\r\x1b\[K"), re.compile(rb"\r([0-4]) of")
+# What a terminal gets while a file is read: a line that is written over, and at last wiped. A slow read has no rate.
+LINES = re.compile(rb"(?:\r[0-4] of 4 MiB read(?:, \d+ MiB/s, \d+ s left)?\x1b\[K)+\r\x1b\[K")
+# The same of one thread that reads alone, and all, a MiB a second and then the last 1000 bytes.
+PACES = [(1, 1, 3), (2, 1, 2), (3, 1, 1), (4, 1, 0), (4, 0, 0)]
+IN_ORDER = b"".join(b"\r%d of 4 MiB read, %d MiB/s, %d s left\x1b[K" % it for it in PACES) + b"\r\x1b[K"
+
+# The lines of three files of which there is no second, which is told in between.
+FIRST_OF_THREE, LAST_OF_THREE = (rb"(?:\r%d of 3 files, [0-8] of 8 MiB read(?:, \d+ MiB/s, \d+ s left)?\x1b\[K)+\r\x1b\[K" % it for it in (0, 2))
+OF_THREE = re.compile(FIRST_OF_THREE + rb"bao_gather: cannot read lost\n" + LAST_OF_THREE)
 
 
 def are_lines(got, is_in_order):
-    """Whether a terminal got such lines, and where one thread read alone, and all, counts that go up to the last."""
-    counts = COUNT.findall(got)
-    return LINES.fullmatch(got) is not None and not (is_in_order and (counts != sorted(counts) or counts[-1] != b"4"))
+    return got == IN_ORDER if is_in_order else LINES.fullmatch(got) is not None
 
 
 def on_terminal(folder, words, settings):
@@ -96,6 +101,12 @@ class Terminal(Case):
             left = got.removesuffix(fault) if got.endswith(fault) else b"no fault"
             is_right = are_lines(left, not fault and words == FIRST) if is_shown else left == b""
             self.holds((status, told) == wanted and is_right, f"{task.name}: {how}, {length} bytes: {status} {told} {got}")
+
+    def test_several_files(self):
+        words = ["hash", "blob", "lost", "enc"]
+        folder, _ = self.laid(words, LONG)
+        status, _, got = on_terminal(folder, words, MOVES)
+        self.holds(status == 3 and OF_THREE.fullmatch(got) is not None, f"{words}: {status} {got}")
 
     def test_no_terminal(self):
         """Nothing is shown, whatever the clock says."""

@@ -7,5 +7,6 @@ pub mod Printed
 pub mod Refused
 pub mod ReportLines
 pub mod Status
+pub mod Surveys
 pub mod Tasks
 pub mod Works

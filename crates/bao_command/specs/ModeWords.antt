@@ -1,5 +1,5 @@
 -- what the arguments --key, --key-file and --context say
-use Rattle.std.specs.Prelude.{◌≡◌, ◌⊎◌, ℕ, List, Option, Some, None, Result, Ok, IsSome, MatchResult}
+use Rattle.std.specs.Prelude.{◌≡◌, ◌⊎◌, ℕ, List, Option, Some, None, Result, Ok, IsSome, IsSomeAnd, MatchResult}
 use Rattle.hex.specs.Hex.{decode_of}
 use Rattle.std.specs.Borrow.{Bor}
 use Rattle.std.specs.Option.{option_copied}
@@ -74,4 +74,11 @@ HasKeyAndContext request = IsSome request.key × IsSome request.context
 abbrev pub IsModeFault : Option (Bor (List ℕ)) → Fault → Type 0
 IsModeFault named fault =
     (fault ≡ Key) ⊎ (fault ≡ KeyAndContext) ⊎ (fault ≡ KeyFile) ⊎ (fault ≡ KeyFileAndOthers)
+    ⊎ (fault ≡ File file.Memory) ⊎ ((path : Bor (List ℕ)) × ((named ≡ Some path) × (fault ≡ File (file.Read path))))
+
+-- such a fault with its reason, as far as the file with the key is known
+abbrev pub IsModeDue : (List ℕ → FileState) → Option (Bor (List ℕ)) → Option (Bor (List ℕ)) → Option (Bor (List ℕ)) → Fault → Type 0
+IsModeDue at key named context fault =
+    ((fault ≡ Key) × IsNoKey key) ⊎ ((fault ≡ KeyAndContext) × (IsSome key × IsSome context)) ⊎ ((fault ≡ KeyFile) × IsSomeAnd named (λ path. GivesNoKey (at path.now)))
+    ⊎ ((fault ≡ KeyFileAndOthers) × (IsSome named × (IsSome key ⊎ IsSome context)))
     ⊎ (fault ≡ File file.Memory) ⊎ ((path : Bor (List ℕ)) × ((named ≡ Some path) × (fault ≡ File (file.Read path))))

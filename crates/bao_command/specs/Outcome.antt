@@ -11,6 +11,7 @@ use Rattle.bao_request.specs.CommandLine.{AsksFor, AsksForHelp, program_app}
 use Rattle.bao_command.specs.declared.fault.Fault.{Fault}
 use Rattle.bao_command.specs.Gaps.{LeavesListFor}
 use Rattle.bao_command.specs.Status.{status_of}
+use Rattle.bao_command.specs.Surveys.{AreOfMany, AreOfOne, Surveyed}
 use Rattle.bao_command.specs.Refused.{IsBlobFor, IsRefusedFor}
 use Rattle.bao_command.specs.Tasks.{Decodes, Gathers, IsDue, IsPassed, LeavesFilesOf, PrintsBeginning, PrintsLine, Replays}
 
@@ -68,12 +69,13 @@ IsRefusable words sure at = (request : Request) × AsksFor words request × IsRe
 abbrev pub MayRefuse : List Text → Type 0
 MayRefuse words = (request : Request) × AsksFor words request × (Decodes request.task ⊎ Gathers request.task ⊎ Replays request.task)
 
--- what standard output holds by the exit status: after a fault other than a file's, what it held before; and arguments that are
--- refused are wrong, or memory ran out; and wrong arguments and refusals have their reasons
+-- What standard output holds by the exit status: after a fault other than a file's, what it held before; and arguments that are
+-- refused are wrong, or memory ran out; and wrong arguments and refusals have their reasons. A survey ends as it says, or memory ran out before it began.
 pub record Ends (words : List Text) (old new : Option (List ℕ)) (status : ℕ) : Type 0 where
-  pub done : status ≡ 0 → Done words (λ _. Unknown) (λ _. Unknown) old new
-  pub file_fault : status ≡ 3 → Begun words (λ _. Unknown) (λ _. Unknown) old new
-  pub fault : status ≢ 0 → status ≢ 3 → Keeps old new
+  pub done : AreOfOne words → status ≡ 0 → Done words (λ _. Unknown) (λ _. Unknown) old new
+  pub file_fault : AreOfOne words → status ≡ 3 → Begun words (λ _. Unknown) (λ _. Unknown) old new
+  pub fault : AreOfOne words → status ≢ 0 → status ≢ 3 → Keeps old new
   pub refused : AreRefused words → (status ≡ 2) ⊎ (status ≡ 4)
-  pub usage : status ≡ 2 → IsUsage words (λ _. Unknown)
-  pub refusal : status ≡ 1 → MayRefuse words
+  pub usage : AreOfOne words → status ≡ 2 → IsUsage words (λ _. Unknown)
+  pub refusal : AreOfOne words → status ≡ 1 → MayRefuse words
+  pub surveyed : AreOfMany words → ((status ≡ 4) × Keeps old new) ⊎ Surveyed words ⊥ (λ _. Unknown) old new status

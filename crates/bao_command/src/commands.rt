@@ -22,6 +22,7 @@ ghost use Rattle.bao_tasks.specs.declared.rerun_fault.RerunFault.{RerunFault};
 ghost use Rattle.bao_command.specs.Outcome.{AreRefused, ArePassed, Begun, Done, IsEachFor, IsRefusable, IsUsage, LeavesAt, LeavesListAt};
 ghost use Rattle.bao_command.specs.Printed.{CommandPrints, OnPrinted, told_of};
 ghost use Rattle.bao_command.specs.Refused.{IsBlobFor, IsBlobOf, IsRefused, IsRefusedCopy, IsRefusedCut, IsRefusedFor, IsRefusedReplay, IsRefusedText, OfDigits};
+ghost use Rattle.bao_command.specs.Surveys.{AreOfMany, AreOfOne, Surveyed};
 ghost use Rattle.bao_command.specs.Status.{decode_status_of, rerun_status_of, status_of};
 ghost use Rattle.bao_command.specs.Tasks.{Answers, HasBadLine, HasManyFiles, HasRoot, IfPassed, IsCutFrom, IsDue, IsNoCapacity, IsMixed, IsNoOutput, IsOfFile, IsPassed, IsPastOutput, IsReplay, IsRight, IsRightCopy, IsRightPart, LeavesFiles, LeavesFilesOf, ListClashes, ReadsList, ReadsOut, WritesApart, line_of, part_line};
 
@@ -32,6 +33,7 @@ use crate::lists::check_list;
 use crate::mode::asked_mode;
 use crate::places::check_places;
 use crate::refused::{tell_beside, tell_cut, tell_encoding};
+use crate::survey::conduct_survey;
 use crate::unread::tell_why;
 use b3tree::{Hash, Mode, xof_fits};
 use bao_decode::{DecodeFault, decode_copy_on, decode_on, slice_beside_on, slice_on};
@@ -39,7 +41,7 @@ use bao_files::{
     Disk, FileFault, Once, Progress, bytes_of_digits, encode_on, print_count, print_digits,
     print_file, print_text,
 };
-use bao_request::{Request, Task, parse};
+use bao_request::{Asked, Request, Task, parse};
 use bao_tasks::replay_on;
 use bao_text::{Encoding, Part};
 use clap::error::ErrorKind;
@@ -85,6 +87,13 @@ const MOST_CHUNKS: u32 = 65_536;
 /// On such a disk, LIST is exact after 901, unless memory is refused: no FILE but standard input has a group, or with
 /// `--salvage` a chunk, of its ranges, and some FILE has each other one that was looked for. After another fault of
 /// gathering LIST is empty, if it is made anew.
+///
+/// `hash` with several files, `check` and `info` are surveys: `out` gets a line for each file, in order, and no file changes.
+/// A file that can't be read has no line of `hash` and `info`, and `cannot read` in that of `check`, and the others get theirs.
+/// With `--ranges` the line of a file that FAILED is followed by one for each of its damaged ranges, if its outboard file tells
+/// them. The status is 1 if a file has another hash than its line in SUMS gives, and else 3 if one can't be read. After `Output`
+/// or `Memory` a beginning of the lines was printed. Over files that are all known, on a disk without faults, the lines and the
+/// status are exact. All that is said above of a status is about the other commands.
 pub fn command<R: AllocGlobal + Threads + Sync, D: Disk, O: Write, E: Write, P: Progress + Sync>(
     rt: &R,
     disk: &mut D,
@@ -94,20 +103,23 @@ pub fn command<R: AllocGlobal + Threads + Sync, D: Disk, O: Write, E: Write, P: 
     progress: &P,
 ) -> u8
     ensures status { result ≤ 4 }
-    ensures done { result ≡ 0 → Done (map string_bytes words.now) (D.at disk.old) (D.at disk.new) (O.contents out.old) (O.contents out.new) }
-    ensures file_fault { result ≡ 3 → Begun (map string_bytes words.now) (D.at disk.old) (D.at disk.new) (O.contents out.old) (O.contents out.new) }
-    ensures fault { result ≢ 0 → result ≢ 3 → Keeps (O.contents out.old) (O.contents out.new) }
+    ensures done { AreOfOne (map string_bytes words.now) → result ≡ 0 → Done (map string_bytes words.now) (D.at disk.old) (D.at disk.new) (O.contents out.old) (O.contents out.new) }
+    ensures file_fault { AreOfOne (map string_bytes words.now) → result ≡ 3 → Begun (map string_bytes words.now) (D.at disk.old) (D.at disk.new) (O.contents out.old) (O.contents out.new) }
+    ensures fault { AreOfOne (map string_bytes words.now) → result ≢ 0 → result ≢ 3 → Keeps (O.contents out.old) (O.contents out.new) }
     ensures files { result ≢ 0 → LeavesAt (map string_bytes words.now) (D.at disk.old) (D.at disk.new) result }
     ensures gaps { result ≢ 0 → LeavesListAt (map string_bytes words.now) (D.faultless disk.old) (D.at disk.old) (D.at disk.new) result }
     ensures refused { AreRefused (map string_bytes words.now) → (result ≡ 2) ⊎ (result ≡ 4) }
-    ensures usage { result ≡ 2 → IsUsage (map string_bytes words.now) (D.at disk.old) }
-    ensures blob { result ≡ 0 → IsEachFor (map string_bytes words.now) (D.faultless disk.old) (D.at disk.old) (D.at disk.new) (O.contents out.old) (O.contents out.new) }
-    ensures refusal { result ≡ 1 → IsRefusable (map string_bytes words.now) (D.faultless disk.old) (D.at disk.old) }
-    ensures passed { result ≡ 0 → ArePassed (map string_bytes words.now) (D.at disk.old) }
-    ensures judged { result ≡ 1 → ArePassed (map string_bytes words.now) (D.at disk.old) }
+    ensures usage { AreOfOne (map string_bytes words.now) → result ≡ 2 → IsUsage (map string_bytes words.now) (D.at disk.old) }
+    ensures blob { AreOfOne (map string_bytes words.now) → result ≡ 0 → IsEachFor (map string_bytes words.now) (D.faultless disk.old) (D.at disk.old) (D.at disk.new) (O.contents out.old) (O.contents out.new) }
+    ensures refusal { AreOfOne (map string_bytes words.now) → result ≡ 1 → IsRefusable (map string_bytes words.now) (D.faultless disk.old) (D.at disk.old) }
+    ensures passed { AreOfOne (map string_bytes words.now) → result ≡ 0 → ArePassed (map string_bytes words.now) (D.at disk.old) }
+    ensures judged { AreOfOne (map string_bytes words.now) → result ≡ 1 → ArePassed (map string_bytes words.now) (D.at disk.old) }
+    ensures surveyed { AreOfMany (map string_bytes words.now) → KeepsFiles (D.at disk.old) (D.at disk.new)
+        × (((result ≡ 4) × Keeps (O.contents out.old) (O.contents out.new)) ⊎ Surveyed (map string_bytes words.now) (D.faultless disk.old) (D.at disk.old) (O.contents out.old) (O.contents out.new) result) }
 {
     match parse(rt.alloc(), words) {
-        Ok(request) => match serve(rt, disk, &request, out, err, progress) {
+        Ok(Asked::Many(survey)) => conduct_survey(rt, disk, &survey, out, err, progress),
+        Ok(Asked::One(request)) => match serve(rt, disk, &request, out, err, progress) {
             Ok(()) => 0,
             Err(fault) => {
                 tell_why(disk, &request, fault, err);
@@ -516,6 +528,7 @@ fn answer_clap<O: Write, E: Write>(
     ensures refused { ¬ IsHelp (kind_of error.now) → (result ≡ 2) ⊎ (result ≡ 4) }
     ensures fault { result ≢ 0 → result ≢ 3 → Keeps (O.contents out.old) (O.contents out.new) }
     ensures usage { result ≡ 2 → kind_of error.now ≢ ErrorKind.OutOfMemory }
+    ensures memory { kind_of error.now ≡ ErrorKind.OutOfMemory → result ≡ 4 }
     ensures refusal { result ≢ 1 }
 {
     if error.kind() == ErrorKind::OutOfMemory {

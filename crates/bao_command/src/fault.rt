@@ -79,7 +79,7 @@ pub enum Fault<'a> {
 }
 
 // The exit status of a file's fault.
-fn file_status(fault: FileFault<'_>) -> u8
+pub(crate) fn file_status(fault: FileFault<'_>) -> u8
     ensures { result ≡ file_status_of fault.entry }
 {
     match fault {

@@ -4,6 +4,7 @@
 pub use commands::command;
 pub use fault::Fault;
 pub use program::run;
+pub use survey_fault::SurveyFault;
 pub use words::own_words;
 
 mod commands;
@@ -15,5 +16,7 @@ mod mode;
 mod places;
 mod program;
 mod refused;
+mod survey;
+mod survey_fault;
 mod unread;
 mod words;

@@ -1,8 +1,8 @@
 ghost use Rattle.std.specs.Borrow.{Bor};
 ghost use Rattle.std.specs.Option.{option_copied};
-ghost use Rattle.std.specs.Prelude.{◌≡◌, ◌⊎◌, ℕ, List, IfErr, IfOk, IfSome, IsErrAnd};
+ghost use Rattle.std.specs.Prelude.{◌≡◌, ◌⊎◌, ℕ, List, IfErr, IfOk, IfSome, IsErrAnd, IsSome};
 ghost use Rattle.b3tree.specs.Valid.{AreBytes};
-ghost use Rattle.bao_command.specs.ModeWords.{GivesFileMode, GivesMode, GivesNoKey, HasMode, IsKeyedBy, IsKeyedIn, IsModeFault, MixesKeys};
+ghost use Rattle.bao_command.specs.ModeWords.{AsksForMode, GivesFileMode, GivesMode, GivesNoKey, HasMode, IsKeyedBy, IsKeyedIn, IsModeDue, IsModeFault, MixesKeys};
 ghost use Rattle.bao_command.specs.Tasks.{IsDue};
 ghost use Rattle.bao_command.specs.declared.fault.Fault.TheVariants as Fault;
 ghost use Rattle.bao_files.specs.declared.fault.FileFault.TheVariants as FileFault;
@@ -59,6 +59,26 @@ fn mode_of_file<'a, D: Disk>(disk: &D, path: &'a str) -> Result<Mode, Fault<'a>>
     }
 }
 
+// The mode that is asked for by `--key` and `--context`, as in `mode_of`, or by the file of `--key-file`, as in
+// `mode_of_input`. Refuses with `KeyFileAndOthers` if that file is given with one of the others, and doesn't open it then.
+pub(crate) fn mode_by<'a, D: Disk>(
+    disk: &D,
+    key: Option<&'a str>,
+    key_file: Option<&'a str>,
+    context: Option<&'a str>,
+) -> Result<Mode, Fault<'a>>
+    ensures mode { IfOk result (AsksForMode (D.at disk.now) (option_copied key.entry) (option_copied key_file.entry) (option_copied context.entry)) }
+    ensures fault { IfErr result (IsModeFault key_file.entry) }
+    ensures due { IfErr result (IsModeDue (D.at disk.now) key.entry key_file.entry context.entry) }
+    ensures mixed { IsSome key_file.entry → IsSome key.entry ⊎ IsSome context.entry → IsErrAnd result (λ fault. fault ≡ Fault.KeyFileAndOthers) }
+{
+    match (key_file, key, context) {
+        (None, key, context) => mode_of(key, context),
+        (Some(path), None, None) => mode_of_file(disk, path),
+        (Some(_), Some(_), _) | (Some(_), _, Some(_)) => Err(Fault::KeyFileAndOthers),
+    }
+}
+
 // The mode that a request asks for: by `--key` and `--context`, as in `mode_of`, or by the file of `--key-file`, as in
 // `mode_of_input`. Refuses with `KeyFileAndOthers` if that file is given with one of the others, and doesn't open it then.
 pub(crate) fn asked_mode<'a, D: Disk>(disk: &D, request: &Request<'a>) -> Result<Mode, Fault<'a>>
@@ -67,9 +87,5 @@ pub(crate) fn asked_mode<'a, D: Disk>(disk: &D, request: &Request<'a>) -> Result
     ensures fault { IfErr result (IsModeFault request.now.key_file) }
     ensures due { IfErr result (IsDue (D.at disk.now) request.now) }
 {
-    match (request.key_file, request.key, request.context) {
-        (None, key, context) => mode_of(key, context),
-        (Some(path), None, None) => mode_of_file(disk, path),
-        (Some(_), Some(_), _) | (Some(_), _, Some(_)) => Err(Fault::KeyFileAndOthers),
-    }
+    mode_by(disk, request.key, request.key_file, request.context)
 }

@@ -118,7 +118,7 @@ module _ (mode : Mode) (root : List ℕ) (start len : ℕ) where
 -- the same of an outboard encoding and a plain copy
 module _ (mode : Mode) (root : List ℕ) (start len : ℕ) where
   -- what is known of the slice that two known files make
-  beside_known : (total a b : ℕ) (o c : List ℕ) (outline bytes : Option (List ℕ)) (F : List ℕ → Type 0) → a ≡ start → b ≡ len → outline ≡ Some o → bytes ≡ Some c → ClaimsLength outline total
+  pub beside_known : (total a b : ℕ) (o c : List ℕ) (outline bytes : Option (List ℕ)) (F : List ℕ → Type 0) → a ≡ start → b ≡ len → outline ≡ Some o → bytes ≡ Some c → ClaimsLength outline total
       → IfSome (woven_contents total a b outline bytes) F → F (cut_beside o c start len)
   beside_known total a b o c outline bytes F a_is b_is outline_is bytes_is claims known =
       let is : total ≡ claimed o = sym (subst (λ (c : Option (List ℕ)). ClaimsLength c total) outline_is claims).1 in

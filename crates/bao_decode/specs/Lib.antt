@@ -7,3 +7,4 @@ pub mod Weaving
 pub mod DecodeFaults
 pub mod Opened
 pub mod Forward
+pub mod Damage

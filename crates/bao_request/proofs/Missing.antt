@@ -1,11 +1,13 @@
 -- A subcommand of which an argument is missing asks for nothing.
-use Rattle.std.proofs.Common.{◌≡◌, ◌<◌, ◌^◌, ℕ, List, Option, None, Some, IsNone, Bor, codes, ap, arith}
+use Rattle.std.proofs.Common.{◌≡◌, ◌∙◌, ◌<◌, ◌^◌, ℕ, List, [], ◌∷◌, length, map, refl, sym, Option, None, Some, IsNone, Bor, codes, ap, arith}
 use Rattle.clap.specs.Words.{Row, Text}
 use Rattle.bao_text.specs.declared.kinds.Encoding.TheVariants.{Combined, Outboard, Slice}
 use Rattle.bao_text.specs.declared.kinds.Part.TheVariants as part
 use Rattle.bao_request.specs.declared.tasks.Task.{Task}
 use Rattle.bao_request.specs.declared.tasks.Task.TheVariants.{Hash, Encode, CutSlice, Decode, DecodeCopy, Gather, Replay}
-use Rattle.bao_request.specs.Requests.{Finds, GivesNumber, GivesRange, GivesTask, GivesText, GivesTexts}
+use Rattle.bao_request.specs.declared.tasks.SurveyTask.{SurveyTask}
+use Rattle.bao_request.specs.declared.tasks.SurveyTask.TheVariants.{Hashes, Check, Info}
+use Rattle.bao_request.specs.Requests.{Finds, GivesSurveyTask, GivesNumber, GivesRange, GivesTask, GivesText, GivesTexts}
 use Rattle.bao_request.proofs.Subcommands.{class_is, letters}
 
 -- nothing was found where there is nothing
@@ -23,7 +25,7 @@ wider rows id n a =
     let small : n < 2 ^ 32 = a.4 in (a.0, a.1, a.2, a.3, omega arith)
 
 pub no_hash : (rows : List Row)
-    → ((at size : ℕ) (file : Bor Text) → GivesNumber 64 rows (codes "at") at → GivesNumber 32 rows (codes "length") size → ¬ GivesText rows (codes "FILE") file.now)
+    → ((at size : ℕ) (file : Bor Text) → GivesNumber 64 rows (codes "at") at → GivesNumber 32 rows (codes "length") size → ¬ GivesTexts rows (codes "FILE") (file ∷ []))
     → (task : Task) → ¬ GivesTask (codes "hash") rows task
 no_hash rows without (Hash at size file) a = without at size file a.1 a.2 a.3
 no_hash rows without task a = let e = class_is (codes "hash") rows task a in absurd (omega (arith, e))
@@ -61,3 +63,24 @@ pub no_replay : (rows : List Row)
     → (task : Task) → ¬ GivesTask (codes "replay") rows task
 no_replay rows without (Replay root capacity script files) a = without root script capacity files.items a.2 a.1 a.3 a.4
 no_replay rows without task a = let e = class_is (codes "replay") rows task a in absurd (omega (arith, e))
+
+-- a list whose texts are those of one, though it isn't one
+pub not_single : (found : Option (List Text)) (texts : List (Bor Text)) (file : Bor Text) → found ≡ Some (map (λ (text : Bor Text). text.now) texts)
+    → ((only : Bor Text) → ¬ (texts ≡ only ∷ [])) → ¬ (found ≡ Some (map (λ (text : Bor Text). text.now) (file ∷ [])))
+not_single found [] file are none is = let empty : List Text = [] in let no : Some empty ≡ Some (file.now ∷ []) = sym are ∙ is in cc
+not_single found (only ∷ []) file are none is = none only refl
+not_single found (first ∷ second ∷ rest) file are none is =
+    let no : Some (first.now ∷ second.now ∷ map (λ (text : Bor Text). text.now) rest) ≡ Some (file.now ∷ []) = sym are ∙ is in cc
+
+-- so it is of surveys
+pub no_hashes : (rows : List Row)
+    → ((at size : ℕ) (files : List (Bor Text)) → GivesNumber 64 rows (codes "at") at → GivesNumber 32 rows (codes "length") size → GivesTexts rows (codes "FILE") files → ¬ (1 < length files))
+    → (task : SurveyTask) → ¬ GivesSurveyTask (codes "hash") rows task
+no_hashes rows without (Hashes at size bare files) a = without at size files.items a.1 a.2 a.4 a.5
+no_hashes rows without (Check quiet ranges sums) a = absurd (omega (arith, ap letters a.0))
+no_hashes rows without (Info files) a = absurd (omega (arith, ap letters a.0))
+
+pub no_info : (rows : List Row) → ((files : List (Bor Text)) → ¬ GivesTexts rows (codes "FILE") files) → (task : SurveyTask) → ¬ GivesSurveyTask (codes "info") rows task
+no_info rows without (Hashes at size bare files) a = absurd (omega (arith, ap letters a.0))
+no_info rows without (Check quiet ranges sums) a = absurd (omega (arith, ap letters a.0))
+no_info rows without (Info files) a = without files.items a.1

@@ -10,8 +10,10 @@ use Rattle.clap.specs.declared.builder.value_parser.ValueParser.TheVariants.{Sig
 use Rattle.clap.specs.declared.error.Error.{Error}
 use Rattle.clap.specs.declared.error.kind.ErrorKind.{ErrorKind}
 use Rattle.clap.specs.declared.error.kind.ErrorKind.TheVariants.{DisplayHelp, DisplayVersion, MissingSubcommand}
+use Rattle.bao_request.specs.declared.tasks.Asked.{Asked}
 use Rattle.bao_request.specs.declared.tasks.Request.{Request}
-use Rattle.bao_request.specs.Requests.{GivesRequest}
+use Rattle.bao_request.specs.declared.tasks.Survey.{Survey}
+use Rattle.bao_request.specs.Requests.{Gives, GivesRequest, GivesSurvey}
 
 -- an option `--id VALUE`, and a required argument
 abbrev pub option_rule : Text → Rule
@@ -66,8 +68,19 @@ with_mode_rules app = with_rule (with_key_rules app) verbose_rule
 abbrev pub with_file_rules : App → App
 with_file_rules app = with_mode_rules (with_rule (with_rule app file_rule) out_rule)
 
+-- whether the lines of several files are without their names: a flag `--no-names`
+abbrev pub no_names_rule : Rule
+no_names_rule = record (new_rule (codes "no-names")) { long = Some (codes "no-names"); action = Some SetTrue }
+
+-- one file or more
+abbrev pub files_rule : Rule
+files_rule = record (place_rule (codes "FILE")) { range = Some (record { start_inclusive = 1; end_inclusive = usize_max }) }
+
+abbrev pub with_output_rules : App → App
+with_output_rules app = with_rule (with_rule app at_rule) length_rule
+
 abbrev pub hash_app : App
-hash_app = with_mode_rules (with_rule (with_rule (with_rule (new_app (codes "hash")) at_rule) length_rule) file_rule)
+hash_app = with_mode_rules (with_rule (with_rule (with_output_rules (new_app (codes "hash"))) no_names_rule) files_rule)
 
 abbrev pub encode_app : App
 encode_app = with_file_rules (new_app (codes "encode"))
@@ -136,10 +149,6 @@ missing_rule = option_rule (codes "missing")
 abbrev pub capacity_rule : Rule
 capacity_rule = record (option_rule (codes "capacity")) { parser = Some (Signed (pos 1) (pos 65536)); defaults = codes "65536" ∷ [] }
 
--- one file or more
-abbrev pub files_rule : Rule
-files_rule = record (place_rule (codes "FILE")) { range = Some (record { start_inclusive = 1; end_inclusive = usize_max }) }
-
 abbrev pub with_holders_rules : App → App
 with_holders_rules app = with_mode_rules (with_rule (with_rule (with_rule app root_rule) out_rule) files_rule)
 
@@ -155,6 +164,24 @@ with_script_rules app = with_mode_rules (with_rule (with_rule (with_rule app roo
 abbrev pub replay_app : App
 replay_app = with_script_rules (with_rule (new_app (codes "replay")) capacity_rule)
 
+-- whether only failures are printed: a flag `--quiet`
+abbrev pub quiet_rule : Rule
+quiet_rule = record (new_rule (codes "quiet")) { long = Some (codes "quiet"); action = Some SetTrue }
+
+-- whether the damaged ranges are printed: a flag `--ranges`
+abbrev pub ranges_rule : Rule
+ranges_rule = record (new_rule (codes "ranges")) { long = Some (codes "ranges"); action = Some SetTrue }
+
+abbrev pub sums_rule : Rule
+sums_rule = place_rule (codes "SUMS")
+
+abbrev pub check_app : App
+check_app = with_mode_rules (with_rule (with_rule (with_rule (new_app (codes "check")) quiet_rule) ranges_rule) sums_rule)
+
+-- it verifies nothing, and has no mode
+abbrev pub info_app : App
+info_app = with_rule (with_rule (new_app (codes "info")) files_rule) verbose_rule
+
 abbrev pub bare_app : App
 bare_app = let app = new_app (codes "bao_gather") in record app { top = record app.top { has_version = true; subcommand_required = true } }
 
@@ -164,8 +191,11 @@ writers_app = with_subcommand (with_subcommand (with_subcommand (with_subcommand
 abbrev pub checkers_app : App
 checkers_app = with_subcommand (with_subcommand (with_subcommand writers_app cut_slice_app.top) decode_app.top) decode_slice_app.top
 
+abbrev pub gatherers_app : App
+gatherers_app = with_subcommand (with_subcommand checkers_app gather_app.top) replay_app.top
+
 abbrev pub program_app : App
-program_app = with_subcommand (with_subcommand checkers_app gather_app.top) replay_app.top
+program_app = with_subcommand (with_subcommand gatherers_app check_app.top) info_app.top
 
 -- the command is that of the description, and has no global option
 pub record IsApp (app : App) (command : Command) : Type 0 where
@@ -176,6 +206,14 @@ pub record IsApp (app : App) (command : Command) : Type 0 where
 abbrev pub AsksFor : List Text → Request → Type 0
 AsksFor words request = GivesRequest (subcommand_of program_app words) request
 
+-- they ask for this survey
+abbrev pub AsksForSurvey : List Text → Survey → Type 0
+AsksForSurvey words survey = GivesSurvey (subcommand_of program_app words) survey
+
+-- they ask for either
+abbrev pub Asks : List Text → Asked → Type 0
+Asks words asked = Gives (subcommand_of program_app words) asked
+
 -- clap's answer is help or the version, and not a refusal
 abbrev pub IsHelp : ErrorKind → Type 0
 IsHelp kind = (kind ≡ DisplayHelp) ⊎ (kind ≡ DisplayVersion)
@@ -184,18 +222,18 @@ IsHelp kind = (kind ≡ DisplayHelp) ⊎ (kind ≡ DisplayVersion)
 abbrev pub AsksForHelp : List Text → Type 0
 AsksForHelp words = (kind : ErrorKind) × IsHelp kind × IsAmong kind (fault_of program_app words)
 
--- Arguments with which clap finds no fault ask for no request all the same, and the answer is that a command is missing.
+-- Arguments with which clap finds no fault ask for nothing all the same, and the answer is that a command is missing.
 pub record IsUnasked (words : List Text) (error : Error) : Type 0 where
   pub kind : kind_of error ≡ MissingSubcommand
   pub faultless : fault_of program_app words ≡ []
-  pub none : (request : Request) → ¬ AsksFor words request
+  pub none : (asked : Asked) → ¬ Asks words asked
 
 -- A request comes only of arguments with which clap finds no fault. They are refused with a fault that clap finds, or for
 -- want of memory; or they ask for nothing.
-abbrev pub IsRead : List Text → Result Request Error → Type 0
-IsRead words (Ok request) = fault_of program_app words ≡ []
+abbrev pub IsRead : List Text → Result Asked Error → Type 0
+IsRead words (Ok asked) = fault_of program_app words ≡ []
 IsRead words (Err error) = HasKind (fault_of program_app words) error ⊎ IsUnasked words error
 
--- clap takes the arguments, and they ask for a request
+-- clap takes the arguments, and they ask for something
 abbrev pub AreGood : List Text → Type 0
-AreGood words = (takes program_app words ≡ true) × ((request : Request) × AsksFor words request)
+AreGood words = (takes program_app words ≡ true) × ((asked : Asked) × Asks words asked)

@@ -1,6 +1,6 @@
 -- what the arguments ask for: a request, from the rows that clap has of a subcommand's arguments (the name
 -- of an option or argument, with its text)
-use Rattle.std.specs.Prelude.{◌≡◌, ◌↔◌, ◌<◌, ◌^◌, ℕ, Bool, true, List, Option, Some, None, codes, map}
+use Rattle.std.specs.Prelude.{◌≡◌, ◌↔◌, ◌<◌, ◌^◌, ℕ, Bool, true, List, [], ◌∷◌, length, Option, Some, None, codes, map}
 use Rattle.std.specs.Option.{option_copied}
 use Rattle.std.specs.Str.Parse.{IsNumeral, digits_value, without_leading_plus}
 use Rattle.std.specs.Borrow.{Bor}
@@ -9,7 +9,12 @@ use Rattle.bao_text.specs.declared.kinds.Encoding.{Encoding}
 use Rattle.bao_text.specs.declared.kinds.Encoding.TheVariants.{Combined, Outboard, Slice}
 use Rattle.bao_text.specs.declared.kinds.Part.{Part}
 use Rattle.bao_text.specs.declared.kinds.Part.TheVariants as part
+use Rattle.bao_request.specs.declared.tasks.Asked.{Asked}
+use Rattle.bao_request.specs.declared.tasks.Asked.TheVariants.{One, Many}
 use Rattle.bao_request.specs.declared.tasks.Request.{Request}
+use Rattle.bao_request.specs.declared.tasks.Survey.{Survey}
+use Rattle.bao_request.specs.declared.tasks.SurveyTask.{SurveyTask}
+use Rattle.bao_request.specs.declared.tasks.SurveyTask.TheVariants.{Hashes, Check, Info}
 use Rattle.bao_request.specs.declared.tasks.Task.{Task}
 use Rattle.bao_request.specs.declared.tasks.Task.TheVariants.{Hash, Encode, CutSlice, Decode, DecodeCopy, Gather, Replay}
 
@@ -54,7 +59,7 @@ GivesPart name rows (part.Slice start len) file =
 -- the subcommand of this name asks for this task
 abbrev pub GivesTask : Text → List Row → Task → Type 0
 GivesTask name rows (Hash at length file) =
-    (name ≡ codes "hash") × GivesNumber 64 rows (codes "at") at × GivesNumber 32 rows (codes "length") length × GivesText rows (codes "FILE") file.now
+    (name ≡ codes "hash") × GivesNumber 64 rows (codes "at") at × GivesNumber 32 rows (codes "length") length × GivesTexts rows (codes "FILE") (file ∷ [])
 GivesTask name rows (Encode encoding file out) =
     GivesEncoding name rows encoding × GivesText rows (codes "FILE") file.now × GivesText rows (codes "OUT") out.now
 GivesTask name rows (CutSlice root start len outboard file out) =
@@ -75,3 +80,23 @@ GivesRequest None request = ⊥
 GivesRequest (Some (name, rows)) request =
     GivesTask name rows request.task × (option_copied request.key ≡ first_of (codes "key") rows) × (option_copied request.key_file ≡ first_of (codes "key-file") rows)
     × (option_copied request.context ≡ first_of (codes "context") rows) × GivesFlag rows (codes "verbose") request.verbose
+
+-- the subcommand of this name asks for this survey; `hash` does where several files are named
+abbrev pub GivesSurveyTask : Text → List Row → SurveyTask → Type 0
+GivesSurveyTask name rows (Hashes at len bare files) =
+    (name ≡ codes "hash") × GivesNumber 64 rows (codes "at") at × GivesNumber 32 rows (codes "length") len × GivesFlag rows (codes "no-names") bare
+    × GivesTexts rows (codes "FILE") files.items × (1 < length files.items)
+GivesSurveyTask name rows (Check quiet ranges sums) =
+    (name ≡ codes "check") × GivesFlag rows (codes "quiet") quiet × GivesFlag rows (codes "ranges") ranges × GivesText rows (codes "SUMS") sums.now
+GivesSurveyTask name rows (Info files) = (name ≡ codes "info") × GivesTexts rows (codes "FILE") files.items
+
+abbrev pub GivesSurvey : Option (Text × List Row) → Survey → Type 0
+GivesSurvey None survey = ⊥
+GivesSurvey (Some (name, rows)) survey =
+    GivesSurveyTask name rows survey.task × (option_copied survey.key ≡ first_of (codes "key") rows) × (option_copied survey.key_file ≡ first_of (codes "key-file") rows)
+    × (option_copied survey.context ≡ first_of (codes "context") rows) × GivesFlag rows (codes "verbose") survey.verbose
+
+-- they ask for the one or the other
+abbrev pub Gives : Option (Text × List Row) → Asked → Type 0
+Gives rows (One request) = GivesRequest rows request
+Gives rows (Many survey) = GivesSurvey rows survey

@@ -1,4 +1,4 @@
-//! What the arguments of `bao_gather` ask for: a request, parsed with `clap`.
+//! What the arguments of `bao_gather` ask for: a request or a survey, parsed with `clap`.
 #![tactic(auto)]
 
 mod reading;
@@ -6,4 +6,4 @@ mod rules;
 mod tasks;
 
 pub use reading::parse;
-pub use tasks::{GatherTask, Request, Task};
+pub use tasks::{Asked, GatherTask, Request, Survey, SurveyTask, Task};

@@ -1,12 +1,12 @@
-ghost use Rattle.std.specs.Prelude.{◌≡◌, IfErr, IfOk, List, codes, map, string_bytes, true, ℕ};
+ghost use Rattle.std.specs.Prelude.{◌≡◌, [], ◌∷◌, IfErr, IfOk, List, codes, map, string_bytes, true, ℕ};
 ghost use Rattle.std.specs.Option.{option_copied};
 ghost use Rattle.clap.specs.Words.{FailsBy, fault_of, first_of, found_of, kind_of, rows_of, subcommand_of, subcommand_rows_of, takes};
 ghost use Rattle.clap.specs.declared.error.kind.ErrorKind.TheVariants.{OutOfMemory};
-ghost use Rattle.bao_request.specs.CommandLine.{AreGood, AsksFor, AsksForHelp, IsHelp, IsRead, program_app};
-ghost use Rattle.bao_request.specs.Requests.{Finds, GivesEncoding, GivesFlag, GivesNumber, GivesRange, GivesRequest, GivesTask, GivesText, GivesTexts};
+ghost use Rattle.bao_request.specs.CommandLine.{AreGood, Asks, AsksForHelp, IsHelp, IsRead, program_app};
+ghost use Rattle.bao_request.specs.Requests.{Finds, Gives, GivesEncoding, GivesFlag, GivesNumber, GivesRange, GivesSurveyTask, GivesTask, GivesText, GivesTexts};
 
 use crate::rules::program;
-use crate::tasks::{GatherTask, Request, Task};
+use crate::tasks::{Asked, GatherTask, Request, Survey, SurveyTask, Task};
 use bao_text::{Encoding, Part};
 use clap::error::ErrorKind;
 use clap::{ArgMatches, Error};
@@ -41,6 +41,13 @@ fn flag(words: &ArgMatches<'_>, id: &str) -> bool
     matches!(text(words, id), Some("true"))
 }
 
+// All texts of the argument `id`.
+fn texts<'m, 'a>(words: &'m ArgMatches<'a>, id: &str) -> Option<&'m [&'a str]>
+    ensures { Finds (λ texts. GivesTexts (rows_of (found_of words.now)) id.now texts.now) result }
+{
+    words.get_strs(id)
+}
+
 // The range that the arguments START and LEN give.
 fn range(words: &ArgMatches<'_>) -> Option<(u64, u64)>
     ensures { Finds (λ range. GivesRange (rows_of (found_of words.now)) range.0 range.1) result }
@@ -48,14 +55,24 @@ fn range(words: &ArgMatches<'_>) -> Option<(u64, u64)>
     Some((number(words, "START")?, number(words, "LEN")?))
 }
 
-// The task of `hash`.
+// The only file, if there is one alone.
+fn single<'a>(files: &[&'a str]) -> Option<&'a str>
+    ensures { Finds (λ file. files.now ≡ file ∷ []) result }
+{
+    match files {
+        [file] => Some(*file),
+        _ => None,
+    }
+}
+
+// The task of `hash` with one file.
 fn hash_of<'a>(words: &ArgMatches<'a>) -> Option<Task<'a>>
     ensures { Finds (GivesTask (codes "hash") (rows_of (found_of words.now))) result }
 {
     Some(Task::Hash {
         at: number(words, "at")?,
         length: count(words, "length")?,
-        file: text(words, "FILE")?,
+        file: single(texts(words, "FILE")?)?,
     })
 }
 
@@ -129,13 +146,6 @@ fn decode_slice_of<'a>(words: &ArgMatches<'a>) -> Option<Task<'a>>
     })
 }
 
-// All texts of the argument `id`.
-fn texts<'m, 'a>(words: &'m ArgMatches<'a>, id: &str) -> Option<&'m [&'a str]>
-    ensures { Finds (λ texts. GivesTexts (rows_of (found_of words.now)) id.now texts.now) result }
-{
-    words.get_strs(id)
-}
-
 // The task of `gather`, if no argument is missing.
 fn gather_of<'a>(alloc: Global, words: &ArgMatches<'a>) -> Result<Option<Task<'a>>, AllocError>
     ensures { IfOk result (Finds (GivesTask (codes "gather") (rows_of (found_of words.now)))) }
@@ -207,26 +217,99 @@ fn task_of<'a>(
     }
 }
 
-// What the subcommand and its arguments ask for, if none is missing.
-fn request_of<'a>(
+// The survey of `hash` with several files, if no argument is missing.
+fn hashes_of<'a>(
     alloc: Global,
-    matches: &ArgMatches<'a>,
-) -> Result<Option<Request<'a>>, AllocError>
-    ensures { IfOk result (Finds (GivesRequest (subcommand_rows_of matches.now))) }
+    words: &ArgMatches<'a>,
+) -> Result<Option<SurveyTask<'a>>, AllocError>
+    ensures { IfOk result (Finds (GivesSurveyTask (codes "hash") (rows_of (found_of words.now)))) }
+{
+    let (Some(at), Some(length), Some(files)) = (
+        number(words, "at"),
+        count(words, "length"),
+        texts(words, "FILE"),
+    ) else {
+        return Ok(None);
+    };
+    if files.len() < 2 {
+        return Ok(None);
+    }
+    Ok(Some(SurveyTask::Hashes {
+        at,
+        length,
+        bare: flag(words, "no-names"),
+        files: files.to_vec(alloc)?,
+    }))
+}
+
+// The survey of `check`.
+fn check_of<'a>(words: &ArgMatches<'a>) -> Option<SurveyTask<'a>>
+    ensures { Finds (GivesSurveyTask (codes "check") (rows_of (found_of words.now))) result }
+{
+    Some(SurveyTask::Check {
+        quiet: flag(words, "quiet"),
+        ranges: flag(words, "ranges"),
+        sums: text(words, "SUMS")?,
+    })
+}
+
+// The survey of `info`, if no argument is missing.
+fn info_of<'a>(alloc: Global, words: &ArgMatches<'a>) -> Result<Option<SurveyTask<'a>>, AllocError>
+    ensures { IfOk result (Finds (GivesSurveyTask (codes "info") (rows_of (found_of words.now)))) }
+{
+    let Some(files) = texts(words, "FILE") else {
+        return Ok(None);
+    };
+    let files = files.to_vec(alloc)?;
+    Ok(Some(SurveyTask::Info { files }))
+}
+
+// The survey of the subcommand `name`, if no argument is missing.
+fn survey_of<'a>(
+    alloc: Global,
+    name: &str,
+    words: &ArgMatches<'a>,
+) -> Result<Option<SurveyTask<'a>>, AllocError>
+    ensures { IfOk result (Finds (GivesSurveyTask name.now (rows_of (found_of words.now)))) }
+{
+    match name {
+        "hash" => hashes_of(alloc, words),
+        "check" => Ok(check_of(words)),
+        "info" => info_of(alloc, words),
+        _ => Ok(None),
+    }
+}
+
+// What the subcommand and its arguments ask for, if none is missing.
+fn asked_of<'a>(alloc: Global, matches: &ArgMatches<'a>) -> Result<Option<Asked<'a>>, AllocError>
+    ensures { IfOk result (Finds (Gives (subcommand_rows_of matches.now))) }
 {
     let Some((name, words)) = matches.subcommand() else {
         return Ok(None);
     };
-    let Some(task) = task_of(alloc, name, words)? else {
-        return Ok(None);
-    };
-    Ok(Some(Request {
-        key: text(words, "key"),
-        key_file: text(words, "key-file"),
-        context: text(words, "context"),
-        verbose: flag(words, "verbose"),
-        task,
-    }))
+    let key = text(words, "key");
+    let key_file = text(words, "key-file");
+    let context = text(words, "context");
+    let verbose = flag(words, "verbose");
+    if let Some(task) = task_of(alloc, name, words)? {
+        return Ok(Some(Asked::One(Request {
+            key,
+            key_file,
+            context,
+            verbose,
+            task,
+        })));
+    }
+    if let Some(task) = survey_of(alloc, name, words)? {
+        return Ok(Some(Asked::Many(Survey {
+            key,
+            key_file,
+            context,
+            verbose,
+            task,
+        })));
+    }
+    Ok(None)
 }
 
 // What `clap` finds in the arguments.
@@ -250,15 +333,15 @@ fn incomplete(alloc: Global) -> Result<Error, AllocError>
 ///
 /// Refuses with `clap`'s error what `clap` refuses; help and the version are such errors, too. Otherwise refuses
 /// only if out of memory.
-pub fn parse<'a>(alloc: Global, words: &'a [String]) -> Result<Request<'a>, Error>
-    ensures request { IfOk result (AsksFor (map string_bytes words.entry.now)) }
+pub fn parse<'a>(alloc: Global, words: &'a [String]) -> Result<Asked<'a>, Error>
+    ensures request { IfOk result (Asks (map string_bytes words.entry.now)) }
     ensures help { IfErr result (λ error. IsHelp (kind_of error) → AsksForHelp (map string_bytes words.entry.now)) }
     ensures refused { IsRead (map string_bytes words.entry.now) result }
     ensures good { IfErr result (λ error. AreGood (map string_bytes words.entry.now) → kind_of error ≡ OutOfMemory) }
 {
     let matches = matches_of(alloc, words)?;
-    match request_of(alloc, &matches)? {
-        Some(request) => Ok(request),
+    match asked_of(alloc, &matches)? {
+        Some(asked) => Ok(asked),
         None => Err(incomplete(alloc)?),
     }
 }

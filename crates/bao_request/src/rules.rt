@@ -1,7 +1,7 @@
 ghost use Rattle.std.specs.Prelude.{◌≡◌, IfOk, Some, false};
-ghost use Rattle.clap.specs.Words.{app_of, rule_of, with_rule};
+ghost use Rattle.clap.specs.Words.{app_of, rule_of, with_rule, with_subcommand};
 ghost use Rattle.clap.specs.declared.builder.command.Command.TheViews.{out-Command};
-ghost use Rattle.bao_request.specs.CommandLine.{IsApp, any_number, at_rule, capacity_rule, checkers_app, cut_slice_app, decode_app, decode_slice_app, encode_app, encode_rule, files_rule, gather_app, hash_app, length_rule, long_rule, missing_rule, option_rule, outboard_app, outboard_rule, place_rule, program_app, replay_app, salvage_rule, slice_app, verbose_rule, with_cut_rules, with_encoding_rules, with_file_rules, with_holders_rules, with_key_rules, with_mode_rules, with_range_rules, with_script_rules, with_slice_rules, workers_rule, writers_app};
+ghost use Rattle.bao_request.specs.CommandLine.{IsApp, any_number, at_rule, bare_app, capacity_rule, checkers_app, cut_slice_app, decode_app, decode_slice_app, encode_app, check_app, encode_rule, files_rule, gather_app, gatherers_app, hash_app, info_app, length_rule, long_rule, missing_rule, no_names_rule, option_rule, outboard_app, outboard_rule, place_rule, program_app, quiet_rule, ranges_rule, replay_app, salvage_rule, slice_app, verbose_rule, with_cut_rules, with_encoding_rules, with_file_rules, with_holders_rules, with_key_rules, with_mode_rules, with_output_rules, with_range_rules, with_script_rules, with_slice_rules, workers_rule, writers_app};
 
 use clap::{Arg, ArgAction, Command, value_parser};
 use std::alloc::{AllocError, Global};
@@ -38,6 +38,9 @@ const OF_VERBOSE: &str =
 const OF_PROGRAM: &str =
     "FILE, ENC, SLICE and SCRIPT may be -, for standard input.\nExit status: 0 success; 1 the input doesn't verify, or is incomplete; 2 usage error;\n3 a file can't be read or written; 4 out of memory.";
 
+const OF_HASH: &str =
+    "Several FILEs get a line each, as b3sum prints it: the digits, two spaces and the name.\nA FILE that can't be read is reported, and the others are hashed; the status is then 3.";
+
 const OF_SLICE: &str =
     "A range that runs past the end of FILE ends there. A START at or past the end selects the last byte.";
 
@@ -52,6 +55,12 @@ const OF_DECODE_SLICE: &str =
 
 const OF_GATHER: &str =
     "Blobs above 64 MiB need --long.\nA FILE may be cut short, altered, or a copy of something else. One that can't be read is left out.\nPipes and devices are read only if the regular files leave the blob unfinished.\nWith --long, a pipe is copied beside OUT, up to the length that the FILEs before it certify, or 2^40 bytes.\nWith --outboard, that file is checked first, and has to be good.\nA bad byte of the blob spoils its group of 64 KiB in that FILE; with --salvage, only its chunk of 1024 bytes.\nOUT is written once the blob has been verified. With --long, an OUT that is a pipe or device gets the bytes\nas they are verified, and may be left with only the beginning of the blob after a failure.";
+
+const OF_CHECK: &str =
+    "SUMS has a line for each file, as hash prints it for several and b3sum does. - is standard input.\nEach file gets a line: its name, and OK, FAILED or cannot read. Other lines of SUMS are reported.\nExit status: 1 if a file FAILED, else 3 if one can't be read, 2 if no line of SUMS is one of hash's.";
+
+const OF_INFO: &str =
+    "A FILE is judged by its size and its first eight bytes alone; decode verifies it.";
 
 const OF_REPLAY: &str =
     "Each line of SCRIPT is empty or has one of nine forms, with single spaces between words, and ends with a\nline feed, without a carriage return. S is a seat, G a group of 64 chunks, MASK a decimal bit mask of chunks\nin G, bit 0 for the first, C a chunk, and F a FILE, counted from 0:\n  claim S G MASK       S claims chunks of G\n  hash S F START LEN   the slice cut from F becomes the current slice of S\n  write S C W          S writes word W, 0 to 128, of chunk C\n  fill S C             S writes all words of C\n  publish S G          S commits the chunks of G that it claims and its slice has\n  give S G MASK        S gives chunks of G back\n  load S AT LEN        S loads the next word of its read of LEN bytes from byte AT on\n  settle S             S settles the length that its slice certifies\n  length S             S asks for the length";
@@ -139,14 +148,40 @@ fn with_mode<'a>(alloc: Global, command: Command<'a>) -> Result<Command<'a>, All
     with_keys(alloc, command)?.arg(verbose_flag(alloc))
 }
 
+fn no_names_flag<'a>(alloc: Global) -> Arg<'a>
+    ensures rule { rule_of result ≡ no_names_rule }
+    ensures global { result.global ≡ false }
+{
+    Arg::new(alloc, "no-names")
+        .long("no-names")
+        .action(ArgAction::SetTrue)
+        .help("Print no names of files")
+}
+
+// One file or more.
+fn files_place<'a>(alloc: Global, help: &'a str) -> Arg<'a>
+    ensures rule { rule_of result ≡ files_rule }
+    ensures global { result.global ≡ false }
+{
+    place(alloc, "FILE", help).num_args(1..)
+}
+
+// The command with the options that choose bytes of output.
+fn with_output<'a>(alloc: Global, command: Command<'a>) -> Result<Command<'a>, AllocError>
+    requires { (out-Command command).has_globals ≡ false }
+    ensures { IfOk result (IsApp (with_output_rules (app_of command.entry))) }
+{
+    command.arg(at_option(alloc))?.arg(length_option(alloc))
+}
+
 fn hash_command<'a>(alloc: Global) -> Result<Command<'a>, AllocError>
     ensures { IfOk result (IsApp hash_app) }
 {
     let command = Command::new(alloc, "hash")
-        .about("Print the BLAKE3 hash of a file, or other bytes of its extended output")
-        .arg(at_option(alloc))?;
-    let command = command.arg(length_option(alloc))?;
-    let command = command.arg(place(alloc, "FILE", "File to hash"))?;
+        .about("Print the BLAKE3 hash of each file, or other bytes of its extended output")
+        .after_help(OF_HASH);
+    let command = with_output(alloc, command)?.arg(no_names_flag(alloc))?;
+    let command = command.arg(files_place(alloc, "Files to hash"))?;
     with_mode(alloc, command)
 }
 
@@ -328,14 +363,6 @@ fn capacity_option<'a>(alloc: Global) -> Arg<'a>
         .help("Longest blob to allow, in chunks of 1024 bytes, 1 to 65536 (64 MiB)")
 }
 
-// The argument FILE, given once or more often.
-fn files_place<'a>(alloc: Global, help: &'a str) -> Arg<'a>
-    ensures rule { rule_of result ≡ files_rule }
-    ensures global { result.global ≡ false }
-{
-    place(alloc, "FILE", help).num_args(1..)
-}
-
 // The command with the arguments ROOT, OUT and FILE.., and those of the mode.
 fn with_holders<'a>(alloc: Global, command: Command<'a>) -> Result<Command<'a>, AllocError>
     requires { (out-Command command).has_globals ≡ false }
@@ -404,9 +431,62 @@ fn replay_command<'a>(alloc: Global) -> Result<Command<'a>, AllocError>
     with_script(alloc, command)
 }
 
-// The program with the commands that hash and encode.
-fn writers<'a>(alloc: Global) -> Result<Command<'a>, AllocError>
-    ensures { IfOk result (IsApp writers_app) }
+fn quiet_flag<'a>(alloc: Global) -> Arg<'a>
+    ensures rule { rule_of result ≡ quiet_rule }
+    ensures global { result.global ≡ false }
+{
+    Arg::new(alloc, "quiet")
+        .long("quiet")
+        .action(ArgAction::SetTrue)
+        .help("Print nothing of files that are OK")
+}
+
+fn ranges_flag<'a>(alloc: Global) -> Arg<'a>
+    ensures rule { rule_of result ≡ ranges_rule }
+    ensures global { result.global ≡ false }
+{
+    Arg::new(alloc, "ranges")
+        .long("ranges")
+        .action(ArgAction::SetTrue)
+        .help(
+            "Print the damaged ranges of a file that FAILED, by the outboard encoding beside it, FILE.obao",
+        )
+}
+
+fn check_command<'a>(alloc: Global) -> Result<Command<'a>, AllocError>
+    ensures { IfOk result (IsApp check_app) }
+{
+    let command = Command::new(alloc, "check")
+        .about("Hash the files of a list, and print which of them have another hash")
+        .after_help(OF_CHECK)
+        .arg(quiet_flag(alloc))?;
+    let command = command.arg(ranges_flag(alloc))?;
+    let command = command.arg(place(alloc, "SUMS", "Hashes and names of files"))?;
+    with_mode(alloc, command)
+}
+
+fn info_command<'a>(alloc: Global) -> Result<Command<'a>, AllocError>
+    ensures { IfOk result (IsApp info_app) }
+{
+    let command = Command::new(alloc, "info")
+        .about("Print what each file may be: an encoding, and of how long a blob")
+        .after_help(OF_INFO)
+        .arg(files_place(alloc, "Files to look at"))?;
+    command.arg(verbose_flag(alloc))
+}
+
+// The program with one more command.
+fn with_command<'a>(program: Command<'a>, command: Command<'a>) -> Result<Command<'a>, AllocError>
+    requires program { (out-Command program).has_globals ≡ false }
+    requires command { (out-Command command).has_globals ≡ false }
+    ensures { IfOk result (IsApp (with_subcommand (app_of program.entry) (app_of command.entry).top)) }
+{
+    program.subcommand(command)
+}
+
+// The program without its commands.
+fn bare<'a>(alloc: Global) -> Command<'a>
+    ensures { IsApp bare_app result }
 {
     Command::new(alloc, "bao_gather")
         .version("0.1.0")
@@ -415,29 +495,39 @@ fn writers<'a>(alloc: Global) -> Result<Command<'a>, AllocError>
         )
         .after_help(OF_PROGRAM)
         .subcommand_required(true)
-        .subcommand(hash_command(alloc)?)?
-        .subcommand(encode_command(alloc)?)?
-        .subcommand(outboard_command(alloc)?)?
-        .subcommand(slice_command(alloc)?)
+}
+
+// The program with the commands that hash and encode.
+fn writers<'a>(alloc: Global) -> Result<Command<'a>, AllocError>
+    ensures { IfOk result (IsApp writers_app) }
+{
+    let program = with_command(bare(alloc), hash_command(alloc)?)?;
+    let program = with_command(program, encode_command(alloc)?)?;
+    let program = with_command(program, outboard_command(alloc)?)?;
+    with_command(program, slice_command(alloc)?)
 }
 
 // The same, with the commands that check an encoding.
 fn checkers<'a>(alloc: Global) -> Result<Command<'a>, AllocError>
     ensures { IfOk result (IsApp checkers_app) }
 {
-    let program = writers(alloc)?;
-    program
-        .subcommand(cut_slice_command(alloc)?)?
-        .subcommand(decode_command(alloc)?)?
-        .subcommand(decode_slice_command(alloc)?)
+    let program = with_command(writers(alloc)?, cut_slice_command(alloc)?)?;
+    let program = with_command(program, decode_command(alloc)?)?;
+    with_command(program, decode_slice_command(alloc)?)
+}
+
+// The same, with the commands that take many encodings.
+fn gatherers<'a>(alloc: Global) -> Result<Command<'a>, AllocError>
+    ensures { IfOk result (IsApp gatherers_app) }
+{
+    let program = with_command(checkers(alloc)?, gather_command(alloc)?)?;
+    with_command(program, replay_command(alloc)?)
 }
 
 // The program with all its commands.
 pub(crate) fn program<'a>(alloc: Global) -> Result<Command<'a>, AllocError>
     ensures { IfOk result (IsApp program_app) }
 {
-    let program = checkers(alloc)?;
-    program
-        .subcommand(gather_command(alloc)?)?
-        .subcommand(replay_command(alloc)?)
+    let program = with_command(gatherers(alloc)?, check_command(alloc)?)?;
+    with_command(program, info_command(alloc)?)
 }

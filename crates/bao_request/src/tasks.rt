@@ -1,6 +1,13 @@
 use bao_text::{Encoding, Part};
 
-/// What the arguments ask for.
+/// What the arguments ask for: what one file or blob is needed for, or a survey of many files.
+#[derive(Debug, Drop)]
+pub enum Asked<'a> {
+    One(Request<'a>),
+    Many(Survey<'a>),
+}
+
+/// A command on one file or blob.
 #[derive(Debug, Drop)]
 pub struct Request<'a> {
     /// The value of `--key`.
@@ -41,7 +48,7 @@ pub struct GatherTask<'a> {
 /// A command with its arguments.
 #[derive(Debug, Drop)]
 pub enum Task<'a> {
-    /// `hash`: prints `length` bytes, 1 to 65,536, of a file's extended output, from offset `at` on.
+    /// `hash` with one file: prints `length` bytes, 1 to 65,536, of a file's extended output, from offset `at` on.
     Hash {
         at: u64,
         length: u32,
@@ -88,6 +95,45 @@ pub enum Task<'a> {
         root: &'a str,
         capacity: u32,
         script: &'a str,
+        files: Vec<&'a str>,
+    },
+}
+
+/// A command that prints a line for each of many files, and goes on where one can't be read.
+#[derive(Debug, Drop)]
+pub struct Survey<'a> {
+    /// The value of `--key`.
+    pub key: Option<&'a str>,
+    /// The path of `--key-file`.
+    pub key_file: Option<&'a str>,
+    /// The value of `--context`.
+    pub context: Option<&'a str>,
+    /// Whether `--verbose` is given: the system's reasons are reported.
+    pub verbose: bool,
+    /// The command.
+    pub task: SurveyTask<'a>,
+}
+
+/// The command of a survey, with its arguments.
+#[derive(Debug, Drop)]
+pub enum SurveyTask<'a> {
+    /// `hash` with more than one file: prints `length` bytes, 1 to 65,536, of the extended output of each, from offset `at`
+    /// on, with the file's name unless they are `bare`.
+    Hashes {
+        at: u64,
+        length: u32,
+        bare: bool,
+        files: Vec<&'a str>,
+    },
+    /// `check`: hashes the files that the list `sums` names, and prints which of them have another hash; with `ranges`, where
+    /// they differ. If `quiet`, prints nothing of files that are right.
+    Check {
+        quiet: bool,
+        ranges: bool,
+        sums: &'a str,
+    },
+    /// `info`: prints what each of one or more files may be, by its size and its beginning.
+    Info {
         files: Vec<&'a str>,
     },
 }

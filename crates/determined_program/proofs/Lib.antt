@@ -42,3 +42,5 @@ pub mod NodeBytes
 pub mod SliceBytes
 pub mod OwnCopies
 pub mod ManualRuns
+pub mod SurveyRuns
+pub mod Damaged

@@ -1,24 +1,30 @@
 -- What the words of a command without options ask for: one task, and nothing is wrong with them.
-use Rattle.std.proofs.Common.{◌≡◌, ◌∙◌, ℕ, ◌^◌, ◌<◌, ◌≤◌, List, [], ◌∷◌, ◌++◌, length, map, Option, Some, None, Bor, codes, false, refl, sym, subst, ap, arith, lit<}
+use Rattle.std.proofs.Common.{◌≡◌, ◌∙◌, ℕ, ◌^◌, ◌<◌, ◌≤◌, List, [], ◌∷◌, ◌++◌, length, map, Option, Some, None, Bor, codes, Bool, false, true, refl, sym, subst, ap, arith, lit<}
 use Rattle.std.proofs.lemmas.List.{length-map}
 use Rattle.std.specs.Prelude.{Vec}
 use Rattle.std.specs.Global.{Global}
 use Rattle.std.specs.Fmt.{decimal}
-use Rattle.clap.specs.Faults.{defaults_fault, fault_of}
+use Rattle.clap.specs.Faults.{defaults_fault, fault_of, walk_fault}
+use Rattle.clap.specs.Lexer.{usize_max}
 use Rattle.clap.specs.Simple.{Shape}
-use Rattle.clap.specs.Walk.{Held, nothing_held, walked}
+use Rattle.clap.specs.Walk.{Held, finished, nothing_held, walk_from, walked}
 use Rattle.clap.specs.Words.{Row, Text, first_of, subcommand_of}
 use Rattle.bao_text.specs.declared.kinds.Encoding.{Encoding}
 use Rattle.bao_text.specs.declared.kinds.Encoding.TheVariants.{Combined, Outboard, Slice}
 use Rattle.bao_text.specs.declared.kinds.Part.TheVariants as part
-use Rattle.bao_request.specs.CommandLine.{AsksFor, program_app}
-use Rattle.bao_request.specs.Requests.{GivesFlag, GivesRequest, GivesTask}
+use Rattle.bao_request.specs.CommandLine.{AsksFor, AsksForSurvey, program_app}
+use Rattle.bao_request.specs.Requests.{GivesFlag, GivesRequest, GivesSurvey, GivesSurveyTask, GivesTask}
+use Rattle.bao_request.proofs.Subcommands.{one_or_many}
+use Rattle.bao_command.specs.Surveys.{AreOfOne}
 use Rattle.bao_request.specs.declared.tasks.GatherTask.{GatherTask}
 use Rattle.bao_request.specs.declared.tasks.Request.{Request}
+use Rattle.bao_request.specs.declared.tasks.Survey.{Survey}
+use Rattle.bao_request.specs.declared.tasks.SurveyTask.{SurveyTask}
+use Rattle.bao_request.specs.declared.tasks.SurveyTask.TheVariants.{Hashes, Check, Info}
 use Rattle.bao_request.specs.declared.tasks.Task.{Task}
 use Rattle.bao_request.specs.declared.tasks.Task.TheVariants.{Hash, Encode, CutSlice, Decode, DecodeCopy, Gather}
-use Rattle.determined_program.specs.Manual.{ArePlain, IsCommand, words_for}
-use Rattle.determined_program.proofs.PlainWords.{Begins, IsMet, beside_held, begins_bare, decimal_given, decimal_plain, decode_begins, gather_leaf, gather_rows, gather_rows_are, leaf_fault, no_fault, placed_fault, range_faults, range_is_fine, rows_are, rows_for, shape_named}
+use Rattle.determined_program.specs.Manual.{ArePlain, IsCommand, check_words, words_for}
+use Rattle.determined_program.proofs.PlainWords.{Begins, IsMet, TakesFiles, beside_held, begins_bare, decimal_given, decimal_plain, decode_begins, files_leaf, files_rows, gather_leaf, gather_rows, gather_rows_are, gathering_held, leaf_fault, no_fault, placed_fault, range_faults, range_is_fine, rows_are, rows_for, shape_named}
 
 -- the request for a task alone, without a key or a context
 abbrev pub bare_request : Task → Request
@@ -28,6 +34,7 @@ bare_request task = record { key = None; key_file = None; context = None; verbos
 pub record AsksAlone (words : List Text) (task : Task) : Type 0 where
   pub asked : AsksFor words (bare_request task)
   pub taken : fault_of program_app words ≡ []
+  pub one : AreOfOne words
 
 -- the options that every subcommand has aren't given
 record GivesNoOptions (rows : List Row) : Type 0 where
@@ -39,19 +46,39 @@ record GivesNoOptions (rows : List Row) : Type 0 where
 flag_off : (rows : List Row) (id : Text) → first_of id rows ≡ Some (codes "false") → GivesFlag rows id false
 flag_off rows id none = (λ on. cc, λ is. cc)
 
+-- a survey without a key or a context
+abbrev pub bare_survey : SurveyTask → Survey
+bare_survey task = record { key = None; key_file = None; context = None; verbose = false; task = task }
+
+-- the words ask for it, and nothing is wrong with them
+pub record SurveysAlone (words : List Text) (task : SurveyTask) : Type 0 where
+  pub asked : AsksForSurvey words (bare_survey task)
+  pub taken : fault_of program_app words ≡ []
+
 module _ (words : List Text) (name sub : Text) (s : Shape) (first : List Text) (held : Held) (arguments : List Text) (is : words ≡ name ∷ sub ∷ first ++ arguments)
     (met : IsMet sub s) (begins : Begins s first held) (plain : ArePlain arguments) where
+  found : (rows : List Row) → rows_for s held arguments ≡ rows → subcommand_of program_app words ≡ Some (sub, rows)
+  found rows are = ap (subcommand_of program_app) is ∙ rows_are name sub s first held arguments met begins plain ∙ ap (λ (r : List Row). Some (sub, r)) are
+
+  fine_words : leaf_fault s held arguments ≡ [] → fault_of program_app words ≡ []
+  fine_words fine = ap (fault_of program_app) is ∙ no_fault name sub s first held arguments met begins plain fine
+
   -- the rows ask for the task
   alone_by : (task : Task) (rows : List Row) → rows_for s held arguments ≡ rows → GivesTask sub rows task → GivesNoOptions rows → leaf_fault s held arguments ≡ [] → AsksAlone words task
   alone_by task rows are gives none fine =
-      let found : subcommand_of program_app (name ∷ sub ∷ first ++ arguments) ≡ Some (sub, rows) =
-      rows_are name sub s first held arguments met begins plain ∙ ap (λ (r : List Row). Some (sub, r)) are in
+      let asked : AsksFor words (bare_request task) =
+      subst (λ (asked : Option (Text × List Row)). GivesRequest asked (bare_request task)) (sym (found rows are)) (gives, sym none.key, sym none.key_file, sym none.context, flag_off rows (codes "verbose") none.verbose) in
       record {
-        asked = subst (λ (w : List Text). AsksFor w (bare_request task)) (sym is)
-            (subst (λ (asked : Option (Text × List Row)). GivesRequest asked (bare_request task)) (sym found)
-            (gives, sym none.key, sym none.key_file, sym none.context, flag_off rows (codes "verbose") none.verbose));
-        taken = ap (fault_of program_app) is ∙ no_fault name sub s first held arguments met begins plain fine;
+        asked = asked;
+        one = λ survey. one_or_many (subcommand_of program_app words) (bare_request task) survey asked;
+        taken = fine_words fine;
       }
+
+  survey_by : (task : SurveyTask) (rows : List Row) → rows_for s held arguments ≡ rows → GivesSurveyTask sub rows task → GivesNoOptions rows → leaf_fault s held arguments ≡ [] → SurveysAlone words task
+  survey_by task rows are gives none fine = record {
+    asked = subst (λ (asked : Option (Text × List Row)). GivesSurvey asked (bare_survey task)) (sym (found rows are)) (gives, sym none.key, sym none.key_file, sym none.context, flag_off rows (codes "verbose") none.verbose);
+    taken = fine_words fine;
+  }
 
 pub hash_alone : (words : List Text) (file : Bor Text) → IsCommand words (codes "hash" ∷ []) (file.now ∷ []) → AsksAlone words (Hash 0 32 file)
 unfolding walked rows_for placed_fault defaults_fault
@@ -180,3 +207,86 @@ cut_slice_alone words root start len file out low short asks =
     (CutSlice root start len None file out) rows refl
     (refl, (decimal_given start low rows (codes "START") refl, decimal_given len short rows (codes "LEN") refl), refl, refl, refl, refl)
     (record { key = refl; key_file = refl; context = refl; verbose = refl }) (cut_leaf root.now (decimal start) (decimal len) file.now out.now ∙ range_is_fine start len low short)
+
+-- the rows of files, where nothing else is given
+unfoldable files_given : Shape → List Text → List Row
+files_given s files = finished s.rules (gathering_held [] files)
+
+files_given_are : (s : Shape) (takes : TakesFiles s) (file : Text) (more : List Text) → rows_for s nothing_held (file ∷ more) ≡ files_given s (file ∷ more)
+unfolding files_given
+files_given_are s takes file more = files_rows s takes file more
+
+hash_takes : TakesFiles (shape_named (codes "hash"))
+unfolding placed_fault defaults_fault
+hash_takes = record { begun = λ file. refl; several = λ rows values word. refl; first = refl; fine = λ rows values. refl; settles = λ file more. refl; rest = λ file more. refl }
+
+info_takes : TakesFiles (shape_named (codes "info"))
+unfolding placed_fault defaults_fault
+info_takes = record { begun = λ file. refl; several = λ rows values word. refl; first = refl; fine = λ rows values. refl; settles = λ file more. refl; rest = λ file more. refl }
+
+hashes_by : (words : List Text) (files : Vec (Bor Text) Global) (items : List (Bor Text)) → files.items ≡ items → 1 < length items → length items ≤ usize_max
+    → IsCommand words (codes "hash" ∷ []) (map (λ file. file.now) items) → SurveysAlone words (Hashes 0 32 false files)
+unfolding walked files_given
+hashes_by words files [] are some few asks = absurd (omega (arith, some))
+hashes_by words files (file ∷ more) are some few asks =
+    let s : Shape = shape_named (codes "hash") in
+    let later : List Text = map (λ file. file.now) more in
+    let rows : List Row = files_given s (file.now ∷ later) in
+    survey_by words asks.0 (codes "hash") s [] nothing_held (file.now ∷ later) asks.1 (record { met = refl; there = refl; named = refl; fine = refl }) (begins_bare s) asks.2
+    (Hashes 0 32 false files) rows (files_given_are s hash_takes file.now later) (
+      refl,
+      (codes "0", refl, refl, (lit< tt, (lit< tt, tt)), lit< tt),
+      (codes "32", refl, refl, (lit< tt, (lit< tt, (lit< tt, tt))), lit< tt),
+      flag_off rows (codes "no-names") refl,
+      ap (λ (xs : List (Bor Text)). Some (map (λ file. file.now) xs)) (sym are),
+      subst (λ (xs : List (Bor Text)). 1 < length xs) (sym are) some,
+    )
+    (record { key = refl; key_file = refl; context = refl; verbose = refl }) (files_leaf s hash_takes file.now later (omega (arith, few, length-map more (λ file. file.now))))
+
+pub hashes_alone : (words : List Text) (files : Vec (Bor Text) Global) → 1 < length files.items → length files.items ≤ usize_max
+    → IsCommand words (codes "hash" ∷ []) (map (λ file. file.now) files.items) → SurveysAlone words (Hashes 0 32 false files)
+hashes_alone words files some few asks = hashes_by words files files.items refl some few asks
+
+info_by : (words : List Text) (files : Vec (Bor Text) Global) (items : List (Bor Text)) → files.items ≡ items → 0 < length items → length items ≤ usize_max
+    → IsCommand words (codes "info" ∷ []) (map (λ file. file.now) items) → SurveysAlone words (Info files)
+unfolding walked files_given
+info_by words files [] are some few asks = absurd (omega (arith, some))
+info_by words files (file ∷ more) are some few asks =
+    let s : Shape = shape_named (codes "info") in
+    let later : List Text = map (λ file. file.now) more in
+    survey_by words asks.0 (codes "info") s [] nothing_held (file.now ∷ later) asks.1 (record { met = refl; there = refl; named = refl; fine = refl }) (begins_bare s) asks.2
+    (Info files) (files_given s (file.now ∷ later)) (files_given_are s info_takes file.now later)
+    (refl, ap (λ (xs : List (Bor Text)). Some (map (λ file. file.now) xs)) (sym are))
+    (record { key = refl; key_file = refl; context = refl; verbose = refl }) (files_leaf s info_takes file.now later (omega (arith, few, length-map more (λ file. file.now))))
+
+pub info_alone : (words : List Text) (files : Vec (Bor Text) Global) → 0 < length files.items → length files.items ≤ usize_max
+    → IsCommand words (codes "info" ∷ []) (map (λ file. file.now) files.items) → SurveysAlone words (Info files)
+info_alone words files some few asks = info_by words files files.items refl some few asks
+
+-- `--ranges`, and what is held once it has come
+abbrev ranges_words : List Text
+ranges_words = codes "--ranges" ∷ []
+
+abbrev ranges_held : Held
+ranges_held = (walked (shape_named (codes "check")).rules [] (walk_from nothing_held) (codes "--ranges")).held
+
+ranges_begins : Begins (shape_named (codes "check")) ranges_words ranges_held
+unfolding walked walk_fault
+ranges_begins = record { goes = λ words. refl; fine = λ words. refl }
+
+flag_on : (rows : List Row) (id : Text) → first_of id rows ≡ Some (codes "true") → GivesFlag rows id true
+flag_on rows id is = (λ on. is, λ on. refl)
+
+pub check_alone : (words : List Text) (ranges : Bool) (sums : Bor Text) → IsCommand words (check_words ranges) (sums.now ∷ []) → SurveysAlone words (Check false ranges sums)
+unfolding walked rows_for placed_fault defaults_fault
+check_alone words false sums asks =
+    let s : Shape = shape_named (codes "check") in
+    let rows : List Row = rows_for s nothing_held (sums.now ∷ []) in
+    survey_by words asks.0 (codes "check") s [] nothing_held (sums.now ∷ []) asks.1 (record { met = refl; there = refl; named = refl; fine = refl }) (begins_bare s) asks.2 (Check false false sums) rows refl
+    (refl, flag_off rows (codes "quiet") refl, flag_off rows (codes "ranges") refl, refl) (record { key = refl; key_file = refl; context = refl; verbose = refl }) refl
+check_alone words true sums asks =
+    let s : Shape = shape_named (codes "check") in
+    let rows : List Row = rows_for s ranges_held (sums.now ∷ []) in
+    survey_by words asks.0 (codes "check") s ranges_words ranges_held (sums.now ∷ []) asks.1 (record { met = refl; there = refl; named = refl; fine = refl }) ranges_begins asks.2
+    (Check false true sums) rows refl
+    (refl, flag_off rows (codes "quiet") refl, flag_on rows (codes "ranges") refl, refl) (record { key = refl; key_file = refl; context = refl; verbose = refl }) refl

@@ -250,20 +250,23 @@ decode_begins file plain = record {
 abbrev pub gathering_held : List Row → List Text → Held
 gathering_held rows values = record { rows = rows; pending = Some (codes "FILE", values); skip = 0 }
 
-module _ (rules : List Rule) (several : (rows : List Row) (values : List Text) (word : Text)
-    → placed rules (from (gathering_held rows values) positional 3 false) word ≡ from (gathering_held rows (values ++ word ∷ [])) positional 3 false) where
+-- the argument with this index takes several words
+abbrev TakesSeveral : ℕ → List Rule → Type 0
+TakesSeveral p rules = (rows : List Row) (values : List Text) (word : Text)
+    → placed rules (from (gathering_held rows values) positional p false) word ≡ from (gathering_held rows (values ++ word ∷ [])) positional p false
+
+module _ (p : ℕ) (rules : List Rule) (several : TakesSeveral p rules) where
   pub more_values : (words : List Text) (rows : List Row) (values : List Text)
-      → fold (placed rules) (from (gathering_held rows values) positional 3 false) words ≡ from (gathering_held rows (values ++ words)) positional 3 false
-  more_values [] rows values = ap (λ xs. from (gathering_held rows xs) positional 3 false) (sym (append-nil values))
+      → fold (placed rules) (from (gathering_held rows values) positional p false) words ≡ from (gathering_held rows (values ++ words)) positional p false
+  more_values [] rows values = ap (λ xs. from (gathering_held rows xs) positional p false) (sym (append-nil values))
   more_values (word ∷ words) rows values =
       ap (λ w. fold (placed rules) w words) (several rows values word) ∙ more_values words rows (values ++ word ∷ [])
-      ∙ ap (λ xs. from (gathering_held rows xs) positional 3 false) (append_assoc values (word ∷ []) words)
+      ∙ ap (λ xs. from (gathering_held rows xs) positional p false) (append_assoc values (word ∷ []) words)
 
 abbrev gather_rules : List Rule
 gather_rules = (shape_named (codes "gather")).rules
 
-gather_several : (rows : List Row) (values : List Text) (word : Text)
-    → placed gather_rules (from (gathering_held rows values) positional 3 false) word ≡ from (gathering_held rows (values ++ word ∷ [])) positional 3 false
+gather_several : TakesSeveral 3 gather_rules
 gather_several rows values word = refl
 
 -- what is held once ROOT, OUT and a FILE have come
@@ -282,23 +285,22 @@ unfolding rows_for gather_rows
 gather_rows_are root out file more =
     ap (λ w. finished gather_rules w.held)
     (ap (λ w. fold (placed gather_rules) w more) (gather_begun root out file)
-    ∙ more_values gather_rules gather_several more (gather_first root out file).held.rows (file ∷ []))
+    ∙ more_values 3 gather_rules gather_several more (gather_first root out file).held.rows (file ∷ []))
 
 -- more values of one argument are no fault
-more_fine : (s : Shape) → ((rows : List Row) (values : List Text) → step_fault s 3 (gathering_held rows values) value ≡ [])
-    → ((rows : List Row) (values : List Text) (word : Text) → placed s.rules (from (gathering_held rows values) positional 3 false) word ≡ from (gathering_held rows (values ++ word ∷ [])) positional 3 false)
-    → (words : List Text) (rows : List Row) (values : List Text) → placed_fault s (from (gathering_held rows values) positional 3 false) words ≡ []
+more_fine : (p : ℕ) (s : Shape) → ((rows : List Row) (values : List Text) → step_fault s p (gathering_held rows values) value ≡ []) → TakesSeveral p s.rules
+    → (words : List Text) (rows : List Row) (values : List Text) → placed_fault s (from (gathering_held rows values) positional p false) words ≡ []
 unfolding placed_fault
-more_fine s fine several [] rows values = refl
-more_fine s fine several (word ∷ words) rows values =
-    (λ i. or_else (fine rows values i) (placed_fault s (several rows values word i) words)) ∙ more_fine s fine several words rows (values ++ word ∷ [])
+more_fine p s fine several [] rows values = refl
+more_fine p s fine several (word ∷ words) rows values =
+    (λ i. or_else (fine rows values i) (placed_fault s (several rows values word i) words)) ∙ more_fine p s fine several words rows (values ++ word ∷ [])
 
 -- as many values as there may be files are no fault, whatever they are
-range_fine : (n : ℕ) → 0 < n → n ≤ 64 → range_kinds 1 usize_max n ≡ []
+range_fine : (n : ℕ) → 0 < n → n ≤ usize_max → range_kinds 1 usize_max n ≡ []
 range_fine n some few =
     let none : nat_eq n 0 ≡ false = ne_eqb n 0 (λ is. omega (arith, is, some)) in
     let least : nat_lt n 1 ≡ false = le-ltb n 1 (omega (arith, some)) in
-    let most : nat_lt usize_max n ≡ false = le-ltb usize_max n (omega (arith, few)) in
+    let most : nat_lt usize_max n ≡ false = le-ltb usize_max n few in
     rw (none, least, most) refl
 
 texts_fine : (ignore_case : Bool) (values : List Text) → values_kinds ignore_case String values ≡ []
@@ -325,11 +327,42 @@ module _ (root out file : Text) (more : List Text) (few : length more < 64) wher
   unfolding gather_shape gather_held placed_fault
   gather_leaf =
       let goes : fold (placed gather_shape.rules) (walk_from nothing_held) (root ∷ out ∷ file ∷ more) ≡ from gather_held positional 3 false =
-      ap (λ w. fold (placed gather_shape.rules) w more) (gather_begun root out file) ∙ more_values gather_shape.rules gather_several more (gather_first root out file).held.rows (file ∷ []) in
+      ap (λ w. fold (placed gather_shape.rules) w more) (gather_begun root out file) ∙ more_values 3 gather_shape.rules gather_several more (gather_first root out file).held.rows (file ∷ []) in
       let first : placed_fault gather_shape (walk_from nothing_held) (root ∷ out ∷ file ∷ more) ≡ [] =
       ap (λ w. placed_fault gather_shape w more) (gather_begun root out file)
-      ∙ more_fine gather_shape (λ rows values. refl) gather_several more (gather_first root out file).held.rows (file ∷ []) in
+      ∙ more_fine 3 gather_shape (λ rows values. refl) gather_several more (gather_first root out file).held.rows (file ∷ []) in
       (λ i. or_else (first i) (end_fault gather_shape (goes i).held false)) ∙ gather_end
+
+-- a subcommand whose one argument is FILE, once or more
+pub record TakesFiles (s : Shape) : Type 0 where
+  pub begun : (file : Text) → placed s.rules (walk_from nothing_held) file ≡ from (gathering_held [] (file ∷ [])) positional 1 false
+  pub several : TakesSeveral 1 s.rules
+  pub first : step_fault s 1 nothing_held value ≡ []
+  pub fine : (rows : List Row) (values : List Text) → step_fault s 1 (gathering_held rows values) value ≡ []
+  pub settles : (file : Text) (more : List Text)
+      → settle_fault s.rules s.args_override_self (gathering_held [] (file ∷ more)) ≡ or_else (range_kinds 1 usize_max (length (file ∷ more))) (values_kinds false String (file ∷ more))
+  pub rest : (file : Text) (more : List Text)
+      → or_else (defaults_fault (settled s.rules (gathering_held [] (file ∷ more))).rows s.rules) (check_fault s (finished s.rules (gathering_held [] (file ∷ more))) false) ≡ []
+
+module _ (s : Shape) (takes : TakesFiles s) (file : Text) (more : List Text) where
+  files_goes : fold (placed s.rules) (walk_from nothing_held) (file ∷ more) ≡ from (gathering_held [] (file ∷ more)) positional 1 false
+  files_goes = ap (λ w. fold (placed s.rules) w more) (takes.begun file) ∙ more_values 1 s.rules takes.several more [] (file ∷ [])
+
+  pub files_rows : rows_for s nothing_held (file ∷ more) ≡ finished s.rules (gathering_held [] (file ∷ more))
+  unfolding rows_for
+  files_rows = ap (λ w. finished s.rules w.held) files_goes
+
+  files_end : length (file ∷ more) ≤ usize_max → end_fault s (gathering_held [] (file ∷ more)) false ≡ []
+  files_end few =
+      (λ i. or_else
+      ((takes.settles file more ∙ (λ j. or_else (range_fine (length (file ∷ more)) (omega arith) few j) (texts_fine false (file ∷ more) j))) i) (takes.rest file more i))
+
+  pub files_leaf : length (file ∷ more) ≤ usize_max → leaf_fault s nothing_held (file ∷ more) ≡ []
+  unfolding placed_fault
+  files_leaf few =
+      let first : placed_fault s (walk_from nothing_held) (file ∷ more) ≡ [] =
+      (λ i. or_else (takes.first i) (placed_fault s (takes.begun file i) more)) ∙ more_fine 1 s takes.fine takes.several more [] (file ∷ []) in
+      (λ i. or_else (first i) (end_fault s (files_goes i).held false)) ∙ files_end few
 
 -- the first of some digits is no other character
 digit_apart : (ds : List ℕ) (k : ℕ) → IsNumeral 10 ds → 10 ≤ digit_value k → get_or ds 0 0 ≢ k

@@ -1,17 +1,22 @@
 -- The arguments ask for one request.
-use Rattle.std.proofs.Common.{◌≡◌, ◌↔◌, arith, ℕ, Bool, true, false, List, map, Option, None, Some, codes, sym, ap, ◌∙◌, refl}
+use Rattle.std.proofs.Common.{◌≡◌, ◌↔◌, arith, ℕ, Bool, Bor, true, false, List, [], ◌∷◌, map, Option, None, Some, codes, sym, ap, ◌∙◌, refl}
 use Rattle.std.specs.Str.Parse.{digits_value, without_leading_plus}
 use Rattle.clap.specs.Words.{Row, Text, all_of, first_of, one_of}
 use Rattle.bao_text.specs.declared.kinds.Encoding.{Encoding}
 use Rattle.bao_text.specs.declared.kinds.Encoding.TheVariants.{Combined, Outboard, Slice}
 use Rattle.bao_text.specs.declared.kinds.Part.{Part}
 use Rattle.bao_text.specs.declared.kinds.Part.TheVariants as part
+use Rattle.bao_request.specs.declared.tasks.Asked.{Asked}
+use Rattle.bao_request.specs.declared.tasks.Asked.TheVariants.{One, Many}
 use Rattle.bao_request.specs.declared.tasks.Request.{Request}
+use Rattle.bao_request.specs.declared.tasks.Survey.{Survey}
+use Rattle.bao_request.specs.declared.tasks.SurveyTask.{SurveyTask}
+use Rattle.bao_request.specs.declared.tasks.SurveyTask.TheVariants.{Hashes, Check, Info}
 use Rattle.bao_request.specs.declared.tasks.Task.{Task}
 use Rattle.bao_request.specs.declared.tasks.Task.TheVariants.{Hash, Encode, CutSlice, Decode, DecodeCopy, Gather, Replay}
-use Rattle.bao_request.specs.Requests.{GivesEncoding, GivesNumber, GivesPart, GivesRequest, GivesTask, GivesText}
-use Rattle.bao_request.proofs.Subcommands.{class_is, letters, task_class}
-use Rattle.determined_program.specs.Requests.{SameRequest, SameTask}
+use Rattle.bao_request.specs.Requests.{Gives, GivesEncoding, GivesNumber, GivesPart, GivesRequest, GivesSurvey, GivesSurveyTask, GivesTask, GivesText}
+use Rattle.bao_request.proofs.Subcommands.{class_is, letters, one_or_many, survey_class, survey_class_is, task_class}
+use Rattle.determined_program.specs.Requests.{SameAsked, SameRequest, SameSurvey, SameSurveyTask, SameTask}
 
 same_some : {X : Type 0} (o : Option X) (x y : X) → o ≡ Some x → o ≡ Some y → x ≡ y
 same_some o x y a b = cc
@@ -52,11 +57,15 @@ one_part name rows (part.Slice s l) (part.Slice t m) f g a b = (
 one_part name rows part.Whole (part.Slice t m) f g a b = absurd (omega (arith, ap letters (sym a.0 ∙ b.0)))
 one_part name rows (part.Slice s l) part.Whole f g a b = absurd (omega (arith, ap letters (sym a.0 ∙ b.0)))
 
+-- the one text of a list
+one_file : (found : Option (List Text)) (file also : Bor Text) → found ≡ Some (file.now ∷ []) → found ≡ Some (also.now ∷ []) → file.now ≡ also.now
+one_file found file also a b = let same : file.now ∷ [] ≡ also.now ∷ [] = same_some found (file.now ∷ []) (also.now ∷ []) a b in cc
+
 pub one_task : (name : Text) (rows : List Row) (one other : Task) → GivesTask name rows one → GivesTask name rows other → SameTask one other
 one_task name rows (Hash at size file) (Hash at' size' file') a b = (
   one_number 64 rows (codes "at") at at' a.1 b.1,
   one_number 32 rows (codes "length") size size' a.2 b.2,
-  one_text rows (codes "FILE") file.now file'.now a.3 b.3,
+  one_file (all_of (codes "FILE") rows) file file' a.3 b.3,
 )
 one_task name rows (Encode encoding file out) (Encode encoding' file' out') a b = (
   one_encoding name rows encoding encoding' a.0 b.0,
@@ -111,3 +120,30 @@ one_task name rows one other a b = let e : task_class one ≡ task_class other =
 pub one_request : (asked : Option (Text × List Row)) (a b : Request) → GivesRequest asked a → GivesRequest asked b → SameRequest a b
 one_request None a b p q = absurd p
 one_request (Some asked) a b p q = (one_task asked.0 asked.1 a.task b.task p.0 q.0, p.1 ∙ sym q.1, p.2 ∙ sym q.2, p.3 ∙ sym q.3, one_flag a.verbose b.verbose (first_of (codes "verbose") asked.1 ≡ Some (codes "true")) p.4 q.4)
+
+one_survey_task : (name : Text) (rows : List Row) (one other : SurveyTask) → GivesSurveyTask name rows one → GivesSurveyTask name rows other → SameSurveyTask one other
+one_survey_task name rows (Hashes at size bare files) (Hashes at' size' bare' files') a b = (
+  one_number 64 rows (codes "at") at at' a.1 b.1,
+  one_number 32 rows (codes "length") size size' a.2 b.2,
+  one_flag bare bare' (first_of (codes "no-names") rows ≡ Some (codes "true")) a.3 b.3,
+  same_some (all_of (codes "FILE") rows) (map (λ text. text.now) files.items) (map (λ text. text.now) files'.items) a.4 b.4,
+)
+one_survey_task name rows (Check quiet ranges sums) (Check quiet' ranges' sums') a b = (
+  one_flag quiet quiet' (first_of (codes "quiet") rows ≡ Some (codes "true")) a.1 b.1,
+  one_flag ranges ranges' (first_of (codes "ranges") rows ≡ Some (codes "true")) a.2 b.2,
+  one_text rows (codes "SUMS") sums.now sums'.now a.3 b.3,
+)
+one_survey_task name rows (Info files) (Info files') a b =
+    same_some (all_of (codes "FILE") rows) (map (λ text. text.now) files.items) (map (λ text. text.now) files'.items) a.1 b.1
+one_survey_task name rows one other a b =
+    let e : survey_class one ≡ survey_class other = sym (survey_class_is name rows one a) ∙ survey_class_is name rows other b in absurd (omega (arith, e))
+
+pub one_survey : (asked : Option (Text × List Row)) (a b : Survey) → GivesSurvey asked a → GivesSurvey asked b → SameSurvey a b
+one_survey None a b p q = absurd p
+one_survey (Some asked) a b p q = (one_survey_task asked.0 asked.1 a.task b.task p.0 q.0, p.1 ∙ sym q.1, p.2 ∙ sym q.2, p.3 ∙ sym q.3, one_flag a.verbose b.verbose (first_of (codes "verbose") asked.1 ≡ Some (codes "true")) p.4 q.4)
+
+pub one_asked : (asked : Option (Text × List Row)) (a b : Asked) → Gives asked a → Gives asked b → SameAsked a b
+one_asked asked (One a) (One b) p q = one_request asked a b p q
+one_asked asked (Many a) (Many b) p q = one_survey asked a b p q
+one_asked asked (One a) (Many b) p q = absurd (one_or_many asked a b p q)
+one_asked asked (Many a) (One b) p q = absurd (one_or_many asked b a q p)

@@ -1,6 +1,8 @@
 -- What the manual says of a command, over files in memory.
-use Rattle.std.specs.Prelude.{◌≡◌, ◌≢◌, ◌⊎◌, ℕ, List, [], ◌∷◌, ◌++◌, length, take, codes, Some, IfSome, slice_get, true, ◌^◌, ◌<◌}
+use Rattle.std.specs.Prelude.{◌≡◌, ◌≢◌, ◌⊎◌, ℕ, List, [], ◌∷◌, ◌++◌, length, take, codes, Some, IfSome, slice_get, true, ◌^◌, ◌<◌, Option, None, map, Bool, if◌then◌else◌, ⊤}
 use Rattle.std.specs.Fmt.{decimal}
+use Rattle.std.specs.Io.KnownBytes.{Appends}
+use Rattle.std.specs.List.{AllByRecursion, AllZip}
 use Rattle.clap.specs.Words.{Text}
 use Rattle.b3tree.specs.Hashing.{hash}
 use Rattle.b3tree.specs.Modes.{plain}
@@ -13,7 +15,14 @@ use Rattle.bao_text.specs.declared.kinds.Encoding.TheVariants.{Combined, Outboar
 use Rattle.bao_check.specs.Accepted.{IsAccepted, places_of, slice_nodes}
 use Rattle.bao_check.specs.Inputs.{NamesCollision}
 use Rattle.bao_tasks.specs.FromFiles.{is_regular, taken_bytes}
-use Rattle.bao_files.specs.Disks.{FileState, Stored}
+use Rattle.bao_files.specs.Disks.{AreOf, FileState, IsStored, Unknown, Absent, Stored}
+use Rattle.bao_sums.specs.Checked.{IsOutcomeAt, IsSumsFile, IsTooLong, Outcome, check_line, tally_of, verdicts_of}
+use Rattle.bao_sums.specs.Each.{lines_of}
+use Rattle.bao_sums.specs.Hashed.{hash_line, readings_in}
+use Rattle.bao_sums.specs.Kinds.{claim_of, kind_line}
+use Rattle.bao_sums.specs.Sums.{AreSums, Sum}
+use Rattle.bao_sums.specs.declared.kinds.Seen.{Seen}
+use Rattle.bao_command.specs.Surveys.{tally_status}
 
 -- the word is no option: it doesn't begin with a hyphen
 abbrev pub IsPlain : Text → Type 0
@@ -75,3 +84,35 @@ pub record HasCollidingSlice (at : List ℕ → FileState) (files : List (List �
 -- one of the files, which isn't standard input, is the combined encoding of the blob
 abbrev pub IsAmongThem : (List ℕ → FileState) → List (List ℕ) → List ℕ → Type 0
 IsAmongThem at files blob = (k : ℕ) × (file : List ℕ) × (slice_get files k ≡ Some file) × (is_regular file ≡ true) × (at file ≡ Stored (combined_text plain blob))
+
+-- each of these files is there
+abbrev pub AllStored : (List ℕ → FileState) → List (List ℕ) → Type 0
+AllStored at paths = AllByRecursion (λ path. IsStored (at path)) paths
+
+-- a line of hash and path for each file that is there
+abbrev pub hash_lines : (List ℕ → FileState) → List (List ℕ) → List ℕ
+hash_lines at paths = lines_of (hash_line plain true) paths (readings_in at paths)
+
+-- what there is to see of a file
+abbrev pub look_in : FileState → Option Seen
+look_in Unknown = None
+look_in Absent = None
+look_in (Stored bytes) = Some (record { size = length bytes; claim = claim_of bytes })
+
+-- a line for each file that is there: what it may be
+abbrev pub info_lines : (List ℕ → FileState) → List (List ℕ) → List ℕ
+info_lines at paths = lines_of kind_line paths (map (λ path. look_in (at path)) paths)
+
+-- the words that ask for a check, and for damaged ranges
+abbrev pub check_words : Bool → List Text
+check_words ranges = codes "check" ∷ (if ranges then codes "--ranges" ∷ [] else [])
+
+-- What came of each file that a line of SUMS names was printed, in order. The status is 1 if one of them has another hash, else 3 if one can't be read, else 0.
+abbrev pub IsChecked : (List ℕ → FileState) → Bool → Bool → List ℕ → Option (List ℕ) → Option (List ℕ) → ℕ → Type 0
+IsChecked at quiet ranges path old new status =
+    (sums : List Sum) × (outcomes : List Outcome) × IsSumsFile (at path) sums × AllZip (IsOutcomeAt ⊤ at plain ranges) sums outcomes
+    × (status ≡ tally_status (tally_of (verdicts_of outcomes))) × Appends old new (lines_of (check_line quiet) sums outcomes)
+
+-- a file has more than 64 MiB, or no line with a hash and a path
+abbrev pub HasNoSums : FileState → Type 0
+HasNoSums state = IsTooLong state ⊎ ((text : List ℕ) × AreOf state text × AreSums text [])

@@ -6,6 +6,7 @@ ghost use Rattle.b3tree.specs.declared.mode.Mode.{Mode};
 ghost use Rattle.b3tree.specs.Valid.{AreBytes};
 ghost use Rattle.bao_command.specs.ModeWords.{HasMode};
 ghost use Rattle.bao_command.specs.Outcome.{AreRefused};
+ghost use Rattle.bao_command.specs.Surveys.{AreOfOne};
 ghost use Rattle.bao_command.specs.Tasks.{Gathers, IsRight, Replays};
 ghost use Rattle.bao_request.specs.declared.tasks.Request.{Request};
 ghost use Rattle.bao_request.specs.declared.tasks.Task.{Task};
@@ -16,13 +17,23 @@ ghost use Rattle.determined_program.specs.Commands.{BothKeep, CollidesAsked, IsF
 ghost use Rattle.determined_program.specs.Outcomes.{IsOfOne, Outcome, OutcomeOf, Ran};
 ghost use Rattle.determined_program.specs.Files.{SameWhereKnown};
 
-use bao_command::{Fault, command};
+use bao_command::{Fault, SurveyFault, command};
 use bao_files::{Disk, Progress};
 use std::io::Write;
 use std::thread::Threads;
 
 // What is printed no contract says.
 pub fn report_determined<E: Write>(fault: Fault<'_>, ours: &mut E, theirs: &mut E) -> (u8, u8)
+    ensures { result.0 ≡ result.1 }
+{
+    (fault.report(ours), fault.report(theirs))
+}
+
+pub fn survey_report_determined<E: Write>(
+    fault: SurveyFault<'_>,
+    ours: &mut E,
+    theirs: &mut E,
+) -> (u8, u8)
     ensures { result.0 ≡ result.1 }
 {
     (fault.report(ours), fault.report(theirs))
@@ -44,7 +55,8 @@ pub fn command_determined<
     err: &mut E,
     progress: &P,
 ) -> (u8, u8)
-    requires { O.contents ours.old ≡ O.contents theirs.old }
+    requires one { AreOfOne (map string_bytes words.now) }
+    requires streams { O.contents ours.old ≡ O.contents theirs.old }
     ensures refused { AreRefused (map string_bytes words.now) → SameStatus result.0 result.1 }
     ensures kept { result.0 ≢ 0 → result.0 ≢ 3 → result.1 ≢ 0 → result.1 ≢ 3 → BothKeep (O.contents ours.old) (O.contents ours.new) (O.contents theirs.new) }
 {
@@ -74,6 +86,7 @@ pub fn known_files_decide<
     err: &mut E,
     progress: &P,
 ) -> (u8, u8)
+    requires one { AreOfOne (map string_bytes words.now) }
     requires files { D.at our_disk.old ≡ D.at their_disk.old }
     requires streams { O.contents ours.old ≡ O.contents theirs.old }
     requires known { (request : Request) → AsksFor (map string_bytes words.now) request → IsOfKnown (D.at our_disk.old) request.task × IsKeyKnown (D.at our_disk.old) request }
@@ -108,6 +121,7 @@ pub fn known_holders_decide<
     err: &mut E,
     progress: &P,
 ) -> (u8, u8)
+    requires one { AreOfOne (map string_bytes words.now) }
     requires files { D.at our_disk.old ≡ D.at their_disk.old }
     requires streams { O.contents ours.old ≡ O.contents theirs.old }
     requires asked { (request : Request) → AsksFor (map string_bytes words.now) request → Gathers request.task × IsKeyKnown (D.at our_disk.old) request }
@@ -135,6 +149,7 @@ pub fn absent_file_unread<
     E: Write,
     P: Progress + Sync,
 >(rt: &R, disk: &mut D, words: &[String], out: &mut O, err: &mut E, progress: &P) -> u8
+    requires one { AreOfOne (map string_bytes words.now) }
     requires asked { (request : Request) (mode : Mode) → AsksFor (map string_bytes words.now) request → HasMode (D.at disk.old) request mode → LacksFile (D.at disk.old) mode request.task }
     requires work { ¬ AsksForHelp (map string_bytes words.now) }
     ensures status { (result ≢ 0) × (result ≢ 1) }
@@ -153,6 +168,7 @@ pub fn write_over_read_refused<
     E: Write,
     P: Progress + Sync,
 >(rt: &R, disk: &mut D, words: &[String], out: &mut O, err: &mut E, progress: &P) -> u8
+    requires one { AreOfOne (map string_bytes words.now) }
     requires asked { (request : Request) → AsksFor (map string_bytes words.now) request → WritesOverRead request }
     requires work { ¬ AsksForHelp (map string_bytes words.now) }
     ensures status { result ≢ 0 }
@@ -188,6 +204,7 @@ pub fn one_file_decides<
     E: Write,
     P: Progress + Sync,
 >(rt: &R, disk: &mut D, words: &[String], out: &mut O, err: &mut E, progress: &P) -> u8
+    requires one { AreOfOne (map string_bytes words.now) }
     requires asked { (request : Request) → AsksFor (map string_bytes words.now) request → IsOfOne request.task }
     requires known { (path : List ℕ) → IsKnown (D.at disk.old path) }
     requires short { (path : List ℕ) → IsShort (D.at disk.old path) }
@@ -210,6 +227,7 @@ pub fn good_command_runs<
     E: Write,
     P: Progress + Sync,
 >(rt: &R, disk: &mut D, words: &[String], out: &mut O, err: &mut E, progress: &P) -> u8
+    requires one { AreOfOne (map string_bytes words.now) }
     requires asked { (request : Request) → AsksFor (map string_bytes words.now) request → IsGood (D.at disk.old) request }
     requires known { (path : List ℕ) → IsKnown (D.at disk.old path) }
     requires some { (request : Request) × AsksFor (map string_bytes words.now) request }

@@ -1,6 +1,6 @@
 // What the manual says of a command, word by word, over files in memory.
 
-ghost use Rattle.std.specs.Prelude.{◌≡◌, ◌≢◌, ◌⊎◌, ℕ, ◌^◌, ◌<◌, ◌≤◌, List, [], ◌∷◌, length, map, string_bytes, codes, Ok, Some};
+ghost use Rattle.std.specs.Prelude.{◌≡◌, ◌≢◌, ◌⊎◌, ℕ, ◌^◌, ◌<◌, ◌≤◌, false, List, [], ◌∷◌, length, map, string_bytes, codes, Ok, Some};
 ghost use Rattle.std.specs.Fmt.{decimal};
 ghost use Rattle.std.specs.Io.KnownBytes.{Appends, Keeps};
 ghost use Rattle.hex.specs.Hex.{decode_of};
@@ -14,9 +14,10 @@ ghost use Rattle.bao_text.specs.declared.kinds.Encoding.TheVariants.{Slice};
 ghost use Rattle.bao_files.specs.Disks.{KeepsFiles, Puts, Stored};
 ghost use Rattle.bao_files.specs.Encoded.{encoding_text};
 ghost use Rattle.bao_files.specs.HeldFiles.{held_at};
-ghost use Rattle.bao_files.specs.Printed.{digits_line, ok_line};
+ghost use Rattle.bao_files.specs.Printed.{AppendsBeginning, digits_line, ok_line};
+ghost use Rattle.bao_sums.specs.Hashed.{paths_of};
 ghost use Rattle.bao_command.specs.Tasks.{IsNoOutput};
-ghost use Rattle.determined_program.specs.Manual.{HasCollidingSlice, HasRange, IsAmongThem, IsBlobSlice, IsCommand, IsCopyOf, IsDoneOrFailed, IsEncodingOf, words_for};
+ghost use Rattle.determined_program.specs.Manual.{AllStored, HasCollidingSlice, HasNoSums, HasRange, IsAmongThem, IsBlobSlice, IsChecked, IsCommand, IsCopyOf, IsDoneOrFailed, IsEncodingOf, check_words, hash_lines, info_lines, words_for};
 
 use b3tree::{Hash, Mode, bytes_are};
 use bao_command::command;
@@ -258,5 +259,70 @@ pub fn gather_is<R: AllocGlobal + Threads + Sync, O: Write, E: Write, P: Progres
 {
     // A law, so that the proof has what it says: nothing runs.
     bytes_are(&root.0);
+    command(rt, disk, words, out, err, progress)
+}
+
+// `hash FILE FILE ..` prints a line for each FILE that is there, in order: its hash and its path. It changes nothing. It isn't done if a FILE isn't there;
+// and if it isn't done, what was printed is a beginning of these lines.
+pub fn hashes_are<R: AllocGlobal + Threads + Sync, O: Write, E: Write, P: Progress + Sync>(
+    rt: &R,
+    disk: &mut MemoryFiles,
+    words: &[String],
+    files: &Vec<&str>,
+    out: &mut O,
+    err: &mut E,
+    progress: &P,
+) -> u8
+    requires asked { IsCommand (map string_bytes words.now) (codes "hash" ∷ []) (paths_of files.now.items) }
+    requires some { 1 < length files.now.items }
+    ensures done { result ≡ 0 → AllStored (held_at disk.old.files) (paths_of files.now.items)
+        × Appends (O.contents out.old) (O.contents out.new) (hash_lines (held_at disk.old.files) (paths_of files.now.items)) }
+    ensures begun { AppendsBeginning (O.contents out.old) (O.contents out.new) (hash_lines (held_at disk.old.files) (paths_of files.now.items)) }
+    ensures files { KeepsFiles (held_at disk.old.files) (held_at disk.new.files) }
+    ensures status { IsDoneOrFailed result }
+{
+    command(rt, disk, words, out, err, progress)
+}
+
+// `check SUMS` hashes each file that a line of SUMS names, and prints a line for each, in order: whether it has the hash of its line. With `--ranges` a line
+// for each damaged range of a file comes after that, if the file has another hash and its outboard file is there and is accepted. Nothing changes.
+pub fn check_is<R: AllocGlobal + Threads + Sync, O: Write, E: Write, P: Progress + Sync>(
+    rt: &R,
+    disk: &mut MemoryFiles,
+    words: &[String],
+    ranges: bool,
+    sums: &str,
+    out: &mut O,
+    err: &mut E,
+    progress: &P,
+) -> u8
+    requires { IsCommand (map string_bytes words.now) (check_words ranges) (sums.now ∷ []) }
+    ensures done { (result ≡ 0) ⊎ (result ≡ 1) → IsChecked (held_at disk.old.files) false ranges sums.now (O.contents out.old) (O.contents out.new) result }
+    ensures usage { result ≡ 2 → Keeps (O.contents out.old) (O.contents out.new) × HasNoSums (held_at disk.old.files sums.now) }
+    ensures files { KeepsFiles (held_at disk.old.files) (held_at disk.new.files) }
+    ensures status { result ≤ 4 }
+{
+    command(rt, disk, words, out, err, progress)
+}
+
+// `info FILE ..` prints a line for each FILE that is there, in order: its path, and what it may be. It changes nothing. It isn't done if a FILE isn't there;
+// and if it isn't done, what was printed is a beginning of these lines.
+pub fn info_is<R: AllocGlobal + Threads + Sync, O: Write, E: Write, P: Progress + Sync>(
+    rt: &R,
+    disk: &mut MemoryFiles,
+    words: &[String],
+    files: &Vec<&str>,
+    out: &mut O,
+    err: &mut E,
+    progress: &P,
+) -> u8
+    requires asked { IsCommand (map string_bytes words.now) (codes "info" ∷ []) (paths_of files.now.items) }
+    requires some { 0 < length files.now.items }
+    ensures done { result ≡ 0 → AllStored (held_at disk.old.files) (paths_of files.now.items)
+        × Appends (O.contents out.old) (O.contents out.new) (info_lines (held_at disk.old.files) (paths_of files.now.items)) }
+    ensures begun { AppendsBeginning (O.contents out.old) (O.contents out.new) (info_lines (held_at disk.old.files) (paths_of files.now.items)) }
+    ensures files { KeepsFiles (held_at disk.old.files) (held_at disk.new.files) }
+    ensures status { IsDoneOrFailed result }
+{
     command(rt, disk, words, out, err, progress)
 }

@@ -2,7 +2,7 @@
 
 ghost use Rattle.determined_program.specs.Requests.{SameAnswer};
 
-use bao_request::{Request, parse};
+use bao_request::{Asked, parse};
 use clap::Error;
 use std::alloc::Global;
 
@@ -12,7 +12,7 @@ use std::alloc::Global;
 pub fn request_determined<'a>(
     alloc: Global,
     words: &'a [String],
-) -> (Result<Request<'a>, Error>, Result<Request<'a>, Error>)
+) -> (Result<Asked<'a>, Error>, Result<Asked<'a>, Error>)
     ensures { SameAnswer result.0 result.1 }
 {
     let one = parse(alloc, words);

@@ -1,6 +1,6 @@
 // Slices that are cut out of files, and verified.
 
-ghost use Rattle.std.specs.Prelude.{◌≡◌, ◌^◌, ◌<◌, ℕ, List, length, OnErr, OnOk};
+ghost use Rattle.std.specs.Prelude.{◌≡◌, ◌^◌, ◌<◌, ◌≤◌, ℕ, List, Some, length, OnErr, OnOk};
 ghost use Rattle.bao_decode.specs.Ranges.{IsPartText};
 ghost use Rattle.bao_decode.specs.Weaving.{cut_beside};
 ghost use Rattle.bao_decode.specs.declared.decode_fault.DecodeFault.TheVariants as DecodeFault;
@@ -12,8 +12,9 @@ ghost use Rattle.determined_texts.specs.Agreeing.{AgreeButFor, AgreeUnless};
 ghost use Rattle.determined_program.specs.Files.{SameWhereKnown};
 ghost use Rattle.determined_program.specs.Copies.{MayComeBeside, MayComeOfCopy};
 
+use b3par::Source;
 use b3tree::{Hash, Mode};
-use bao_decode::{DecodeFault, slice_beside_on, slice_on};
+use bao_decode::{DecodeFault, has_slice, outline_length, slice_beside_on, slice_on};
 use bao_files::Disk;
 use std::alloc::Global;
 
@@ -71,5 +72,40 @@ pub fn slice_beside_on_determined<'a, D: Disk, E: Disk>(
     (
         slice_beside_on(alloc, ours, mode, root, start, len, outboard, copy, path),
         slice_beside_on(alloc, theirs, mode, root, start, len, outboard, copy, path),
+    )
+}
+
+// Of two files whose bytes are known, and whose reads never fail, it is decided whether a slice is had of them.
+pub fn has_slice_determined<S: Source>(
+    mode: &Mode,
+    root: &Hash,
+    outboard: &S,
+    copy: &S,
+    start: u64,
+    len: u64,
+    block: &mut [u8],
+    room: &mut [u8],
+) -> (bool, bool)
+    requires block { (1024 ≤ length block.old) × (length block.old ≤ 2 ^ 32) }
+    requires room { length block.old ≤ length room.old }
+    ensures { (outline bytes : List ℕ) → S.contents outboard.now ≡ Some outline → S.contents copy.now ≡ Some bytes → S.faultless outboard.now → S.faultless copy.now → result.0 ≡ result.1 }
+{
+    let one = has_slice(mode, root, outboard, copy, start, len, block, room);
+    let other = has_slice(mode, root, outboard, copy, start, len, block, room);
+    (one, other)
+}
+
+// Nor is it open which length an outboard file claims that is accepted, if its size is right.
+pub fn outline_length_determined<S: Source>(
+    mode: &Mode,
+    root: &Hash,
+    outboard: &S,
+    size: u64,
+) -> (Option<u64>, Option<u64>)
+    ensures { (outline : List ℕ) → S.contents outboard.now ≡ Some outline → size ≡ length outline → S.faultless outboard.now → result.0 ≡ result.1 }
+{
+    (
+        outline_length(mode, root, outboard, size),
+        outline_length(mode, root, outboard, size),
     )
 }

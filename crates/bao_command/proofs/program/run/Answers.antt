@@ -26,10 +26,14 @@ pub returns-clause-outcome : goal.returns-clause-outcome
 returns-clause-outcome g c =
     let status : exit_status c.from.result ≡ c.command.result = c.from.ensures in
     record {
-      done = λ is. c.command.ensures.done (sym status ∙ is);
-      file_fault = λ is. c.command.ensures.file_fault (sym status ∙ is);
-      fault = λ some other. c.command.ensures.fault (λ is. some (status ∙ is)) (λ is. other (status ∙ is));
+      done = λ one is. c.command.ensures.done one (sym status ∙ is);
+      file_fault = λ one is. c.command.ensures.file_fault one (sym status ∙ is);
+      fault = λ one some other. c.command.ensures.fault one (λ is. some (status ∙ is)) (λ is. other (status ∙ is));
       refused = λ refused. either_as status (c.command.ensures.refused refused);
-      usage = λ is. c.command.ensures.usage (sym status ∙ is);
-      refusal = λ is. let refused = c.command.ensures.refusal (sym status ∙ is) in (refused.0, refused.1, may_refuse ⊥ (λ _. Unknown) refused.2.0 refused.0.task refused.2.2);
+      usage = λ one is. c.command.ensures.usage one (sym status ∙ is);
+      refusal = λ one is. let refused = c.command.ensures.refusal one (sym status ∙ is) in (refused.0, refused.1, may_refuse ⊥ (λ _. Unknown) refused.2.0 refused.0.task refused.2.2);
+      surveyed = λ many. elim (c.command.ensures.surveyed many).1 [
+        | inl memory ↦ inl (status ∙ memory.0, memory.1)
+        | inr ended ↦ inr (ended.0, ended.1, (ended.2.0, ended.2.1 ∙ sym status, ended.2.2))
+      ];
     }

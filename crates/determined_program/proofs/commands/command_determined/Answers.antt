@@ -7,4 +7,4 @@ returns-clause-refused g c = λ refused. same_status c.command.result c.command-
 pub returns-clause-kept : goal.returns-clause-kept
 returns-clause-kept g c = λ some now done also.
     both_keep (g.O.Write.contents c.args.ours.now) (g.O.Write.contents c.args.theirs.now) (g.O.Write.contents c.command.new.out) (g.O.Write.contents c.command-2.new.out)
-    c.requires (c.command.ensures.fault some now) (c.command-2.ensures.fault done also)
+    c.requires.streams (c.command.ensures.fault c.requires.one some now) (c.command-2.ensures.fault c.requires.one done also)

@@ -16,8 +16,8 @@ returns-clause-put g c = λ first second.
     let one = g.O.Write.contents c.command.new.out in
     let other = g.O.Write.contents c.command-2.new.out in
     let theirs : Done words at b old other =
-    subst (λ (T : Type 0). T) (λ i. Done words (sym c.requires.files i) b (sym c.requires.streams i) other) (c.command-2.ensures.done second) in
-    done_agree at a b old one other words c.requires.asked c.requires.work (c.command.ensures.done first) theirs
+    subst (λ (T : Type 0). T) (λ i. Done words (sym c.requires.files i) b (sym c.requires.streams i) other) (c.command-2.ensures.done c.requires.one second) in
+    done_agree at a b old one other words c.requires.asked c.requires.work (c.command.ensures.done c.requires.one first) theirs
 
 pub returns-clause-right : goal.returns-clause-right
 returns-clause-right g c = λ first second surely also_surely r m blob asks has is.
@@ -31,5 +31,5 @@ returns-clause-right g c = λ first second surely also_surely r m blob asks has 
     let sure : Type 0 = g.D.Disk.faultless c.args.our_disk.now in
     let also_sure : Type 0 = g.D.Disk.faultless c.args.their_disk.now in
     let theirs : AsksForHelp words ⊎ ((s : Request) × AsksFor words s × IsBlobFor also_sure at b s old other) =
-    subst (λ (T : Type 0). T) (λ i. AsksForHelp words ⊎ ((s : Request) × AsksFor words s × IsBlobFor also_sure (sym c.requires.files i) b s (sym c.requires.streams i) other)) (c.command-2.ensures.blob second) in
-    each_agree words at a b old one other sure also_sure c.requires.asked c.requires.work surely also_surely r m blob asks has is (c.command.ensures.blob first) theirs
+    subst (λ (T : Type 0). T) (λ i. AsksForHelp words ⊎ ((s : Request) × AsksFor words s × IsBlobFor also_sure (sym c.requires.files i) b s (sym c.requires.streams i) other)) (c.command-2.ensures.blob c.requires.one second) in
+    each_agree words at a b old one other sure also_sure c.requires.asked c.requires.work surely also_surely r m blob asks has is (c.command.ensures.blob c.requires.one first) theirs

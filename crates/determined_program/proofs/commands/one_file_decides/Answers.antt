@@ -10,6 +10,6 @@ returns g c = λ status.
     let old = g.O.Write.contents c.args.out.now in
     let new = g.O.Write.contents c.command.new.out in
     elim status [
-      | inl is ↦ ran_done words at after old new c.requires.known c.requires.asked c.requires.work c.command.result is (c.command.ensures.done is)
-      | inr is ↦ ran_refused words at after old new c.requires.known c.requires.asked c.requires.short (g.D.Disk.faultless c.args.disk.now) c.command.result is (c.command.ensures.refusal is)
+      | inl is ↦ ran_done words at after old new c.requires.known c.requires.asked c.requires.work c.command.result is (c.command.ensures.done c.requires.one is)
+      | inr is ↦ ran_refused words at after old new c.requires.known c.requires.asked c.requires.short (g.D.Disk.faultless c.args.disk.now) c.command.result is (c.command.ensures.refusal c.requires.one is)
     ]

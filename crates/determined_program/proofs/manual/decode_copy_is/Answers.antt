@@ -10,19 +10,19 @@ use Rattle.determined_program.proofs.manual.decode_copy_is.Goals as goal
 use Rattle.determined_program.proofs.manual.decode_copy_is.Goals.{After-command}
 
 module _ (g : Over) (c : After-command g) where
+  alone : AsksAlone (map string_bytes c.args.words.now) (DecodeCopy c.args.digits c.args.outboard c.args.copy c.args.path)
+  alone = decode_copy_alone (map string_bytes c.args.words.now) c.args.outboard c.args.digits c.args.copy c.args.path c.requires.asked
+
   ran : Ran (map string_bytes c.args.words.now) (held_at c.args.disk.now.files) (held_at c.command.new.disk.files) (g.O.Write.contents c.args.out.now) (g.O.Write.contents c.command.new.out) ⊤ c.command.result
   ran = record {
     known = held_known c.args.disk.now.files;
     most = c.command.ensures.status;
-    done = c.command.ensures.done;
+    done = c.command.ensures.done alone.one;
     files = c.command.ensures.files;
-    fault = c.command.ensures.fault;
-    usage = c.command.ensures.usage;
-    refusal = c.command.ensures.refusal;
+    fault = c.command.ensures.fault alone.one;
+    usage = c.command.ensures.usage alone.one;
+    refusal = c.command.ensures.refusal alone.one;
   }
-
-  alone : AsksAlone (map string_bytes c.args.words.now) (DecodeCopy c.args.digits c.args.outboard c.args.copy c.args.path)
-  alone = decode_copy_alone (map string_bytes c.args.words.now) c.args.outboard c.args.digits c.args.copy c.args.path c.requires.asked
 
 pub returns-clause-done : goal.returns-clause-done
 returns-clause-done g c = λ is.

@@ -16,22 +16,22 @@ use Rattle.determined_program.proofs.manual.decode_slice_is.Goals as goal
 use Rattle.determined_program.proofs.manual.decode_slice_is.Goals.{After-command}
 
 module _ (g : Over) (c : After-command g) where
-  ran : Ran (map string_bytes c.args.words.now) (held_at c.args.disk.now.files) (held_at c.command.new.disk.files) (g.O.Write.contents c.args.out.now) (g.O.Write.contents c.command.new.out) ⊤ c.command.result
-  ran = record {
-    known = held_known c.args.disk.now.files;
-    most = c.command.ensures.status;
-    done = c.command.ensures.done;
-    files = c.command.ensures.files;
-    fault = c.command.ensures.fault;
-    usage = c.command.ensures.usage;
-    refusal = c.command.ensures.refusal;
-  }
-
   alone : AsksAlone (map string_bytes c.args.words.now) (Decode c.args.digits (Slice c.args.start c.args.len) c.args.file c.args.path)
   alone = decode_slice_alone (map string_bytes c.args.words.now) c.args.digits c.args.start c.args.len c.args.file c.args.path (omega arith) (omega arith) c.requires.asked
 
   keyed : IsKeyed plain
   keyed = subst IsKeyed c.hash.ensures c.is_keyed.ensures
+
+  ran : Ran (map string_bytes c.args.words.now) (held_at c.args.disk.now.files) (held_at c.command.new.disk.files) (g.O.Write.contents c.args.out.now) (g.O.Write.contents c.command.new.out) ⊤ c.command.result
+  ran = record {
+    known = held_known c.args.disk.now.files;
+    most = c.command.ensures.status;
+    done = c.command.ensures.done alone.one;
+    files = c.command.ensures.files;
+    fault = c.command.ensures.fault alone.one;
+    usage = c.command.ensures.usage alone.one;
+    refusal = c.command.ensures.refusal alone.one;
+  }
 
 pub returns-clause-done : goal.returns-clause-done
 returns-clause-done g c = λ is.

@@ -9,19 +9,19 @@ use Rattle.determined_program.proofs.manual.hash_is.Goals as goal
 use Rattle.determined_program.proofs.manual.hash_is.Goals.{After-command}
 
 module _ (g : Over) (c : After-command g) where
+  alone : AsksAlone (map string_bytes c.args.words.now) (Hash 0 32 c.args.file)
+  alone = hash_alone (map string_bytes c.args.words.now) c.args.file c.requires
+
   ran : Ran (map string_bytes c.args.words.now) (held_at c.args.disk.now.files) (held_at c.command.new.disk.files) (g.O.Write.contents c.args.out.now) (g.O.Write.contents c.command.new.out) ⊤ c.command.result
   ran = record {
     known = held_known c.args.disk.now.files;
     most = c.command.ensures.status;
-    done = c.command.ensures.done;
+    done = c.command.ensures.done alone.one;
     files = c.command.ensures.files;
-    fault = c.command.ensures.fault;
-    usage = c.command.ensures.usage;
-    refusal = c.command.ensures.refusal;
+    fault = c.command.ensures.fault alone.one;
+    usage = c.command.ensures.usage alone.one;
+    refusal = c.command.ensures.refusal alone.one;
   }
-
-  alone : AsksAlone (map string_bytes c.args.words.now) (Hash 0 32 c.args.file)
-  alone = hash_alone (map string_bytes c.args.words.now) c.args.file c.requires
 
 pub returns-clause-done : goal.returns-clause-done
 returns-clause-done g c = λ is.

@@ -1,0 +1,9 @@
+pub mod Each
+pub mod Escapes
+pub mod Known
+pub mod Long
+pub mod Saying
+pub mod Written
+pub mod Runs
+pub mod Outcomes
+pub mod Windows

@@ -1,0 +1,12 @@
+pub mod Each
+pub mod Sums
+pub mod Found
+pub mod Steps
+pub mod Hashed
+pub mod Early
+pub mod Checked
+pub mod Kinds
+pub mod Damage
+pub mod Judged
+pub mod Opened
+pub mod Windows
