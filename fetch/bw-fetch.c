@@ -6,6 +6,7 @@
 #include "fetch.h"
 
 #include <getopt.h>
+#include <malloc.h>
 #include <poll.h>
 #include <signal.h>
 #include <sys/resource.h>
@@ -185,6 +186,7 @@ int main(int argc, char **argv) {
     open_standard();
     watch_signals();
     allow_descriptors();
+    mallopt(M_MMAP_THRESHOLD, UNIT_LEN); /* an exchange's memory goes back to the system */
     const int status = read_options(argc, argv);
     if (given.peers_file) signal(SIGHUP, on_hangup);
     if (status) return status == GOES_ON ? DONE : status;

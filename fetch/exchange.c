@@ -1,7 +1,7 @@
 /* A request of a plan: the parents of an outboard encoding, then the bytes of a mirror. */
 #include "fetch.h"
 
-enum { TRY_AFTER = GROUP_LEN, SHORT_WAIT = 100 };
+enum { TRY_AFTER = GROUP_LEN, SHORT_WAIT = 100, SLOW_MS = 30000, SPARE_MOST = 4 };
 
 /* Places the pieces, and copies what the file's head has of them. How many bytes they take. */
 size_t pieces_lay_out(pieces *of, uint8_t *at, const uint8_t *head, size_t head_len) {
@@ -20,6 +20,7 @@ size_t pieces_lay_out(pieces *of, uint8_t *at, const uint8_t *head, size_t head_
 static void told(leg *of, leg_end as) {
     exchange *e = of->with;
     fetch *f = e->fetch;
+    e->heard = now_ms();
     if (as == LEG_MORE) return exchange_move(e);
     if (of == &e->flow) {
         const booking all = booking_of(f, e->from);
@@ -37,19 +38,30 @@ static void told(leg *of, leg_end as) {
     exchange_move(e);
 }
 
+/* Ended exchanges, of whose memory and handle the next are made, so that no unit costs the system's
+ * work for a MiB. */
+static exchange *spare;
+static unsigned spares;
+
 /* Of what is booked, if it isn't NULL. NULL: there is no memory for one more, which is as a failure
  * of the mirror's. */
 exchange *exchange_new(fetch *f, peer *from, booking *of) {
     const size_t image_len = f->out.is_pipe ? UNIT_LEN : 0;
-    exchange *e = malloc(sizeof *e + BYTES_MOST + HEAD_LEN + image_len);
+    exchange *e = spare ? spare : malloc(sizeof *e + BYTES_MOST + HEAD_LEN + image_len);
+    CURL *easy = spare ? spare->leg.easy : NULL;
+    if (spare) {
+        spare = spare->next;
+        spares--;
+    }
     if (!e && of) {
         f->hindrance = NO_MEMORY;
         fetch_close(f, of, BW_ENDED_OVER, 0);
     }
     if (!e) return NULL;
     *e = (exchange){.fetch = f, .from = from, .asked = from, .next = f->exchanges};
+    e->began = now_ms();
     e->streams = from->at.no_ranges && from->at.kind != OUTBOARD;
-    e->leg = (leg){.tell = told, .with = e};
+    e->leg = (leg){.tell = told, .with = e, .easy = easy};
     e->flow = (leg){.tell = told, .with = e, .streams = true};
     e->head = e->bytes + BYTES_MOST;
     e->image = f->out.is_pipe ? e->head + HEAD_LEN : NULL;
@@ -66,8 +78,15 @@ void exchange_sweep(fetch *f) {
             continue;
         }
         *at = e->next;
-        leg_free(&e->leg);
         leg_free(&e->flow);
+        if (spares < SPARE_MOST) {
+            free(e->leg.url);
+            e->next = spare;
+            spare = e;
+            spares++;
+            continue;
+        }
+        leg_free(&e->leg);
         free(e);
     }
 }
@@ -77,10 +96,15 @@ void exchange_get(exchange *e, peer *of, pieces *wanted) {
     fetch *f = e->fetch;
     e->has_ended = false;
     e->asked = of;
+    e->heard = now_ms();
     e->leg.copy_to = of->at.kind == OUTBOARD ? f->out.folder : NULL;
     e->leg.copy_most = bw_outboard_len(f->is_settled ? f->total : e->claimed);
     leg_start(&e->leg, f->hub, &of->at, wanted);
 }
+
+/* Those that have given something come first; those that lie or mostly fail get what others leave.
+ */
+static int turn_of(const peer *it) { return it->rank == LAST || has_failed(it) ? LAST : !it->good; }
 
 /* --- Parents: an outboard encoding's plan hears what is wanted of it, and says when to ask it */
 
@@ -124,10 +148,11 @@ static bool take_line(exchange *e, peer *line, uint64_t now, uint64_t *until) {
 static bool pick_line(exchange *e, bool may_lie, uint64_t now, uint64_t *until) {
     peer *const first = e->from->line;
     *until = UINT64_MAX;
-    for (int last = 0; first && last <= may_lie; last++) {
+    for (int turn = 0; first && turn <= LAST; turn++) {
         peer *it = first;
         do {
-            if (it->is_holder && is_doubtful(it) == last && take_line(e, it, now, until))
+            if (it->is_holder && turn_of(it) == turn && (may_lie || !is_doubtful(it)) &&
+                take_line(e, it, now, until))
                 return true;
             it = it->next ? it->next : e->fetch->lines;
         } while (it != first);
@@ -232,6 +257,29 @@ void exchange_end(exchange *e, uint32_t outcome, uint64_t later_ms) {
     const bool was_open = e->of_from.is_open;
     fetch_close(f, &e->of_from, e->orphaned ? BW_ENDED_CUT : outcome, later_ms);
     if (was_open) peers_close(f, e->from, &e->of_from, outcome == BW_ENDED_CUT);
+}
+
+/* Its mirror is too slow for a place that others wait for. */
+void exchange_leave(exchange *e) {
+    e->from->lost++;
+    exchange_end(e, BW_ENDED_CUT, 0);
+}
+
+/* Whether it brings nothing for a while, or takes long as a whole, and that isn't due to a limit:
+ * then others are asked in its place. */
+bool exchange_lags(const exchange *e, uint64_t now) {
+    const uint64_t since = e->opener ? e->began : e->heard;
+    const bool is_late = since + OVERTAKE_MS <= now || e->began + SLOW_MS <= now;
+    const bool is_asked = e->leg.runs && !e->leg.is_local && !e->is_over && !e->is_busy;
+    return is_late && is_asked && !e->fetch->set->set.limit_rate;
+}
+
+/* Of those that lag the one that began first, or NULL. */
+exchange *exchange_slowest(const fetch *f, uint64_t now) {
+    exchange *found = NULL;
+    for (exchange *e = f->exchanges; e; e = e->next)
+        if (exchange_lags(e, now)) found = e;
+    return found;
 }
 
 /* What an end of the bytes is to the plans. A file that comes only whole is streamed at last, and
@@ -409,8 +457,10 @@ static void overtake_line(exchange *e, uint64_t now) {
     ask_parents(e);
 }
 
+/* One that lags gives way to a mirror that wasn't asked yet. */
 static void end_waits(fetch *f, uint64_t now) {
     for (exchange *e = f->exchanges; e && f->status == GOES_ON; e = e->next) {
+        if (f->next_in != f->lines && exchange_lags(e, now)) exchange_leave(e);
         if (!e->is_over) overtake_line(e, now);
         if (e->is_over || !e->waits) continue;
         if (e->wait_until > now) fetch_wait(f, e->wait_until);
@@ -459,14 +509,18 @@ void exchange_move(exchange *e) {
 
 /* --- Who is asked */
 
-/* What the plan wants of a mirror now. Whether it was asked. */
-static bool ask_one(fetch *f, peer *m, uint64_t now) {
+/* What the plan wants of a mirror now, where enough are asked in place of the one that lags most.
+ * Whether it was asked. */
+static bool ask_one(fetch *f, peer *m, uint64_t most, uint64_t now) {
+    exchange *slow = f->live < most ? NULL : exchange_slowest(f, now);
+    if (f->live >= most && (!slow || turn_of(m) == LAST)) return false;
     booking of = booking_of(f, m);
     uint64_t until = peers_choose(f, m) ? peers_book(f, m, &of, now) : fetch_book(f, &of, now);
     m->wait = until;
     m->asked = now;
     m->seen = f->changes;
     if (!of.is_open) return false;
+    if (slow) exchange_leave(slow);
     exchange *e = exchange_new(f, m, &of);
     if (!e) {
         peers_close(f, m, &of, true);
@@ -488,10 +542,8 @@ static bool ask_one(fetch *f, peer *m, uint64_t now) {
     return true;
 }
 
-/* Those that lie or fail are asked while few exchanges are under way. */
 static void ask(fetch *f, peer *m, uint64_t now) {
-    const bool is_good = m->rank != LAST && !has_failed(m);
-    const uint64_t most = is_good ? UINT64_MAX : IN_MOST * f->set->connections;
+    const uint64_t most = IN_MOST * f->set->connections * (f->swarm.is_on ? PEERS_EACH : 1);
     judge(f, m);
     if (!m->is_in || (f->believed && m != f->believed)) return;
     if (m->at.kind == PLAIN && f->lacks_lines) return; /* nobody waits for it */
@@ -501,19 +553,18 @@ static void ask(fetch *f, peer *m, uint64_t now) {
                             now < m->asked + SHORT_WAIT; /* while others are asked */
     if (is_put_off) fetch_wait(f, m->asked + SHORT_WAIT);
     while (f->status == GOES_ON && !is_known && !is_put_off && m->busy < m->at.most &&
-           f->live < most && m->later <= now && ask_one(f, m, now))
+           m->later <= now && ask_one(f, m, most, now))
         continue;
     if (m->wait != UINT64_MAX && m->wait > now && m->busy < m->at.most) fetch_wait(f, m->wait);
 }
 
-/* Those that mostly fail get what the others leave. */
 void exchange_ask_all(fetch *f, uint64_t now) {
     f->lacks_lines = true;
     for (const peer *line = f->lines; line; line = line->next)
         f->lacks_lines &= !line->is_in || fetch_has_left_out(f, line);
     end_waits(f, now);
-    for (int last = 0; last < 2; last++) {
+    for (int turn = 0; turn <= LAST; turn++) {
         for (peer *m = f->peers; m != f->lines && f->status == GOES_ON; m = m->next)
-            if (has_failed(m) == last) ask(f, m, now);
+            if (turn_of(m) == turn) ask(f, m, now);
     }
 }

@@ -2,7 +2,6 @@
 
 enum { PAUSE_MS = 100, ROUND_MS = 1000, ROUND_MOST_MS = 10000, LOOK_MS = 1000 };
 enum { BAD_ENOUGH = 4, LOST_ENOUGH = 3 };
-enum { PEERS_EACH = 4 }; /* so many peers are in as one other mirror */
 
 /* --- Made and freed */
 

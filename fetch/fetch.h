@@ -19,6 +19,7 @@ enum {
     MIRRORS_MOST = 1000,
     WINDOW_UNITS = 16,  /* of a pipe */
     IN_MOST = 16,       /* mirrors, and outboard encodings, that are asked at a time */
+    PEERS_EACH = 4,     /* so many peers are in as one other mirror */
     OVERTAKE_MS = 1000, /* what doesn't come so long is asked of another */
     SETTLING = 12,      /* stall times that a server is left alone at most */
     HEAD_LEN = 12288,   /* of a file, asked for at first: what a server may send over a new
@@ -156,6 +157,7 @@ typedef struct opener {
     struct opener *next;
     peer *from, *by;
     booking booked;
+    struct exchange *asked; /* while that is open */
 } opener;
 
 typedef struct fetch fetch;
@@ -168,6 +170,7 @@ typedef struct exchange {
     peer *from, *by, *asked; /* a mirror, an outboard encoding, and which was asked last */
     bool is_over, has_ended; /* the plans were told its end; its last bytes came */
     leg_end end;
+    uint64_t began, heard; /* when it began, and when something came last */
     uint64_t later_ms, claimed, unit;
     bool streams;     /* the mirror's file comes whole, by `flow`: unit after unit, */
     leg_end flow_end; /* or it came until here */
@@ -281,6 +284,9 @@ size_t pieces_lay_out(pieces *of, uint8_t *at, const uint8_t *head, size_t head_
 void exchange_cut(exchange *e);
 void exchange_end_by(exchange *e);
 void exchange_end(exchange *e, uint32_t outcome, uint64_t later_ms);
+void exchange_leave(exchange *e);
+bool exchange_lags(const exchange *e, uint64_t now);
+exchange *exchange_slowest(const fetch *f, uint64_t now);
 void exchange_ask_all(fetch *f, uint64_t now);
 void exchange_unit(exchange *e, run of);
 void exchange_sweep(fetch *f);

@@ -75,7 +75,7 @@ static void begin(fetch *f, opener *it) {
         fetch_report(f, &it->booked, bw_plan_lacks, (run){0, 1}, NULL);
         return fetch_close(f, &it->booked, BW_ENDED_CUT, 0);
     }
-    exchange *e = exchange_new(f, it->from, &it->booked);
+    exchange *e = it->asked = exchange_new(f, it->from, &it->booked);
     if (!e) return;
     e->opener = it;
     e->by = it->by;
@@ -85,20 +85,27 @@ static void begin(fetch *f, opener *it) {
     exchange_get(e, it->from, &e->parts);
 }
 
-/* Asks whoever may be asked. How many that haven't failed may be asked at some time, but for the
- * foreign ones. */
+/* Asks whoever may be asked, where enough are asked in place of the one that lags most. How many
+ * that neither failed nor lag may be asked at some time, but for the foreign ones. */
 static size_t ask_openers(fetch *f, uint64_t now) {
     size_t alive = 0;
     f->foreign = 0;
     for (opener *it = f->openers; it && f->status == GOES_ON && !f->is_settled; it = it->next) {
         uint64_t until = it->from->later > now ? it->from->later : 0;
-        const bool may_ask = !until && !it->booked.is_open && f->live < IN_MOST &&
-                             it->from->busy < it->from->at.most;
+        exchange *slow = f->live < IN_MOST ? NULL : exchange_slowest(f, now);
+        const bool has_room = f->live < IN_MOST || (slow && !has_failed(it->from));
+        const bool may_ask =
+            !until && !it->booked.is_open && has_room && it->from->busy < it->from->at.most;
         if (may_ask) until = fetch_book(f, &it->booked, now);
-        if (may_ask && it->booked.is_open) begin(f, it);
-        alive += until != UINT64_MAX && !has_failed(it->from) && !is_foreign(it);
+        if (may_ask && it->booked.is_open) {
+            if (slow) exchange_leave(slow);
+            begin(f, it);
+        }
+        const bool lags = it->booked.is_open && exchange_lags(it->asked, now);
+        alive += until != UINT64_MAX && !has_failed(it->from) && !is_foreign(it) && !lags;
         f->foreign += until != UINT64_MAX && is_foreign(it);
-        if (until && until != UINT64_MAX) fetch_wait(f, until);
+        if (it->booked.is_open && !lags) until = it->asked->began + OVERTAKE_MS;
+        if (until > now && until != UINT64_MAX) fetch_wait(f, until);
     }
     return alive;
 }
@@ -238,6 +245,7 @@ static void keep_last(exchange *e) {
         return fetch_stop(f, FILE_FAULT);
     if (f->out.served_as) shelf_mark(group, mask_in(group, (run){last, 1}));
     fetch_keep(f, e->from->holder, group, mask_in(group, (run){last, 1}), of_group);
+    e->from->good++;
 }
 
 /* A unit that was asked for already becomes a request of the plan, if that wants it just so. */

@@ -148,7 +148,11 @@ CASES = [
     ("an outboard encoding that is busy, late", 3_000_000, "plain@busylate=1 plain@busylate=1", "", 6),
     ("nobody listens, for a while", 300_000, "bao@dead", "--patience 3", 6),
     ("a true one behind 16 that lie", 3_000_000, "bao@from=2200000 " * 16 + "bao", "", 0),
-    ("a true one behind 16 that never answer", 3_000_000, "bao@never " * 16 + "bao", "--stall 1 --retries 100", 0),
+    ("a true one behind 16 that never answer", 3_000_000, "bao@never " * 16 + "bao", "--stall 3600 --max-time 200", 0),
+    ("a true one behind 40 that stop after some bytes", 3_000_000, "bao@begins " * 40 + "bao", "--stall 3600 --max-time 200", 0),
+    ("a true one behind 20 that stop after some bytes, plain", 3_000_000, "plain@begins " * 20 + "plain", "--stall 3600 --max-time 200", 0),
+    ("a true one behind 16 that stop in the middle", 3_000_000, "bao@stall " * 16 + "bao", "--stall 3600 --max-time 200", 0),
+    ("a true one behind 16 that are slow", 3_000_000, "bao@slowdata=3000 " * 16 + "bao", "--max-time 200", 0),
     ("parts in another order", 5_000_000, "bao@reversed", "", 0),
     ("parts of a short file put together", 60_000, "bao@coalesced", "", 0),
     ("parts that claim more than they have", 5_000_000, "bao@badparts bao", "", 0),
@@ -980,14 +984,17 @@ def disk_for_a_copy(place):
 
 
 def little_memory(place):
-    """300 MiB in 64 MiB of memory, from mirrors of each kind, of which one lies, and to a pipe. How much less it takes hangs on how many connections send at once."""
-    launcher = peak.Launcher(place.folder)
+    """300 MiB in 32 MiB of memory and 10 bytes for each 64 KiB: from mirrors of each kind, of which one lies, and from one behind 999 at whose port nobody listens. To a pipe
+    it takes 64 MiB. How much less it takes hangs on how many connections send at once."""
+    launcher, wanted = peak.Launcher(place.folder), (32 << 20) + 10 * len(place.blob) // 65_536
     for mirrors, out in (("bao plain", place.out), ("bao@some=1 bao", place.out), ("plain plain@some=1", place.out), ("bao plain", "-"),
-                         ("bao@norange", place.out), ("plain@norange", "-")):
-        ran = launcher.run([*place.fetch, place.root, out, *place.serve(mirrors)])
-        want(ran.status == 0, f"{mirrors}: status {ran.status}: {ran.complaint.decode(errors='replace')[-2000:]}")
+                         ("bao@norange", place.out), ("plain@norange", "-"), ("bao@dead " * 999 + "bao", place.out), ("plain@dead " * 999 + "plain", place.out)):
+        place.out.unlink(missing_ok=True)
+        ran = launcher.run([*place.fetch, place.root, out, *place.serve(mirrors)], seconds=LONGEST)
+        what = f"{len(mirrors.split())} mirrors, the last of them {mirrors.split()[-1]}"
+        want(ran.status == 0, f"{what}: status {ran.status}: {ran.complaint.decode(errors='replace')[-2000:]}")
         want((ran.printed if out == "-" else place.out.read_bytes()) == place.blob, "OUT isn't the blob")
-        want(ran.peak <= 64 << 20, f"{mirrors}: {ran.peak} bytes of memory")
+        want(ran.peak <= (64 << 20 if out == "-" else wanted), f"{what}: {ran.peak} bytes of memory")
 
 
 def unwritable(place):

@@ -316,8 +316,8 @@ class Mirror(http.server.BaseHTTPRequestHandler):
         elif mode == "trunc":
             self.wfile.write(body[:len(body) * 6 // 10])
             self.close_connection = True
-        elif mode == "stall" and len(body) > 20_000:
-            self.wfile.write(body[:len(body) // 3])
+        elif mode == "begins" or mode == "stall" and len(body) > 20_000:
+            self.wfile.write(body[:100 if mode == "begins" else len(body) // 3])
             self.wfile.flush()
             self.say_nothing()
         elif mode == "drip":
@@ -325,9 +325,10 @@ class Mirror(http.server.BaseHTTPRequestHandler):
                 self.wfile.write(body[at:at + 1])
                 if self.server.ended.wait(0.05):
                     return
-        elif mode in ("slow", "oneconnection"):
-            step = int(self.value) // 20
-            for at in range(0, len(body), step):
+        elif mode in ("slow", "slowdata", "oneconnection"):
+            step, first = int(self.value) // 20, 20_000 if mode == "slowdata" else 0
+            self.wfile.write(body[:first])
+            for at in range(first, len(body), step):
                 self.wfile.write(body[at:at + step])
                 if self.server.ended.wait(0.05):
                     return
