@@ -142,6 +142,7 @@ static bool turn_all(uint64_t *wake) {
     const uint64_t now = now_ms();
     bool some = false;
     *wake = now + 1000;
+    serve_turn(now);
     const bool rereads = has_hung_up;
     has_hung_up = 0;
     for (fetch **f = running; f < running + TOGETHER; f++) {
@@ -179,7 +180,10 @@ static void allow_descriptors(void) {
 static void serve_on(bool has_mirror) {
     const double wanted = given.serve_for, seconds = wanted >= 0 ? wanted : has_mirror ? 0 : DAYS;
     const uint64_t until = now_ms() + (uint64_t)(seconds * 1000);
-    while (!interrupted && now_ms() < until) poll(NULL, 0, NAP_MS);
+    for (uint64_t now = now_ms(); !interrupted && now < until; now = now_ms()) {
+        serve_turn(now);
+        poll(NULL, 0, NAP_MS);
+    }
 }
 
 int main(int argc, char **argv) {

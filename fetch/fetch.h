@@ -79,6 +79,7 @@ bool shelf_has_parents(void);
 void shelf_announce(const uint64_t units[COMING_MOST]);
 const char *shelf_self(void);
 int serve_start(const char *where, const uint8_t root[BW_HASH_LEN], uint64_t rate);
+void serve_turn(uint64_t now);
 void serve_end(void);
 void shelf_close(void);
 

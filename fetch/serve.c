@@ -16,6 +16,8 @@ int serve_start(const char *where, const uint8_t root[BW_HASH_LEN], uint64_t rat
     return usage("--serve isn't in this build, which was made without libmicrohttpd");
 }
 
+void serve_turn(uint64_t now) { (void)now; }
+
 void serve_end(void) {}
 
 #else
@@ -28,7 +30,7 @@ enum {
     CONNECTIONS_MOST = 256,
     OF_ONE_MOST = 64,     /* from one address */
     REQUEST_MOST = 32768, /* bytes, with the headers of the answer */
-    IDLE_MOST = 15,       /* seconds */
+    IDLE_MOST = 15,       /* seconds; and until the header of a request is there */
     GRACE_MS = 30000,     /* after which a reader takes a KiB a second at least */
     THREADS = 2
 };
@@ -151,6 +153,54 @@ static ssize_t next_bytes(void *with, uint64_t at, char *out, size_t most) {
     hold_back(len);
     it->sent += len;
     return (ssize_t)len;
+}
+
+/* --- Clients that don't end a request's header, each byte of which the library takes for progress
+ */
+
+typedef struct client {
+    int fd;         /* or 0 */
+    uint64_t since; /* a header is waited for, or UINT64_MAX */
+} client;
+
+static client clients[CONNECTIONS_MOST];
+static pthread_mutex_t of_clients = PTHREAD_MUTEX_INITIALIZER;
+
+static void was_connected(void *unused, struct MHD_Connection *to, void **with,
+                          enum MHD_ConnectionNotificationCode what) {
+    client *it = *with ? *with : clients;
+    (void)unused;
+    pthread_mutex_lock(&of_clients);
+    while (!*with && it->fd && it < clients + CONNECTIONS_MOST - 1) it++;
+    *with = it;
+    it->since = now_ms();
+    it->fd = what == MHD_CONNECTION_NOTIFY_CLOSED
+                 ? 0
+                 : MHD_get_connection_info(to, MHD_CONNECTION_INFO_CONNECTION_FD)->connect_fd;
+    pthread_mutex_unlock(&of_clients);
+}
+
+/* A header is waited for since that moment. */
+static void wait_for_header(struct MHD_Connection *of, uint64_t since) {
+    client *it = MHD_get_connection_info(of, MHD_CONNECTION_INFO_SOCKET_CONTEXT)->socket_context;
+    pthread_mutex_lock(&of_clients);
+    it->since = since;
+    pthread_mutex_unlock(&of_clients);
+}
+
+static void was_answered(void *unused, struct MHD_Connection *to, void **with,
+                         enum MHD_RequestTerminationCode how) {
+    (void)unused, (void)with, (void)how;
+    wait_for_header(to, now_ms());
+}
+
+/* Ends connections whose header isn't there in time. Called now and then. */
+void serve_turn(uint64_t now) {
+    pthread_mutex_lock(&of_clients);
+    for (client *it = clients; it < clients + CONNECTIONS_MOST; it++)
+        if (it->fd && now > it->since && now - it->since > IDLE_MOST * 1000)
+            shutdown(it->fd, SHUT_RDWR);
+    pthread_mutex_unlock(&of_clients);
 }
 
 /* --- Requests */
@@ -277,6 +327,7 @@ static enum MHD_Result take_request(void *unused, struct MHD_Connection *to, con
         return reply(to, MHD_HTTP_METHOD_NOT_ALLOWED, NULL, NULL, "Allow", "GET, HEAD");
     if (!*with) {
         *with = (void *)seen;
+        wait_for_header(to, UINT64_MAX);
         return MHD_YES;
     }
     if (*tail && strcmp(tail, ".bao")) return reply(to, MHD_HTTP_NOT_FOUND, NULL, NULL, NULL, NULL);
@@ -335,7 +386,8 @@ int serve_start(const char *where, const uint8_t root[BW_HASH_LEN], uint64_t rat
         MHD_OPTION_LISTEN_SOCKET, fd, MHD_OPTION_THREAD_POOL_SIZE, (unsigned)THREADS,
         MHD_OPTION_CONNECTION_LIMIT, (unsigned)CONNECTIONS_MOST, MHD_OPTION_PER_IP_CONNECTION_LIMIT,
         (unsigned)OF_ONE_MOST, MHD_OPTION_CONNECTION_MEMORY_LIMIT, (size_t)REQUEST_MOST,
-        MHD_OPTION_CONNECTION_TIMEOUT, (unsigned)IDLE_MOST, MHD_OPTION_END);
+        MHD_OPTION_CONNECTION_TIMEOUT, (unsigned)IDLE_MOST, MHD_OPTION_NOTIFY_CONNECTION,
+        was_connected, NULL, MHD_OPTION_NOTIFY_COMPLETED, was_answered, NULL, MHD_OPTION_END);
     pthread_sigmask(SIG_SETMASK, &before, NULL);
     if (!server) {
         close(fd);

@@ -8,6 +8,7 @@ Whatever is served is compared with the blob and its encoding. Its last line is 
 import concurrent.futures
 import contextlib
 import http.client
+import itertools
 import os
 import pathlib
 import random
@@ -27,7 +28,7 @@ from hostile import Place, want
 
 LENGTHS = [0, 1, 1023, 1024, 1025, 65_536, 65_537, 131_073, 1_048_577, 3_000_000]
 GROUP = 65_536
-LONGEST = 120                           # seconds, far above what anything has to take
+LONGEST = 600                           # seconds, far above what anything has to take
 
 
 @contextlib.contextmanager
@@ -319,6 +320,40 @@ def readers_cost_no_fetch(tools, length=9_000_000):
             place.end()
 
 
+def dripping_requests(tools, length=200_000):
+    """A request whose header comes byte by byte is ended, also on a connection that had an answer, and whatever another client does meanwhile."""
+    with tempfile.TemporaryDirectory() as folder:
+        place = Place(folder, tools, length)
+        make_seed(place)
+        with serving(place) as (port, _):
+            wait_for(port, place, lambda headers: True)
+            held = [socket.create_connection(("127.0.0.1", port), LONGEST) for _ in range(20)]
+            for at, it in enumerate(held):
+                first = f"HEAD /{place.root} HTTP/1.1\r\nHost: a\r\n\r\n".encode()
+                it.sendall(first * (at % 2) + b"GET / HTTP/1.1\r\nX: ")
+            end = time.monotonic() + LONGEST
+            while held and time.monotonic() < end:
+                time.sleep(0.5)
+                held = [it for it in held if goes_on(it)]
+                want(ask(port, f"/{place.root}")[2] == place.blob, "another client isn't served")
+            want(not held, f"{len(held)} requests go on")
+
+
+def goes_on(it):
+    """Whether a connection takes one more byte. It is closed if it doesn't."""
+    it.setblocking(False)
+    try:
+        it.sendall(b"y")
+        if it.recv(65536):
+            return True
+    except BlockingIOError:
+        return True
+    except OSError:
+        pass
+    it.close()
+    return False
+
+
 def limited(tools, length=2_000_000):
     """--serve-rate holds for all readers together."""
     with tempfile.TemporaryDirectory() as folder:
@@ -372,15 +407,17 @@ def from_peers_alone(tools, length=9_000_000):
             second.end()
 
 
+PORTS = itertools.count(20_000 + os.getpid() % 10_000)      # below those that the system gives, and each once
+
+
 def free_ports(count):
-    them = [socket.socket() for _ in range(count)]
-    for it in them:
-        it.setsockopt(socket.SOL_SOCKET, socket.SO_REUSEADDR, 1)
-        it.bind(("127.0.0.1", 0))
-    ports = [it.getsockname()[1] for it in them]
-    for it in them:
-        it.close()
-    return ports
+    found = []
+    while len(found) < count:
+        with socket.socket() as it, contextlib.suppress(OSError):
+            it.setsockopt(socket.SOL_SOCKET, socket.SO_REUSEADDR, 1)
+            it.bind(("127.0.0.1", next(PORTS)))
+            found.append(it.getsockname()[1])
+    return found
 
 
 def own_name(tools, length=3_000_000):
@@ -406,7 +443,7 @@ def origin_is_last(tools, length=9_000_000):
             make_seed(place)
             with serving(place) as (port, _):
                 wait_for(port, place, lambda headers: True)
-                urls = place.serve("bao")
+                urls = place.serve("bao@late=0.5")         # what the peer has is known by then
                 ran = subprocess.run([*place.fetch, "--origin-last", "600", "--peer", f"http://127.0.0.1:{port}", place.root, place.folder / "got", *urls], capture_output=True, timeout=LONGEST)
                 want(ran.returncode == 0, f"status {ran.returncode}: {ran.stderr}")
                 given = sum(end - start for it in place.requests(urls[0]) for start, end in it)
@@ -504,25 +541,30 @@ def run_swarm(tools, seed):
 
 
 CASES = {it.__doc__.split(".")[0].split(",")[0].rstrip(): it for it in (serves_all, nothing_else, words_of_serve, serves_what_is_there, serves_to_the_end, hostile_requests,
-                                                           readers_cost_no_fetch, limited, from_peers_alone, own_name, origin_is_last, lying_peers, hostile_maps, swarm)}
+                                                           readers_cost_no_fetch, dripping_requests, limited, from_peers_alone, own_name, origin_is_last, lying_peers, hostile_maps, swarm)}
+
+
+def try_one(case, tools):
+    """What is wrong with a case, or None."""
+    try:
+        return case(tools)
+    except (hostile.Failure, OSError, subprocess.TimeoutExpired) as fault:
+        return str(fault)
 
 
 def main(fetch, mkbao, *words):
     hostile.isolate()
-    tools, wrong, cases = (pathlib.Path(fetch).resolve(), pathlib.Path(mkbao).resolve()), 0, 0
+    tools = pathlib.Path(fetch).resolve(), pathlib.Path(mkbao).resolve()
     if "without libmicrohttpd" in subprocess.run([tools[0], "--serve", "0", "0" * 64, tools[0].parent / "none"], capture_output=True, text=True).stderr:
         print("peers.py: not run, since this build has no --serve")
         return 0
-    for name, case in CASES.items():
-        if not hostile.is_wanted(name, words):
-            continue
-        cases += 1
-        try:
-            case(tools)
-        except hostile.Failure as fault:
-            wrong += 1
-            print(f"peers.py: {name}: {fault}")
-    print(f"{cases} cases passed" if not wrong else f"{wrong} of {cases} cases failed")
+    cases = {name: case for name, case in CASES.items() if hostile.is_wanted(name, words)}
+    with concurrent.futures.ThreadPoolExecutor(hostile.SIDE_BY_SIDE) as pool:
+        found = dict(zip(cases, pool.map(lambda case: try_one(case, tools), cases.values())))
+    wrong = {name: fault for name, fault in found.items() if fault}
+    for name, fault in wrong.items():
+        print(f"peers.py: {name}: {fault}")
+    print(f"{len(cases)} cases passed" if not wrong else f"{len(wrong)} of {len(cases)} cases failed")
     return 1 if wrong else 0
 
 
