@@ -25,25 +25,31 @@ enum {
     TRIES_MOST = 8 /* units that the plan is asked for at a time */
 };
 
+/* What a peer says it has. */
+struct has {
+    uint8_t map[MAP_LEN]; /* bit i: it has the groups from i * each on, so many */
+    uint64_t each, bits;  /* each: 0 where it says nothing */
+    uint64_t name;        /* what it calls itself, as a number */
+};
+
 /* What is known of a peer beside what is known of each mirror. */
 struct member {
-    uint8_t map[MAP_LEN]; /* bit i: it has the groups from i * each on, so many */
-    uint64_t each, bits;
+    struct has has, counted;      /* counted: what units are counted by */
     uint64_t coming[COMING_MOST]; /* units */
     size_t coming_count;
     char name[NAME_LEN + 1];
     uint64_t poll_at, heard_at, pause;
     int trust; /* it gives what it says it has; above 0 it is relied on */
-    bool has_news, was_told, is_self, is_of_file, is_listed;
+    bool has_news, is_self, is_of_file, is_listed;
     leg leg;
     pieces claim;
     uint8_t bytes[BW_LENGTH_LEN];
 };
 
 struct unit {
-    uint8_t held_by, asked;     /* peers that have all of it; requests that are for it */
+    uint16_t held_by, left_to;  /* peers that have all of it; that are to ask an origin for it */
+    uint8_t asked;              /* requests that are for it */
     bool is_coming;             /* some peer gets it from an origin */
-    bool is_left;               /* some peer is to get it from an origin first */
     uint64_t asked_at, awaited; /* when it was asked for, and when some peer first got it */
 };
 
@@ -54,18 +60,19 @@ static bool is_gone(const peer *it) { return it->member->is_self || !it->member-
 /* The map, as a server writes it; another one as far as it is understood. */
 static void read_map(struct member *it, const char *text) {
     static const char digits[] = "0123456789abcdef";
+    struct has *to = &it->has;
     int used = 0;
     unsigned each = 0;
     if (sscanf(text, "%9u %n", &each, &used) != 1 || !each || !used) return;
-    it->each = each;
-    it->bits = 0;
-    memset(it->map, 0, MAP_LEN);
+    to->each = each;
+    to->bits = 0;
+    memset(to->map, 0, MAP_LEN);
     const char *at;
-    for (text += used; it->bits < 8 * MAP_LEN && *text && (at = strchr(digits, *text)); text++) {
-        it->map[it->bits / 8] |= (uint8_t)((at - digits) << it->bits % 8);
-        it->bits += 4;
+    for (text += used; to->bits < 8 * MAP_LEN && *text && (at = strchr(digits, *text)); text++) {
+        to->map[to->bits / 8] |= (uint8_t)((at - digits) << to->bits % 8);
+        to->bits += 4;
     }
-    it->has_news = it->was_told = true;
+    it->has_news = true;
     it->heard_at = now_ms();
 }
 
@@ -74,6 +81,7 @@ static void read_coming(struct member *it, char *text) {
     char *word = strtok(text, " ");
     it->coming_count = 0;
     snprintf(it->name, sizeof it->name, "%s", word ? word : "");
+    it->has.name = strtoull(it->name, NULL, 16);
     it->is_self |= *it->name && !strcmp(it->name, shelf_self());
     while (it->coming_count < COMING_MOST && (word = strtok(NULL, " ")))
         it->coming[it->coming_count++] = strtoull(word, NULL, 10);
@@ -93,13 +101,18 @@ static void hear(void *with, const char *line, size_t len) {
         read_coming(with, text + strlen(COMING_HEADER ": "));
 }
 
-/* Which groups of a unit it says it has. */
-static unsigned groups_at(const fetch *f, const struct member *it, uint64_t unit) {
+/* Which groups of a unit a peer says it has. */
+static unsigned groups_at(const fetch *f, const struct has *it, uint64_t unit) {
+    const uint64_t first = unit * UNIT_GROUPS;
+    const uint64_t count = least(groups_of(f->total) - first, UNIT_GROUPS);
     unsigned found = 0;
-    const uint64_t left = groups_of(f->total) - unit * UNIT_GROUPS;
-    for (unsigned g = 0; g < least(left, UNIT_GROUPS) && it->was_told; g++) {
-        const uint64_t bit = (unit * UNIT_GROUPS + g) / it->each;
-        if (bit < it->bits && it->map[bit / 8] >> bit % 8 & 1) found |= 1u << g;
+    if (!it->each) return 0;
+    for (uint64_t bit = first / it->each, at; bit < it->bits; bit++) {
+        at = bit * it->each;
+        if (at >= first + count) break;
+        if (it->map[bit / 8] >> bit % 8 & 1)
+            found |=
+                (1u << least(at + it->each - first, count)) - (1u << (at > first ? at - first : 0));
     }
     return found;
 }
@@ -134,8 +147,7 @@ int peers_add(fetch *f, const char *url, bool is_of_file) {
         return DONE;
     }
     if (address && (it = calloc(1, sizeof *it))) {
-        *it =
-            (struct member){.is_of_file = is_of_file, .is_listed = true, .each = 1, .trust = TRUST};
+        *it = (struct member){.is_of_file = is_of_file, .is_listed = true, .trust = TRUST};
         peer *m = fetch_add(f, address, COMBINED, it);
         if (m) {
             m->at.hear = hear;
@@ -196,7 +208,10 @@ void peers_free(peer *it) {
 bool peers_begin(fetch *f) {
     swarm *s = &f->swarm;
     uint64_t seed;
-    for (peer *m = f->peers; m; m = m->next) peers_forget(m);
+    for (peer *m = f->peers; m; m = m->next) {
+        peers_forget(m);
+        if (m->member) m->member->counted.each = 0;
+    }
     if (!s->is_on) return true;
     free(s->units);
     free(s->left);
@@ -247,7 +262,7 @@ static bool is_slow(const fetch *f, const peer *m, uint64_t now) {
 
 /* Whether origins needn't be asked for what a peer has. */
 static bool is_relied_on(fetch *f, const peer *m, uint64_t now) {
-    return m->member && m->is_holder && m->member->was_told && !is_gone(m) && !is_doubtful(m) &&
+    return m->member && m->is_holder && m->member->has.each && !is_gone(m) && !is_doubtful(m) &&
            m->member->trust > 0 && m->later <= now && !fetch_has_left_out(f, m) &&
            !is_slow(f, m, now);
 }
@@ -260,7 +275,7 @@ static unsigned weight_of(fetch *f, const peer *m, uint64_t unit, uint64_t now) 
     const struct unit *it = &f->swarm.units[unit];
     const uint64_t patience = patience_of(f);
     const bool is_peer = m->member;
-    const unsigned groups = is_peer ? groups_at(f, m->member, unit) : 0;
+    const unsigned groups = is_peer ? groups_at(f, &m->member->has, unit) : 0;
     unsigned weight = it->held_by;
     if (is_peer && !groups) return NEVER;
     if (is_peer && !are_all(f, unit, groups)) weight += 100;
@@ -274,7 +289,7 @@ static unsigned weight_of(fetch *f, const peer *m, uint64_t unit, uint64_t now) 
     if (is_peer) return weight;
     if (it->held_by && f->moved_at + patience > now) return LATER;
     if (it->is_coming && it->awaited + patience > now) return LATER;
-    return weight + (it->is_coming ? 500 : 0) + it->is_left;
+    return weight + (it->is_coming ? 500 : 0) + (it->left_to > 0);
 }
 
 /* The best unit. What is there isn't looked at again. Whether there is one; else *later tells
@@ -317,7 +332,7 @@ void peers_lack(fetch *f, peer *m, run of) {
  */
 static uint64_t offer(fetch *f, peer *m, booking *of, uint64_t unit, uint64_t now) {
     const run all = run_of_unit(f->total, unit);
-    const unsigned groups = m->member ? groups_at(f, m->member, unit) : UINT_MAX;
+    const unsigned groups = m->member ? groups_at(f, &m->member->has, unit) : UINT_MAX;
     struct unit *it = &f->swarm.units[unit];
     uint64_t lacking[UNIT_GROUPS];
     for (unsigned g = 0; g < UNIT_GROUPS; g++) lacking[g] = groups >> g & 1 ? 0 : UINT64_MAX;
@@ -375,41 +390,47 @@ static void yield(fetch *f, const struct member *to, uint64_t unit, uint64_t now
 }
 
 /* A number that each who knows a name has of it and a unit. */
-static uint64_t draw_of(const char *name, uint64_t unit) {
-    uint64_t x = strtoull(name, NULL, 16) ^ (unit + 1) * 0x9E3779B97F4A7C15;
+static uint64_t draw_of(uint64_t name, uint64_t unit) {
+    uint64_t x = name ^ (unit + 1) * 0x9E3779B97F4A7C15;
     x = (x ^ x >> 30) * 0xBF58476D1CE4E5B9;
     x = (x ^ x >> 27) * 0x94D049BB133111EB;
     return x ^ x >> 31;
 }
 
-/* Leaves a unit to a peer that draws a higher number, so that few ask an origin for the same. */
-static void leave(fetch *f, const struct member *to) {
-    for (uint64_t u = 0; u < f->unit_count && *shelf_self() && *to->name; u++)
-        f->swarm.units[u].is_left |= draw_of(to->name, u) > draw_of(shelf_self(), u);
+/* Counts the units that a peer has, by one more or one less, and those that are left to it since it
+ * draws a higher number, so that few ask an origin for the same. */
+static void add(fetch *f, const struct has *it, int by) {
+    const uint64_t own = strtoull(shelf_self(), NULL, 16);
+    for (uint64_t u = 0; u < f->unit_count && it->each; u++) {
+        struct unit *to = &f->swarm.units[u];
+        to->held_by += by * are_all(f, u, groups_at(f, it, u));
+        to->left_to += by * (own && it->name && draw_of(it->name, u) > draw_of(own, u));
+    }
 }
 
-/* Counts who has and who gets what. */
+/* Counts who has and who gets what, and of who has it only what has changed. */
 static void count(fetch *f, uint64_t now) {
+    static const struct has nothing;
     swarm *s = &f->swarm;
     s->counted_at = now;
     s->relied_on = 0;
-    for (uint64_t u = 0; u < f->unit_count; u++) {
-        s->units[u].held_by = 0;
-        s->units[u].is_coming = s->units[u].is_left = false;
-    }
+    for (uint64_t u = 0; u < f->unit_count; u++) s->units[u].is_coming = false;
     for (peer *m = f->peers; m != f->lines; m = m->next) {
         struct member *it = m->member;
-        if (it && it->has_news) {
+        if (!it) continue;
+        const bool counts = is_relied_on(f, m, now);
+        if (it->has_news) {
             f->changes++;
             peers_forget(m);
             it->has_news = false;
         }
-        if (!is_relied_on(f, m, now)) continue;
+        if (memcmp(&it->counted, counts ? &it->has : &nothing, sizeof nothing)) {
+            add(f, &it->counted, -1);
+            it->counted = counts ? it->has : nothing;
+            add(f, &it->counted, 1);
+        }
+        if (!counts) continue;
         s->relied_on++;
-        leave(f, it);
-        for (uint64_t u = 0; u < f->unit_count; u++)
-            s->units[u].held_by +=
-                s->units[u].held_by < UINT8_MAX && are_all(f, u, groups_at(f, it, u));
         for (size_t i = 0; i < it->coming_count; i++) {
             if (it->coming[i] >= f->unit_count) continue;
             struct unit *u = &s->units[it->coming[i]];
@@ -438,11 +459,11 @@ static void was_polled(leg *of, leg_end as) {
     fetch *f = m->of;
     const uint64_t now = now_ms();
     if (as == LEG_MORE) return;
-    if (as == LEG_ALL && !it->was_told) {
-        memset(it->map, UINT8_MAX, MAP_LEN);
-        it->bits = 8 * MAP_LEN;
-        it->each = UINT32_MAX;
-        it->was_told = it->has_news = true;
+    if (as == LEG_ALL && !it->has.each) {
+        memset(it->has.map, UINT8_MAX, MAP_LEN);
+        it->has.bits = 8 * MAP_LEN;
+        it->has.each = UINT32_MAX;
+        it->has_news = true;
     }
     if (as == LEG_ALL && it->pause) {
         it->pause = 0;
@@ -452,8 +473,7 @@ static void was_polled(leg *of, leg_end as) {
     if (as == LEG_ALL) return;
     it->pause = least(it->pause ? 2 * it->pause : POLL_MS, POLL_MOST_MS);
     it->poll_at = now + it->pause;
-    it->was_told = false;
-    it->coming_count = 0;
+    it->has.each = it->coming_count = 0;
     it->has_news = true;
 }
 
