@@ -186,6 +186,19 @@ class Tasks(Refused):
     """Each task with each call failing."""
 
 
+def damaged_files():
+    """A file that is damaged in its first group, one in its last, and one that was cut short, beside their outboard files."""
+    mode, blob = bao.Mode(), blob_of(140_000)
+    files = {"first": changed(blob, 40_000), "last": changed(blob, 139_999), "short": blob[:100_000]}
+    sums = "".join(f"{mode.hash(blob).hex()}  {it}\n" for it in files).encode()
+    yield Task(["check", "--ranges", "sums"], {**files, **{f"{it}.obao": bao.outboard(mode, blob) for it in files}, "sums": sums})
+
+
+@each((name, it, [fault for fault in FAULTS if fault.call in ("malloc", "pthread_create")]) for name, it in named(damaged_files()))
+class DamagedFiles(Refused):
+    """Their damaged ranges. What a read takes away is one more of these, or another file that can't be read."""
+
+
 @each((name, it, FAULTS) for name, it in named(long_tasks()))
 class LongTasks(Refused):
     """The same over a file that several threads read."""
