@@ -6,6 +6,7 @@
 At the top of the repository, after the C library was built. Needs cc and libcurl with its headers. With clang and the sanitizers of cc it does more, and names
 what isn't installed; with BERYLWOOL_CI in the environment nothing of these may be missing. Its last line is 'bw-fetch passed'.
 """
+import concurrent.futures
 import os
 import pathlib
 import re
@@ -22,15 +23,25 @@ WRAPPED = "-Wl,--wrap=malloc,--wrap=calloc,--wrap=realloc,--wrap=curl_global_ini
 SANITIZERS = {"asan": "-fsanitize=address,undefined", "tsan": "-fsanitize=thread"}
 DELAYED = "-Wl,--wrap=pthread_mutex_lock,--wrap=pthread_mutex_unlock,--wrap=pthread_cond_wait,--wrap=pthread_cond_signal"
 
+AT_ONCE = 6
+
 # The large cases show nothing more under a sanitizer, where they take long.
 LARGE = "64 MiB", "little memory"
 
 
 def run(*words, **more):
+    """Prints at once what it printed, since others run beside it."""
     words = [str(it) for it in words]
-    ran = subprocess.run(words, **{"cwd": ROOT, **more})
+    ran = subprocess.run(words, **{"cwd": ROOT, "stdout": subprocess.PIPE, "stderr": subprocess.STDOUT, "text": True, **more})
+    print(ran.stdout, end="", flush=True)
     if ran.returncode:
         sys.exit(f"all.py: status {ran.returncode}: {' '.join(words)}")
+
+
+def side_by_side(jobs):
+    """What each answers, in their order: most of them wait most of their time."""
+    with concurrent.futures.ThreadPoolExecutor(AT_ONCE) as pool:
+        return list(pool.map(lambda job: job(), jobs))
 
 
 def is_there(library):
@@ -124,44 +135,41 @@ def compare_manual(program):
         sys.exit(f"all.py: fetch/bw-fetch.1 has the statuses {statuses}")
 
 
+def builds(has_clang, flags):
+    """What is to be built, by name."""
+    sources = sorted((ROOT / "fetch").glob("*.c"))
+    return {
+        "plain": ("cc", "plain", [], sources),
+        "mkbao": ("cc", "mkbao", [], [HERE / "mkbao.c"]),
+        "refuse": ("cc", "refuse", [WRAPPED], [*sources, HERE / "refuse.c"]),
+        **({"clang": ("clang", "clang", [], sources)} if has_clang else {}),
+        **({"asan": ("cc", "asan", [flags["asan"]], sources)} if "asan" in flags else {}),
+        **({"tsan": ("cc", "tsan", [flags["tsan"], DELAYED], [*sources, HERE / "delays.c"])} if "tsan" in flags else {}),
+    }
+
+
 def main(drawn="4000"):
     OUT.mkdir(parents=True, exist_ok=True)
-    sources, missing = sorted((ROOT / "fetch").glob("*.c")), []
-    plain = build("cc", "plain", [], sources)
-    mkbao = build("cc", "mkbao", [], [HERE / "mkbao.c"])
-    refuses = build("cc", "refuse", [WRAPPED], [*sources, HERE / "refuse.c"])
-    if shutil.which("clang"):
-        build("clang", "clang", [], sources)
-    else:
-        missing.append("clang")
-    compile_old()
-    build_without_server()
+    has_clang, flags = shutil.which("clang"), {name: flag for name, flag in SANITIZERS.items() if sanitizes(flag)}
+    missing = [*["clang"] * (not has_clang), *["libmicrohttpd"] * (not is_there("libmicrohttpd")), *(f"cc {flag}" for name, flag in SANITIZERS.items() if name not in flags)]
+    wanted = builds(has_clang, flags)
+    made = dict(zip(wanted, side_by_side([*(lambda row=row: build(*row) for row in wanted.values()), compile_old, build_without_server, build_example])))
     no_wall_clock()
-    build_example()
-    compare_manual(plain)
-    if not fuzz():
-        missing.append("clang -fsanitize=fuzzer")
-    run(sys.executable, HERE / "hostile.py", plain, mkbao)
-    run(sys.executable, HERE / "options.py", plain, mkbao)
-    if not is_there("libmicrohttpd"):
-        missing.append("libmicrohttpd")
-    run(sys.executable, HERE / "peers.py", plain, mkbao)
-    run(sys.executable, HERE / "drawn.py", plain, mkbao, drawn)
-    run(sys.executable, HERE / "drawn.py", "--refuse", refuses, mkbao)
-    for name, flag in SANITIZERS.items():
-        if not sanitizes(flag):
-            missing.append(f"cc {flag}")
-            continue
-        delayed = name == "tsan"
-        program = build("cc", name, [flag, *[DELAYED] * delayed], [*sources, *[HERE / "delays.c"] * delayed])
-        os.environ["BW_DELAYS"] = "1"                       # of drawn.py each draw has its own
-        run(sys.executable, HERE / "hostile.py", program, mkbao, *(f"-{it}" for it in (*LARGE, "near ranges")))
-        run(sys.executable, HERE / "options.py", program, mkbao)
-        run(sys.executable, HERE / "peers.py", program, mkbao, "-little memory")
-        run(sys.executable, HERE / "drawn.py", program, mkbao, int(drawn) // 10 + 1)
-    for name in missing:
+    compare_manual(made["plain"])
+    os.environ["BW_DELAYS"] = "1"                           # of tsan; of drawn.py each draw has its own
+    test = lambda script, *words: lambda: run(sys.executable, HERE / script, *words)
+    tested = {name: (made[name], made["mkbao"]) for name in ("tsan", "asan", "plain") if name in made}
+    fuzzed, *_ = side_by_side([
+        fuzz,
+        *(test("hostile.py", *them, *(f"-{it}" for it in (*LARGE, "near ranges") if name != "plain")) for name, them in tested.items()),
+        *(test("peers.py", *them) for them in tested.values()),
+        *(test("options.py", *them) for them in tested.values()),
+        test("drawn.py", "--refuse", made["refuse"], made["mkbao"]),
+        *(test("drawn.py", *them, int(drawn) if name == "plain" else int(drawn) // 10 + 1) for name, them in tested.items()),
+    ])
+    for name in [*missing, *["clang -fsanitize=fuzzer"] * (not fuzzed)]:
         print(f"not run, since it isn't here: {name}")
-    if missing and os.environ.get("BERYLWOOL_CI"):
+    if (missing or not fuzzed) and os.environ.get("BERYLWOOL_CI"):
         sys.exit("all.py: nothing may be missing here")
     print("bw-fetch passed")
 

@@ -43,7 +43,7 @@ def serving(place, *words, out=None, root=None, **more):
             if found:
                 break
         want(found, f"it doesn't serve: {line}")
-        said = []
+        said = ran.said = []
         reader = threading.Thread(target=lambda: said.extend(ran.stderr))
         reader.start()
         yield int(found[1]), ran
@@ -182,7 +182,7 @@ def words_of_serve(tools):
             want(subprocess.run([*place.fetch, *words], capture_output=True, timeout=LONGEST).returncode == 2, f"{words}")
         for number in (signal.SIGTERM, signal.SIGINT):
             with serving(place, "--serve-for", "forever") as (port, ran):
-                wait_for(port, place, lambda headers: True)
+                wait_for(port, place, lambda headers: any("ok " in it for it in ran.said))
                 ran.send_signal(number)
                 want(ran.wait(LONGEST) == 0, f"signal {number}: status {ran.returncode}")
         ran = subprocess.run([*place.fetch, "--serve", "0", "--serve-for", "0.1", place.root, place.out], capture_output=True, timeout=LONGEST)
