@@ -274,11 +274,11 @@ bool exchange_lags(const exchange *e, uint64_t now) {
     return is_late && is_asked && !e->fetch->set->set.limit_rate;
 }
 
-/* Of those that lag the one that began first, or NULL. */
+/* Of those that lag, or wait for a window to move, the one that began first; or NULL. */
 exchange *exchange_slowest(const fetch *f, uint64_t now) {
     exchange *found = NULL;
     for (exchange *e = f->exchanges; e; e = e->next)
-        if (exchange_lags(e, now)) found = e;
+        if (exchange_lags(e, now) || (e->waits == FOR_WINDOW && !e->is_over)) found = e;
     return found;
 }
 
