@@ -266,12 +266,13 @@ void exchange_leave(exchange *e) {
 }
 
 /* Whether it brings nothing for a while, or takes long as a whole, and that isn't due to a limit:
- * then others are asked in its place. */
+ * then others are asked in its place. Not while many names are looked up whose servers hang. */
 bool exchange_lags(const exchange *e, uint64_t now) {
     const uint64_t since = e->opener ? e->began : e->heard;
     const bool is_late = since + OVERTAKE_MS <= now || e->began + SLOW_MS <= now;
     const bool is_asked = e->leg.runs && !e->leg.is_local && !e->is_over && !e->is_busy;
-    return is_late && is_asked && !e->fetch->set->set.limit_rate;
+    const fetch *f = e->fetch;
+    return is_late && is_asked && !f->set->set.limit_rate && f->hub->ghosts < IN_MOST;
 }
 
 /* Of those that lag, or wait for a window to move, the one that began first; or NULL. */
