@@ -35,6 +35,8 @@ use Rattle.bao_tasks.specs.Listed.{lines_of_parts}
 use Rattle.bao_text.specs.declared.kinds.Encoding.{Encoding}
 use Rattle.bao_text.specs.declared.kinds.Part.{Part}
 use Rattle.bao_text.specs.declared.kinds.Part.TheVariants as part
+use Rattle.bao_decode.specs.Weaving.{cut_beside}
+use Rattle.bao_decode.proofs.BlobWeavings.{cut_own}
 use Rattle.bao_text.specs.Cut.{claimed, cut_text}
 use Rattle.bao_text.specs.Choice.{chunk_count, of_combined, of_slice}
 use Rattle.bao_text.specs.Texts.{combined_text, length_text, outboard_text, slice_text, subtree_text}
@@ -549,6 +551,74 @@ module _ {words : List Text} {at after : List ℕ → FileState} {old new : Opti
         (subst (λ (T : Type 0). T) (λ i. IsPartText plain (sym key_is i) (part.Slice (same.1 i) (same.2 i)) (cut i)) own.0) fault
     cut_refused (CutSlice given_root from count (Some beside) given to) same bad blob low is = let no : None ≡ Some beside.now = same.3 in cc
     cut_refused other same bad blob low is = absurd same
+
+    -- The same of a copy, beside an outboard encoding.
+    module _ (outboard : Bor (List ℕ)) where
+      abbrev IsCutOfBoth : List ℕ → Type 0
+      IsCutOfBoth slice = (outline : List ℕ) × (bytes : List ℕ) × (at outboard.now ≡ Stored outline) × (at file.now ≡ Stored bytes) × (slice ≡ cut_beside outline bytes start len)
+
+      pub beside_facts : (other : Task) → SameTask (CutSlice root start len (Some outboard) file out) other → (bytes : List ℕ) → IsRight at plain other bytes → Writes at after plain other None bytes
+          → (slice : List ℕ) × (HasRange key start len slice (range_of slice) × Puts at after out.now (Some slice) × IsCutOfBoth slice) × (line_of plain other bytes ≡ ok_line (length (range_of slice)))
+      beside_facts (CutSlice given_root from count (Some beside) given to) same bytes right writes =
+          let first = right.0.1.0 in
+          let key_is : right.0.0 ≡ key = (let digits = same.0 in cc) in
+          let named : outboard.now ≡ beside.now = (let is : Some outboard.now ≡ Some beside.now = same.3 in cc) in
+          let accepted : IsPartText plain key (part.Slice start len) bytes =
+          subst (λ (T : Type 0). T) (λ i. IsPartText plain (key_is i) (part.Slice (sym same.1 i) (sym same.2 i)) bytes) right.0.1.1.0 in (
+            bytes,
+            (
+              has_range bytes accepted right.0.1.1.1,
+              subst (λ (path : List ℕ). Puts at after path (Some bytes)) (sym same.5) writes,
+              (
+                right.1.0,
+                right.1.1,
+                stored_there (at outboard.now) right.1.0 (ran.known outboard.now) (subst (λ (path : List ℕ). AreOf (at path) right.1.0) (sym named) right.1.2),
+                stored_there (at file.now) right.1.1 (ran.known file.now) (subst (λ (path : List ℕ). AreOf (at path) right.1.1) (sym same.4) right.1.3),
+                right.1.4 (ran.known beside.now) (ran.known given.now) ∙ (λ i. cut_beside right.1.0 right.1.1 (sym same.1 i) (sym same.2 i)),
+              ),
+            ),
+            (λ i. ok_line (written_count (part.Slice (sym same.1 i) (sym same.2 i)) bytes)) ∙ ap ok_line (sym (range_count plain key bytes start len accepted)),
+          )
+      beside_facts (CutSlice given_root from count None given to) same bytes right writes = let bad : Some outboard.now ≡ None = same.3 in cc
+      beside_facts other same bytes right writes = absurd same
+
+      pub beside_same : (slice : List ℕ) → HasRange key start len slice (range_of slice) → IsCutOfBoth slice → (blob : List ℕ) → length (combined_text plain blob) < 2 ^ 63
+          → IsCopyOf at outboard.now file.now key blob → (slice ≡ slice_text plain blob start len) × (length (range_of slice) ≡ length (piece blob start len))
+      beside_same slice range cut blob low is =
+          let held = cut.2 in
+          let there = cut.3 in
+          let first = is.0 in
+          let second = is.1 in
+          let outline_is : cut.0 ≡ outboard_text plain blob = cc in
+          let copy_is : cut.1 ≡ blob = cc in
+          let same : slice ≡ slice_text plain blob start len = cut.4 ∙ (λ i. cut_beside (outline_is i) (copy_is i) start len) ∙ cut_own plain blob start len (below blob low) in
+          let claims : claimed slice ≡ length blob = ap claimed same ∙ claimed-chosen_text (of_slice (length blob) start len) plain blob (below blob low) in
+          (same, omega (arith, range_count plain key slice start len range.accepted, claims, length-take len (drop start blob), length-drop start blob))
+
+      pub beside_fine : IsDigits root.now → IsNoOutput out.now → out.now ≢ outboard.now → out.now ≢ file.now → (other : Task) → SameTask (CutSlice root start len (Some outboard) file out) other
+          → IsFine at other
+      beside_fine digits apart unread uncopied (CutSlice given_root from count (Some beside) given to) same =
+          let named : outboard.now ≡ beside.now = (let is : Some outboard.now ≡ Some beside.now = same.3 in cc) in
+          let one = out_fine out outboard beside to named same.5 apart unread in
+          let two = out_fine out file given to same.4 same.5 apart uncopied in
+          (subst IsDigits same.0 digits, two.0, λ reads. elim reads [ inl bad ↦ bad | inr (inl is) ↦ one.1 is | inr (inr is) ↦ two.1 is ], none, none, none, none, none, none, none)
+      beside_fine digits apart unread uncopied (CutSlice given_root from count None given to) same = let bad : Some outboard.now ≡ None = same.3 in cc
+      beside_fine digits apart unread uncopied other same = absurd same
+
+      pub beside_refused : (other : Task) → SameTask (CutSlice root start len (Some outboard) file out) other → IsRefused sure at plain other
+          → (blob : List ℕ) → length (combined_text plain blob) < 2 ^ 63 → ¬ IsCopyOf at outboard.now file.now key blob
+      beside_refused (CutSlice given_root from count (Some beside) given to) same bad blob low is =
+          let first = bad.1.0 in
+          let key_is : bad.0 ≡ key = (let digits = same.0 in cc) in
+          let named : outboard.now ≡ beside.now = (let both : Some outboard.now ≡ Some beside.now = same.3 in cc) in
+          let outline : List ℕ = outboard_text plain blob in
+          let fault = bad.1.1.1 (ran.known to.now) outline blob (subst (λ (path : List ℕ). at path ≡ Stored outline) named is.0) (subst (λ (path : List ℕ). at path ≡ Stored blob) same.4 is.1) in
+          let own = own_slice blob low is.2 in
+          let cut : slice_text plain blob start len ≡ cut_beside outline blob from count = sym (cut_own plain blob start len (below blob low)) ∙ (λ i. cut_beside outline blob (same.1 i) (same.2 i)) in
+          accepted_apart plain bad.0 (part.Slice from count) (cut_beside outline blob from count) (omega (arith, own.1, ap (λ (text : List ℕ). length text) cut))
+          (subst (λ (T : Type 0). T) (λ i. IsPartText plain (sym key_is i) (part.Slice (same.1 i) (same.2 i)) (cut i)) own.0) fault
+      beside_refused (CutSlice given_root from count None given to) same bad blob low is = let no : Some outboard.now ≡ None = same.3 in cc
+      beside_refused other same bad blob low is = absurd same
 
   -- gathering
   module _ (root out : Bor (List ℕ)) (files : Vec (Bor (List ℕ)) Global) where

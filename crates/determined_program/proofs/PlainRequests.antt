@@ -24,7 +24,7 @@ use Rattle.bao_request.specs.declared.tasks.SurveyTask.TheVariants.{Hashes, Chec
 use Rattle.bao_request.specs.declared.tasks.Task.{Task}
 use Rattle.bao_request.specs.declared.tasks.Task.TheVariants.{Hash, Encode, CutSlice, Decode, DecodeCopy, Gather}
 use Rattle.determined_program.specs.Manual.{ArePlain, IsCommand, check_words, words_for}
-use Rattle.determined_program.proofs.PlainWords.{Begins, IsMet, TakesFiles, beside_held, begins_bare, decimal_given, decimal_plain, decode_begins, files_leaf, files_rows, gather_leaf, gather_rows, gather_rows_are, gathering_held, leaf_fault, no_fault, placed_fault, range_faults, range_is_fine, rows_are, rows_for, shape_named}
+use Rattle.determined_program.proofs.PlainWords.{Begins, IsMet, TakesFiles, beside_held, begins_bare, cut_begins, decimal_given, decimal_plain, decode_begins, files_leaf, files_rows, gather_leaf, gather_rows, gather_rows_are, gathering_held, leaf_fault, no_fault, placed_fault, range_faults, range_is_fine, rows_are, rows_for, shape_named}
 
 -- the request for a task alone, without a key or a context
 abbrev pub bare_request : Task → Request
@@ -207,6 +207,26 @@ cut_slice_alone words root start len file out low short asks =
     (CutSlice root start len None file out) rows refl
     (refl, (decimal_given start low rows (codes "START") refl, decimal_given len short rows (codes "LEN") refl), refl, refl, refl, refl)
     (record { key = refl; key_file = refl; context = refl; verbose = refl }) (cut_leaf root.now (decimal start) (decimal len) file.now out.now ∙ range_is_fine start len low short)
+
+beside_leaf : (outboard root start len copy out : Text)
+    → leaf_fault (shape_named (codes "cut-slice")) (beside_held outboard) (root ∷ start ∷ len ∷ copy ∷ out ∷ []) ≡ range_faults start len
+unfolding placed_fault defaults_fault
+beside_leaf outboard root start len copy out = refl
+
+pub cut_beside_alone : (words : List Text) (outboard root : Bor Text) (start len : ℕ) (copy out : Bor Text) → start < 2 ^ 64 → len < 2 ^ 64
+    → IsCommand words (codes "cut-slice" ∷ codes "--outboard" ∷ []) (outboard.now ∷ root.now ∷ decimal start ∷ decimal len ∷ copy.now ∷ out.now ∷ [])
+    → AsksAlone words (CutSlice root start len (Some outboard) copy out)
+unfolding walked rows_for placed_fault defaults_fault
+cut_beside_alone words outboard root start len copy out low short asks =
+    let s : Shape = shape_named (codes "cut-slice") in
+    let arguments : List Text = root.now ∷ decimal start ∷ decimal len ∷ copy.now ∷ out.now ∷ [] in
+    let held : Held = beside_held outboard.now in
+    let rows : List Row = rows_for s held arguments in
+    alone_by words asks.0 (codes "cut-slice") s (codes "--outboard" ∷ outboard.now ∷ []) held arguments asks.1 (record { met = refl; there = refl; named = refl; fine = refl })
+    (cut_begins outboard.now asks.2.0) asks.2.1 (CutSlice root start len (Some outboard) copy out) rows refl
+    (refl, (decimal_given start low rows (codes "START") refl, decimal_given len short rows (codes "LEN") refl), refl, refl, refl, refl)
+    (record { key = refl; key_file = refl; context = refl; verbose = refl })
+    (beside_leaf outboard.now root.now (decimal start) (decimal len) copy.now out.now ∙ range_is_fine start len low short)
 
 -- the rows of files, where nothing else is given
 unfoldable files_given : Shape → List Text → List Row

@@ -246,6 +246,16 @@ decode_begins file plain = record {
   fine = λ words i. or_else (value_turn decode_shape option_held (codes "outboard") file plain i) (walk_fault decode_shape [] (value_step decode_shape.rules option_held (codes "outboard") file plain i) words);
 }
 
+abbrev cut_shape : Shape
+cut_shape = shape_named (codes "cut-slice")
+
+pub cut_begins : (file : Text) → IsPlain file → Begins (shape_named (codes "cut-slice")) (codes "--outboard" ∷ file ∷ []) (beside_held file)
+unfolding walked walk_fault
+cut_begins file plain = record {
+  goes = λ words. ap (λ w. fold (walked cut_shape.rules []) w words) (value_step cut_shape.rules option_held (codes "outboard") file plain);
+  fine = λ words i. or_else (value_turn cut_shape option_held (codes "outboard") file plain i) (walk_fault cut_shape [] (value_step cut_shape.rules option_held (codes "outboard") file plain i) words);
+}
+
 -- the words of the last argument, which takes several, are gathered
 abbrev pub gathering_held : List Row → List Text → Held
 gathering_held rows values = record { rows = rows; pending = Some (codes "FILE", values); skip = 0 }

@@ -228,6 +228,42 @@ pub fn cut_slice_is<R: AllocGlobal + Threads + Sync, O: Write, E: Write, P: Prog
     command(rt, disk, words, out, err, progress)
 }
 
+// `cut-slice --outboard FILE ROOT START LEN COPY OUT` does that for the blob whose bytes are in COPY, whose outboard encoding is FILE, and whose hash is ROOT.
+pub fn cut_slice_beside_is<R: AllocGlobal + Threads + Sync, O: Write, E: Write, P: Progress + Sync>(
+    rt: &R,
+    disk: &mut MemoryFiles,
+    words: &[String],
+    outboard: &str,
+    digits: &str,
+    root: &Hash,
+    start: u64,
+    len: u64,
+    copy: &str,
+    path: &str,
+    out: &mut O,
+    err: &mut E,
+    progress: &P,
+) -> u8
+    requires asked { IsCommand (map string_bytes words.now) (codes "cut-slice" ∷ codes "--outboard" ∷ []) (outboard.now ∷ digits.now ∷ decimal start ∷ decimal len ∷ copy.now ∷ path.now ∷ []) }
+    requires root { decode_of digits.now ≡ Ok root.now.0 }
+    requires apart { IsNoOutput path.now × (path.now ≢ outboard.now) × (path.now ≢ copy.now) }
+    ensures done { result ≡ 0 → (slice : List ℕ) × (bytes : List ℕ) × HasRange root.now.0 start len slice bytes
+        × Puts (held_at disk.old.files) (held_at disk.new.files) path.now (Some slice) × Appends (O.contents out.old) (O.contents out.new) (ok_line (length bytes)) }
+    ensures same { result ≡ 0 → (blob : List ℕ) → length (combined_text plain blob) < 2 ^ 63 → IsCopyOf (held_at disk.old.files) outboard.now copy.now root.now.0 blob
+        → Puts (held_at disk.old.files) (held_at disk.new.files) path.now (Some (slice_text plain blob start len))
+        × Appends (O.contents out.old) (O.contents out.new) (ok_line (length (piece blob start len))) }
+    ensures refused { result ≡ 1 → (blob : List ℕ) → length (combined_text plain blob) < 2 ^ 63 → ¬ IsCopyOf (held_at disk.old.files) outboard.now copy.now root.now.0 blob }
+    ensures kept { result ≡ 1 → KeepsFiles (held_at disk.old.files) (held_at disk.new.files) × Keeps (O.contents out.old) (O.contents out.new) }
+    ensures files { KeepsFiles (held_at disk.old.files) (held_at disk.new.files) ⊎ ((slice : List ℕ) × (bytes : List ℕ) × HasRange root.now.0 start len slice bytes
+        × Puts (held_at disk.old.files) (held_at disk.new.files) path.now (Some slice)) }
+    ensures status { IsDoneOrFailed result ⊎ (result ≡ 1) }
+{
+    // Laws, so that the proof has what they say: nothing runs.
+    Mode::hash().is_keyed();
+    bytes_are(&root.0);
+    command(rt, disk, words, out, err, progress)
+}
+
 // `gather ROOT OUT FILE..` puts at OUT a blob with the hash ROOT, whatever the FILEs are, and prints how many bytes it has. If it is refused, nothing
 // changes. If it isn't done, OUT is as it was, or has such a blob. It isn't refused where one FILE is the combined encoding of such a blob of at most 64 MiB,
 // whatever the others are; or else two different inputs with one chaining value are exhibited, one of the blob and one of a slice that is cut out of a FILE
